@@ -1,0 +1,54 @@
+-- Which kinds have fewer values, by recursion over the second.
+use Rattle.std.specs.Prelude.{ℕ, List, [], ◌∷◌, Bool, true, false, not, ◌&&◌, ◌||◌, nat_le}
+use Rattle.std.specs.Str.{bytes_eq}
+use Rattle.pb_semantics.specs.Data.{bool_eq}
+use Rattle.pb_semantics.specs.Kind.{KindData, Slots, Cases, Spot, Shape, never, nulls, booleans, ints, texts, hosts, lists, recs, results, anything, no_slots, slot, no_cases, one, nowhere, spot, slot_at, is_listed, shape_eq}
+use Rattle.pb_semantics.specs.Keeps.{is_among}
+
+-- each name of the first is one of the second
+abbrev pub are_among : List (List ℕ) → List (List ℕ) → Bool
+are_among [] ms = true
+are_among (n ∷ ns) ms = is_among n ms && are_among ns ms
+
+-- each field of the first is a field of the second
+abbrev pub names_among : Slots → Slots → Bool
+names_among no_slots ts = true
+names_among (slot n a k ss) ts = is_listed n ts && names_among ss ts
+
+-- a field that is certain in the second is certain in the first, and its kind is below
+abbrev pub spot_below : (KindData → Bool) → Bool → Spot → Bool
+spot_below f b nowhere = not b
+spot_below f b (spot a k) = (a || not b) && f k
+
+abbrev pub all_cases : (List ℕ → Shape → Bool → Slots → Bool) → Cases → Bool
+all_cases f no_cases = true
+all_cases f (one m sh fl ss cs) = f m sh fl ss && all_cases f cs
+
+-- the same module, shape and failed status
+abbrev pub same_case : List ℕ → Shape → Bool → List ℕ → Shape → Bool → Bool
+same_case m sh fl n sj fm = bytes_eq m n && (shape_eq sh sj && bool_eq fl fm)
+
+abbrev mutual
+  pub below : KindData → KindData → Bool
+  below k anything = true
+  below never m = true
+  below nulls nulls = true
+  below booleans booleans = true
+  below ints ints = true
+  below texts texts = true
+  below (hosts ns) texts = true
+  below (hosts ns) (hosts ms) = are_among ns ms
+  below (lists k n) (lists m o) = nat_le n o && below k m
+  below (recs ss) (recs ts) = names_among ss ts && slots_below ss ts
+  below (results cs r) (recs ts) = all_cases (λ m sh fl ss. names_among ss ts && slots_below ss ts) cs
+  below (results cs r) (results ds q) = all_cases (λ m sh fl ss. is_covered m sh fl ss ds) cs
+  below k m = false
+
+  pub slots_below : Slots → Slots → Bool
+  slots_below ss no_slots = true
+  slots_below ss (slot n b m ts) = spot_below (λ k. below k m) b (slot_at n ss) && slots_below ss ts
+
+  -- a case is one of the others
+  pub is_covered : List ℕ → Shape → Bool → Slots → Cases → Bool
+  is_covered m sh fl ss no_cases = false
+  is_covered m sh fl ss (one n sj fm ts ds) = (same_case m sh fl n sj fm && (names_among ss ts && slots_below ss ts)) || is_covered m sh fl ss ds

@@ -1,0 +1,2 @@
+// The definitions that the contracts cite, and the laws that hold of them.
+#![tactic(auto)]

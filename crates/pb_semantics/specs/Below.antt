@@ -20,9 +20,15 @@ abbrev pub spot_below : (KindData → Bool) → Bool → Spot → Bool
 spot_below f b nowhere = not b
 spot_below f b (spot a k) = (a || not b) && f k
 
-abbrev pub all_cases : (List ℕ → Shape → Bool → Slots → Bool) → Cases → Bool
+abbrev pub all_cases : (List ℕ → Shape → Bool → KindData → Bool) → Cases → Bool
 all_cases f no_cases = true
-all_cases f (one m sh fl ss cs) = f m sh fl ss && all_cases f cs
+all_cases f (one m sh fl k cs) = f m sh fl k && all_cases f cs
+
+-- the test of the slots of a case's record
+abbrev pub record_below : (Slots → Bool) → KindData → Bool
+record_below f never = true
+record_below f (recs ss) = f ss
+record_below f k = false
 
 -- the same module, shape and failed status
 abbrev pub same_case : List ℕ → Shape → Bool → List ℕ → Shape → Bool → Bool
@@ -40,8 +46,8 @@ abbrev mutual
   below (hosts ns) (hosts ms) = are_among ns ms
   below (lists k n) (lists m o) = nat_le n o && below k m
   below (recs ss) (recs ts) = names_among ss ts && slots_below ss ts
-  below (results cs r) (recs ts) = all_cases (λ m sh fl ss. names_among ss ts && slots_below ss ts) cs
-  below (results cs r) (results ds q) = all_cases (λ m sh fl ss. is_covered m sh fl ss ds) cs
+  below (results cs r) (recs ts) = all_cases (λ m sh fl k. record_below (λ ss. names_among ss ts && slots_below ss ts) k) cs
+  below (results cs r) (results ds q) = all_cases (λ m sh fl k. is_covered m sh fl k ds) cs
   below k m = false
 
   pub slots_below : Slots → Slots → Bool
@@ -49,6 +55,6 @@ abbrev mutual
   slots_below ss (slot n b m ts) = spot_below (λ k. below k m) b (slot_at n ss) && slots_below ss ts
 
   -- a case is one of the others
-  pub is_covered : List ℕ → Shape → Bool → Slots → Cases → Bool
-  is_covered m sh fl ss no_cases = false
-  is_covered m sh fl ss (one n sj fm ts ds) = (same_case m sh fl n sj fm && (names_among ss ts && slots_below ss ts)) || is_covered m sh fl ss ds
+  pub is_covered : List ℕ → Shape → Bool → KindData → Cases → Bool
+  is_covered m sh fl k no_cases = false
+  is_covered m sh fl k (one n sj fm j ds) = (same_case m sh fl n sj fm && below k j) || is_covered m sh fl k ds

@@ -17,12 +17,12 @@ add_names (n ∷ ns) ms = add_names ns (put_name n ms)
 
 abbrev pub append_cases : Cases → Cases → Cases
 append_cases no_cases ds = ds
-append_cases (one m sh fl ss cs) ds = one m sh fl ss (append_cases cs ds)
+append_cases (one m sh fl k cs) ds = one m sh fl k (append_cases cs ds)
 
 -- the cases that aren't among the others
 abbrev pub new_cases : Cases → Cases → Cases
 new_cases no_cases cs = no_cases
-new_cases (one m sh fl ss ds) cs = cond (is_covered m sh fl ss cs) (new_cases ds cs) (one m sh fl ss (new_cases ds cs))
+new_cases (one m sh fl k ds) cs = cond (is_covered m sh fl k cs) (new_cases ds cs) (one m sh fl k (new_cases ds cs))
 
 -- the first's cases, then those of the second that are new
 abbrev pub add_cases : Cases → Cases → Cases

@@ -53,7 +53,7 @@ abbrev mutual
 
   pub cases_kept : Fields → Cases → Bool
   cases_kept fs no_cases = false
-  cases_kept fs (one m sh fl ss cs) = (has_status sh fl fs && (slots_kept fs ss && all_listed fs ss)) || cases_kept fs cs
+  cases_kept fs (one m sh fl k cs) = (has_status sh fl fs && keeps (rec fs) k) || cases_kept fs cs
 
 -- what a variable holds, beside what is known of it
 abbrev pub spot_ok : Option Data → Spot → Bool

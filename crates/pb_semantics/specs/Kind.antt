@@ -34,7 +34,7 @@ mutual
   -- the cases of a result: the module, the shape, the final failed status and the record
   pub data Cases : Type 0 where
     no_cases : Cases
-    one : List ℕ → Shape → Bool → Slots → Cases → Cases
+    one : List ℕ → Shape → Bool → KindData → Cases → Cases
 
 -- what is known of a name
 pub data Spot : Type 0 where

@@ -1,0 +1,31 @@
+-- What the layers of a value and of a kind mean.
+use Rattle.std.proofs.Common.{◌≡◌, ℕ, List, Vec, BTreeMap, String, Global}
+use Rattle.std.specs.declared.sync.Arc.{Arc}
+use Rattle.pb_semantics.specs.Data.{list, rec}
+use Rattle.pb_semantics.specs.Kind.{recs, lists, results}
+use Rattle.pb_value.specs.View.{view, fields_view, items_view}
+use Rattle.pb_value.specs.KindView.{kind_view, slots_view, cases_view}
+use Rattle.pb_value.specs.declared.kind.Case.{Case}
+use Rattle.pb_value.specs.declared.kind.Slot.{Slot}
+use Rattle.pb_value.specs.declared.kind.Kind.{Kind}
+use Rattle.pb_value.specs.declared.value.Value.{Value}
+use Rattle.pb_value.specs.declared.value.Value as Value-of
+use Rattle.pb_value.specs.declared.kind.Kind as Kind-of
+use Rattle.pb_value.specs.declared.value.Value.{the_lemmas as value_lemmas}
+use Rattle.pb_value.specs.declared.kind.Kind.{the_lemmas as kind_lemmas}
+use Rattle.std.proofs.Common.{rules}
+
+pub view-List : (v : Arc (Vec Value Global) Global) → view (Value-of.List v) ≡ list (items_view v.value.items)
+view-List v = search (rules, value_lemmas)
+
+pub view-Rec : (m : Arc (BTreeMap (String Global) Value) Global) → view (Value-of.Rec m) ≡ rec (fields_view m.value.entries)
+view-Rec m = search (rules, value_lemmas)
+
+pub kind_view-List : (k : Arc Kind Global) (n : ℕ) → kind_view (Kind-of.List k n) ≡ lists (kind_view k.value) n
+kind_view-List k n = search (rules, kind_lemmas)
+
+pub kind_view-Rec : (m : Arc (BTreeMap (String Global) (Slot Kind)) Global) → kind_view (Kind-of.Rec m) ≡ recs (slots_view m.value.entries)
+kind_view-Rec m = search (rules, kind_lemmas)
+
+pub kind_view-Result : (cs : Arc (Vec (Case Kind) Global) Global) (r : Arc Kind Global) → kind_view (Kind-of.Result cs r) ≡ results (cases_view cs.value.items) (kind_view r.value)
+kind_view-Result cs r = search (rules, kind_lemmas)

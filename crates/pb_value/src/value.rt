@@ -1,0 +1,63 @@
+// A value of a variable, its inner parts shared.
+ghost use Rattle.std.specs.Prelude.{◌≡◌, IfOk, string_bytes};
+ghost use Rattle.pb_semantics.specs.Data.{list, rec, text};
+ghost use Rattle.pb_value.specs.View.{view, items_view, fields_view};
+
+use std::alloc::{AllocError, Global};
+use std::collections::BTreeMap;
+use std::sync::Arc;
+
+/// The fields of a record, in the order of their names' bytes.
+pub type Fields = BTreeMap<String, Value>;
+
+/// Any value that a variable can hold. A copy shares what lies inside.
+#[derive(Drop)]
+pub enum Value {
+    Null,
+    Bool(bool),
+    Int(i64),
+    Text(Arc<String>),
+    List(Arc<Vec<Value>>),
+    Rec(Arc<Fields>),
+    /// What may stand and may not be read, as a number that is no `i64`.
+    Opaque,
+}
+
+impl Clone for Value {
+    ghost is_clone = { λ v w. view w ≡ view v };
+
+    fn clone(&self) -> Result<Value, AllocError> {
+        match self {
+            Value::Null => Ok(Value::Null),
+            Value::Bool(b) => Ok(Value::Bool(*b)),
+            Value::Int(n) => Ok(Value::Int(*n)),
+            Value::Text(text) => Ok(Value::Text(text.clone()?)),
+            Value::List(items) => Ok(Value::List(items.clone()?)),
+            Value::Rec(fields) => Ok(Value::Rec(fields.clone()?)),
+            Value::Opaque => Ok(Value::Opaque),
+        }
+    }
+}
+
+impl Value {
+    /// A text, in a block that its copies share.
+    pub fn of_text(alloc: Global, letters: String) -> Result<Value, AllocError>
+        ensures { IfOk result (λ v. view v ≡ text (string_bytes letters)) }
+    {
+        Ok(Value::Text(Arc::new(alloc, letters)?))
+    }
+
+    /// A list, in a block that its copies share.
+    pub fn of_items(alloc: Global, items: Vec<Value>) -> Result<Value, AllocError>
+        ensures { IfOk result (λ v. view v ≡ list (items_view items.items)) }
+    {
+        Ok(Value::List(Arc::new(alloc, items)?))
+    }
+
+    /// A record, in a block that its copies share.
+    pub fn of_fields(alloc: Global, fields: Fields) -> Result<Value, AllocError>
+        ensures { IfOk result (λ v. view v ≡ rec (fields_view fields.entries)) }
+    {
+        Ok(Value::Rec(Arc::new(alloc, fields)?))
+    }
+}

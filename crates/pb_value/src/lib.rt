@@ -1,5 +1,8 @@
 // Values and kinds of variables, and JSON read into them.
 #![tactic(auto)]
 
+pub mod keeps;
 pub mod kind;
+pub mod read;
+pub mod render;
 pub mod value;

@@ -1,7 +1,11 @@
 pub mod Data
+pub mod Equal
 pub mod Kind
 pub mod Keeps
 pub mod Below
 pub mod Join
 pub mod Project
 pub mod Render
+pub mod Expr
+pub mod Eval
+pub mod Fit

@@ -1,5 +1,5 @@
 -- A record that is projected field by field.
-use Rattle.std.proofs.Common.{◌≡◌, ℕ, List, [], ◌∷◌, ◌++◌, Bool, true, false, Option, Some, None, option_map, String, Global, Ordering, Less, Equal, Greater, string_bytes, string_cmp, nat_cmp, refl, sym, ap, ◌∙◌}
+use Rattle.std.proofs.Common.{◌≡◌, ℕ, suc, ◌+◌, ◌<◌, length, drop, get_or, add-one, drop-cons, List, [], ◌∷◌, ◌++◌, Bool, true, false, Option, Some, None, option_map, String, Global, Ordering, Less, Equal, Greater, string_bytes, string_cmp, nat_cmp, refl, sym, ap, ◌∙◌}
 use Rattle.std.proofs.lemmas.Cmp.{nat_list_cmp_total}
 use Rattle.std.specs.Cmp.Lexicographic.{slice_cmp}
 use Rattle.std.specs.List.{AllByRecursion}
@@ -9,6 +9,8 @@ use Rattle.std.specs.Ordering.{match_ordering, ordering_reverse}
 use Rattle.pb_semantics.specs.Data.{Data, Items, Fields, no_items, item, no_fields, field, put_field, field_value}
 use Rattle.pb_semantics.specs.Project.{projected, projected_items, projected_fields, with_item, with_field, with_first}
 use Rattle.pb_value.specs.KindView.{kind_view, slots_view, is_always}
+use Rattle.pb_value.specs.View.{view, items_view}
+use Rattle.pb_value.specs.declared.value.Value.{Value}
 use Rattle.pb_value.proofs.Slots.{SlotEntry}
 
 abbrev pub append_items : Items → Items → Items
@@ -44,6 +46,14 @@ and_fields-step fs n a e (Some gs) = ap Some (sym (append_fields-assoc fs (field
 
 pub with_field-spoilt : (n : List ℕ) (a : Bool) (o : Option Fields) → with_field n a (Some None) o ≡ None
 with_field-spoilt n a o = refl
+
+pub and_fields-nothing : (o : Option Fields) → and_fields no_fields o ≡ o
+and_fields-nothing None = refl
+and_fields-nothing (Some gs) = refl
+
+pub and_items-nothing : (o : Option Items) → and_items no_items o ≡ o
+and_items-nothing None = refl
+and_items-nothing (Some gs) = refl
 
 pub append_fields-none : (fs : Fields) → append_fields fs no_fields ≡ fs
 append_fields-none no_fields = refl
@@ -92,3 +102,17 @@ projected_fields-there fs e left d found = rw found refl
 pub projected_fields-missing : (fs : Fields) (e : SlotEntry) (left : List SlotEntry) → field_value (string_bytes e.0) fs ≡ None
     → projected_fields fs (slots_view (e ∷ left)) ≡ with_field (string_bytes e.0) (is_always e.1.presence) None (projected_fields fs (slots_view left))
 projected_fields-missing fs e left lacks = rw lacks refl
+
+pub items_view-push : (vs : List Value) (v : Value) → items_view (vs ++ v ∷ []) ≡ append_items (items_view vs) (item (view v) no_items)
+items_view-push [] v = refl
+items_view-push (w ∷ vs) v = ap (item (view w)) (items_view-push vs v)
+
+-- one turn of the loop over a list's items
+pub each_step : (f : Data → Option Data) (vs : List Value) (i : ℕ) (v : Value) (so_far : Items) (d : Data) → i < length vs → v ≡ get_or vs i v → f (view v) ≡ Some d
+    → and_items so_far (projected_items f (items_view (drop i vs))) ≡ and_items (append_items so_far (item d no_items)) (projected_items f (items_view (drop (i + 1) vs)))
+each_step f vs i v so_far d within is fit =
+    rw (add-one, drop-cons vs i v, ← is, fit) (and_items-step so_far d (projected_items f (items_view (drop (suc i) vs))))
+
+pub each_fails : (f : Data → Option Data) (vs : List Value) (i : ℕ) (v : Value) (so_far : Items) → i < length vs → v ≡ get_or vs i v → f (view v) ≡ None
+    → and_items so_far (projected_items f (items_view (drop i vs))) ≡ None
+each_fails f vs i v so_far within is fit = rw (drop-cons vs i v, ← is, fit) refl

@@ -3,6 +3,7 @@
 
 pub mod keeps;
 pub mod kind;
+pub mod project;
 pub mod read;
 pub mod render;
 pub mod value;

@@ -1,0 +1,141 @@
+use Rattle.std.proofs.Common.{◌≡◌, ◌≤◌, ◌<◌, List, [], ◌∷◌, ◌++◌, ◌+◌, length, drop, map, nat_le, true, false, Some, None, option_map, string_bytes, refl, sym, ap, ◌∙◌, subst, append_assoc, arith}
+use Rattle.std.proofs.lemmas.List.{append-nil}
+use Rattle.std.proofs.lemmas.Grind.{common_steps}
+use Rattle.std.specs.List.Sorted.{IsStrictlySortedBy}
+use Rattle.std.specs.Map.{keys_of}
+use Rattle.std.specs.String.{string_cmp}
+use Rattle.pb_semantics.specs.Data.{list, rec, item, no_items, field, no_fields}
+use Rattle.pb_semantics.specs.Keeps.{is_among}
+use Rattle.pb_semantics.specs.Project.{projected, projected_items, projected_fields, with_field}
+use Rattle.pb_value.specs.KindView.{kind_view, slots_view, is_always}
+use Rattle.pb_value.specs.View.{view, items_view, fields_view}
+use Rattle.pb_value.proofs.Fields.{fields_view-insert_entry}
+use Rattle.pb_value.proofs.Slots.{SlotEntry}
+use Rattle.pb_value.proofs.Views.{view-List, view-Rec, view-Text, kind_view-List, kind_view-Rec, kind_view-Host}
+use Rattle.pb_value.proofs.KeptLists.{projected-short, projected-long}
+use Rattle.pb_value.proofs.Projections.{each_step, items_view-push, and_items, and_fields, append_fields, append_items, append_items-none, and_items-step, and_fields-nothing, and_items-nothing, and_fields-step, append_fields-none, put_field-above, IsAbove, IsAbove-further, IsAbove-append, neighbours, projected_fields-there, projected_fields-missing}
+use Rattle.pb_value.proofs.project.+project.Goals as goal
+
+pub project_fields-loop-name-init : goal.project_fields-loop-name-init
+project_fields-loop-name-init t c =
+    let same : c.into_iter-name-iterator.result ≡ c.args.slots.now.entries = c.into_iter-name-iterator.ensures.into_iter_gives ∙ c.iter-name-items.ensures.rest in
+    ([], sym same, (λ e more h. rw c.new-found.ensures.empty tt), rw (c.new-found.ensures.empty, same) (sym (and_fields-nothing _)))
+
+pub project_fields-loop-name-preserved-in-Some-2 : goal.project_fields-loop-name-preserved-in-Some-2
+project_fields-loop-name-preserved-in-Some-2 t c =
+    let l = c.loop-name.invariant in
+    let done = l.0 in
+    let fs = fields_view c.args.fields.now.entries in
+    let so_far = fields_view c.loop-name.found.entries in
+    let e : SlotEntry = (c.in-Some.name.now, c.in-Some.slot.now) in
+    let n = string_bytes e.0 in
+    let left = c.next.new.self in
+    let v = view c.in-Some-2.value in
+    let step : c.loop-name.name-iterator ≡ e ∷ left = c.in-Some.ensures.steps in
+    let all : c.args.slots.now.entries ≡ done ++ e ∷ left = l.1 ∙ ap (λ es. done ++ es) step in
+    let above : IsAbove n so_far = l.2 e left step in
+    let there = rw c.as_str.ensures.value at c.in-Some-field_at.ensures in
+    let fit = rw c.in-Some-2.is at c.in_ok-value-in-Some-field_at.ensures in
+    let named : string_bytes c.in_ok-clone-in-Some-2.field-0 ≡ n = c.in_ok-clone-in-Some-2.ensures.cases in
+    let put : fields_view c.insert.new.self.entries ≡ append_fields so_far (field n v no_fields) =
+    ap fields_view c.in_ok-insert-in-Some-2.ensures.entries ∙ fields_view-insert_entry c.loop-name.found.entries c.in_ok-clone-in-Some-2.field-0 c.in-Some-2.value ∙ rw named (put_field-above n v so_far above) in
+    let rest = projected_fields fs (slots_view left) in (
+      done ++ e ∷ [],
+      all ∙ sym (append_assoc done (e ∷ []) left),
+      (λ f more h. rw put (IsAbove-append (string_bytes f.0) n v so_far (neighbours done e f more
+          (subst (λ es. IsStrictlySortedBy string_cmp (keys_of es)) (all ∙ ap (λ es. done ++ e ∷ es) h) c.iter-name-items.ensures.ordered)) above)),
+      l.3 ∙ ap (λ es. and_fields so_far (projected_fields fs (slots_view es))) step ∙ ap (and_fields so_far) (projected_fields-there fs e left _ (sym there))
+          ∙ ap (λ p. and_fields so_far (with_field n (is_always e.1.presence) (Some p) rest)) (sym fit) ∙ and_fields-step so_far n (is_always e.1.presence) v rest
+          ∙ ap (λ gs. and_fields gs rest) (sym put),
+    )
+
+pub project_fields-loop-name-preserved : goal.project_fields-loop-name-preserved
+project_fields-loop-name-preserved t c =
+    let l = c.loop-name.invariant in
+    let done = l.0 in
+    let fs = fields_view c.args.fields.now.entries in
+    let so_far = fields_view c.loop-name.found.entries in
+    let e : SlotEntry = (c.in-Some.name.now, c.in-Some.slot.now) in
+    let n = string_bytes e.0 in
+    let left = c.next.new.self in
+    let step : c.loop-name.name-iterator ≡ e ∷ left = c.in-Some.ensures.steps in
+    let all : c.args.slots.now.entries ≡ done ++ e ∷ left = l.1 ∙ ap (λ es. done ++ es) step in
+    let above : IsAbove n so_far = l.2 e left step in
+    let lacks = rw c.as_str.ensures.value at c.in-None-field_at.ensures in
+    let rest = projected_fields fs (slots_view left) in (
+      done ++ e ∷ [],
+      all ∙ sym (append_assoc done (e ∷ []) left),
+      (λ f more h. IsAbove-further (string_bytes f.0) n so_far (neighbours done e f more
+          (subst (λ es. IsStrictlySortedBy string_cmp (keys_of es)) (all ∙ ap (λ es. done ++ e ∷ es) h) c.iter-name-items.ensures.ordered)) above),
+      l.3 ∙ ap (λ es. and_fields so_far (projected_fields fs (slots_view es))) step ∙ ap (and_fields so_far) (projected_fields-missing fs e left (sym lacks))
+          ∙ ap (λ p. and_fields so_far (with_field n (is_always p) None rest)) c.in-Maybe.is,
+    )
+
+pub project_fields-returns : goal.project_fields-returns
+project_fields-returns t c =
+    let l = c.loop-name.invariant in
+    let fs = fields_view c.args.fields.now.entries in
+    let so_far = fields_view c.loop-name.found.entries in
+    let nil : c.loop-name.name-iterator ≡ [] = (c.in-None.ensures).steps.0 in
+    sym (l.3 ∙ ap (λ es. and_fields so_far (projected_fields fs (slots_view es))) nil ∙ ap Some (append_fields-none so_far))
+
+pub project_each-loop-item-preserved : goal.project_each-loop-item-preserved
+project_each-loop-item-preserved t c =
+    let vs = c.deref-item-items.result.now in
+    let so_far = items_view c.loop-item.found.items in
+    let fit = rw c.in-Some.is at c.in_ok-item.ensures in
+    let within : c.loop-item.item-index < length vs = omega arith in
+    let pushed : items_view c.push.new.self.items ≡ append_items so_far (item (view c.in-Some.item) no_items) =
+    ap items_view c.in_ok-push-in-Some.ensures.items ∙ items_view-push c.loop-item.found.items c.in-Some.item in
+    c.loop-item.invariant ∙ each_step (λ d. projected d (kind_view c.args.kind.now)) vs c.loop-item.item-index c.item-item.result so_far (view c.in-Some.item) within c.item-item.is (sym fit)
+    ∙ ap (λ ds. and_items ds (projected_items (λ d. projected d (kind_view c.args.kind.now)) (items_view (drop (c.loop-item.item-index + 1) vs)))) (sym pushed)
+
+pub project_each-returns : goal.project_each-returns
+project_each-returns t c =
+    let vs = c.deref-item-items.result.now in
+    let so_far = items_view c.loop-item.found.items in
+    let none : drop c.loop-item.item-index vs ≡ [] = grind (arith, common_steps) in
+    let whole : projected_items (λ d. projected d (kind_view c.args.kind.now)) (items_view vs) ≡ Some so_far =
+    c.loop-item.invariant ∙ ap (λ es. and_items so_far (projected_items (λ d. projected d (kind_view c.args.kind.now)) (items_view es))) none ∙ ap Some (append_items-none so_far) in
+    sym (rw c.deref-item-items.ensures.value at whole)
+
+pub project_onto-returns-then-len-most : goal.project_onto-returns-then-len-most
+project_onto-returns-then-len-most t c =
+    let p = c.in-List-List in
+    let size : c.len.result ≡ length p.items.value.items = omega (arith, ap length (ap (λ v. v.items) c.deref-in-List-List.ensures), c.len.ensures) in
+    let above : p.most < length p.items.value.items = omega (arith, size, c.if-len-most.true) in
+    sym (rw (p.is-0, p.is-1, view-List, kind_view-List, projected-long p.items.value.items (kind_view p.item.value) p.most above) refl)
+
+pub project_onto-returns-in_ok-of_items-in-Some : goal.project_onto-returns-in_ok-of_items-in-Some
+project_onto-returns-in_ok-of_items-in-Some t c =
+    let p = c.in-List-List in
+    let size : c.len.result ≡ length p.items.value.items = omega (arith, ap length (ap (λ v. v.items) c.deref-in-List-List.ensures), c.len.ensures) in
+    let at_most : length p.items.value.items ≤ p.most = omega (arith, size, c.if-len-most.false) in
+    let each = rw (c.in-Some.is, c.deref-in-List-List-2.ensures, c.deref-in-List-List-3.ensures) at c.in_ok-items-in-List-List.ensures in
+    sym (rw (p.is-0, p.is-1, view-List, kind_view-List, projected-short p.items.value.items (kind_view p.item.value) p.most at_most, ← each, c.in_ok-of_items-in-Some.ensures) refl)
+
+pub project_onto-returns-in_ok-of_fields-in-Some-2 : goal.project_onto-returns-in_ok-of_fields-in-Some-2
+project_onto-returns-in_ok-of_fields-in-Some-2 t c =
+    let p = c.in-Rec-Rec in
+    let all = rw (c.in-Some-2.is, c.deref-in-Rec-Rec.ensures, c.deref-in-Rec-Rec-2.ensures) at c.in_ok-fields-in-Rec-Rec.ensures in
+    sym (rw (p.is-0, p.is-1, view-Rec, kind_view-Rec, ← all, c.in_ok-of_fields-in-Some-2.ensures) refl)
+
+pub project_onto-returns-in-None-2 : goal.project_onto-returns-in-None-2
+project_onto-returns-in-None-2 t c =
+    let p = c.in-Rec-Rec in
+    let all = rw (c.in-None-2.is, c.deref-in-Rec-Rec.ensures, c.deref-in-Rec-Rec-2.ensures) at c.in_ok-fields-in-Rec-Rec.ensures in
+    sym (rw (p.is-0, p.is-1, view-Rec, kind_view-Rec, ← all) refl)
+
+pub project_onto-returns-in_ok-clone-in-Host-Text : goal.project_onto-returns-in_ok-clone-in-Host-Text
+project_onto-returns-in_ok-clone-in-Host-Text t c =
+    let p = c.in-Host-Text in
+    let among = sym c.is_name_among.ensures ∙ c.if-is_name_among.true in
+    let among : is_among (string_bytes p.text.value) (map (λ n. string_bytes n) p.names.value.keys) ≡ true = rw (c.as_str.ensures.value, c.deref.ensures, c.deref-in-Host-Text.ensures) at among in
+    ap Some (c.in_ok-clone-in-Host-Text.ensures.cases) ∙ sym (rw (p.is-0, p.is-1, view-Text, kind_view-Host, among) refl)
+
+pub project_onto-returns-else-is_name_among : goal.project_onto-returns-else-is_name_among
+project_onto-returns-else-is_name_among t c =
+    let p = c.in-Host-Text in
+    let among = sym c.is_name_among.ensures ∙ c.if-is_name_among.false in
+    let among : is_among (string_bytes p.text.value) (map (λ n. string_bytes n) p.names.value.keys) ≡ false = rw (c.as_str.ensures.value, c.deref.ensures, c.deref-in-Host-Text.ensures) at among in
+    sym (rw (p.is-0, p.is-1, view-Text, kind_view-Host, among) refl)

@@ -1,0 +1,97 @@
+// A value without the fields that its kind doesn't name.
+ghost use Rattle.std.specs.Prelude.{◌≡◌, IfOk, option_map};
+ghost use Rattle.pb_semantics.specs.Project.{projected, projected_items, projected_fields};
+ghost use Rattle.pb_value.specs.KindView.{kind_view, slots_view};
+ghost use Rattle.pb_value.specs.View.{view, items_view, fields_view};
+
+use crate::keeps::{field_at, is_name_among};
+use crate::kind::{Kind, Presence, Slots};
+use crate::value::{Fields, Value};
+use std::alloc::{AllocError, Global};
+
+/// The value without the fields, at every depth, that the kind doesn't name; none exactly where the
+/// rest doesn't keep the kind. A result's kind has no projection.
+pub fn project(alloc: Global, value: &Value, kind: &Kind) -> Result<Option<Value>, AllocError>
+    ensures { IfOk result (λ o. option_map view o ≡ projected (view value.now) (kind_view kind.now)) }
+{
+    project_onto(alloc, kind, value)
+}
+
+// The kind goes first, since the recursion goes down it.
+#[cycle(project)]
+fn project_onto(alloc: Global, kind: &Kind, value: &Value) -> Result<Option<Value>, AllocError>
+    ensures { IfOk result (λ o. option_map view o ≡ projected (view value.now) (kind_view kind.now)) }
+{
+    match (kind, value) {
+        (Kind::Any, _)
+        | (Kind::Null, Value::Null)
+        | (Kind::Bool, Value::Bool(_))
+        | (Kind::Int, Value::Int(_))
+        | (Kind::Text, Value::Text(_)) => Ok(Some(value.clone()?)),
+        (Kind::Host(names), Value::Text(text)) => {
+            if is_name_among(text.as_str(), names) {
+                Ok(Some(value.clone()?))
+            } else {
+                Ok(None)
+            }
+        }
+        (Kind::List(item, most), Value::List(items)) => {
+            if items.len() > *most {
+                return Ok(None);
+            }
+            match project_each(alloc, item, items)? {
+                Some(items) => Ok(Some(Value::of_items(alloc, items)?)),
+                None => Ok(None),
+            }
+        }
+        (Kind::Rec(slots), Value::Rec(fields)) => match project_fields(alloc, slots, fields)? {
+            Some(fields) => Ok(Some(Value::of_fields(alloc, fields)?)),
+            None => Ok(None),
+        },
+        _ => Ok(None),
+    }
+}
+
+#[cycle(project)]
+fn project_each(
+    alloc: Global,
+    kind: &Kind,
+    items: &Vec<Value>,
+) -> Result<Option<Vec<Value>>, AllocError>
+    ensures { IfOk result (λ o. option_map (λ v. items_view v.items) o
+        ≡ projected_items (λ d. projected d (kind_view kind.now)) (items_view items.now.items)) }
+{
+    let mut found = Vec::with_capacity(alloc, items.len())?;
+    for item in items {
+        match project_onto(alloc, kind, item)? {
+            Some(item) => found.push(item)?,
+            None => return Ok(None),
+        }
+    }
+    Ok(Some(found))
+}
+
+#[cycle(project)]
+fn project_fields(
+    alloc: Global,
+    slots: &Slots,
+    fields: &Fields,
+) -> Result<Option<Fields>, AllocError>
+    ensures { IfOk result (λ o. option_map (λ m. fields_view m.entries) o
+        ≡ projected_fields (fields_view fields.now.entries) (slots_view slots.now.entries)) }
+{
+    let mut found = Fields::new(alloc);
+    for (name, slot) in slots.iter() {
+        match field_at(fields, name.as_str()) {
+            Some(value) => match project_onto(alloc, &slot.kind, value)? {
+                Some(value) => drop(found.insert(name.clone()?, value)?),
+                None => return Ok(None),
+            },
+            None => match slot.presence {
+                Presence::Always => return Ok(None),
+                Presence::Maybe => {}
+            },
+        }
+    }
+    Ok(Some(found))
+}

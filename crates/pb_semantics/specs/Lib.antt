@@ -6,6 +6,9 @@ pub mod Below
 pub mod Join
 pub mod Project
 pub mod Render
+pub mod Well
+pub mod Laws
+pub mod Rows
 pub mod Expr
 pub mod Eval
 pub mod Fit

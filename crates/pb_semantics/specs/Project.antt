@@ -1,7 +1,7 @@
 -- A value without the fields that its kind doesn't name.
-use Rattle.std.specs.Prelude.{ℕ, List, Bool, true, false, nat_le, Option, Some, None, option_map, cond}
+use Rattle.std.specs.Prelude.{ℕ, List, Bool, true, false, ◌&&◌, nat_le, Option, Some, None, option_map, cond}
 use Rattle.pb_semantics.specs.Data.{Data, Items, Fields, null, boolean, int, text, list, rec, no_items, item, no_fields, field, field_value, count_of}
-use Rattle.pb_semantics.specs.Kind.{KindData, Slots, nulls, booleans, ints, texts, hosts, lists, recs, anything, no_slots, slot}
+use Rattle.pb_semantics.specs.Kind.{KindData, Slots, nulls, booleans, ints, texts, hosts, lists, recs, results, anything, no_slots, slot}
 use Rattle.pb_semantics.specs.Keeps.{is_among}
 
 abbrev pub with_item : Option Data → Option Items → Option Items
@@ -39,3 +39,15 @@ abbrev mutual
   pub projected_fields : Fields → Slots → Option Fields
   projected_fields fs no_slots = Some no_fields
   projected_fields fs (slot n a k ss) = with_field n a (option_map (λ d. projected d k) (field_value n fs)) (projected_fields fs ss)
+
+-- no result is in the kind
+abbrev mutual
+  pub has_no_results : KindData → Bool
+  has_no_results (lists k n) = has_no_results k
+  has_no_results (recs ss) = have_no_results ss
+  has_no_results (results cs r) = false
+  has_no_results k = true
+
+  pub have_no_results : Slots → Bool
+  have_no_results no_slots = true
+  have_no_results (slot n a k ss) = has_no_results k && have_no_results ss

@@ -4,3 +4,5 @@ pub mod JsonViews
 pub mod Slots
 pub mod KeptLists
 pub mod Projections
+pub mod KindLemmas
+pub mod JoinLemmas

@@ -11,7 +11,7 @@ use Rattle.pb_semantics.specs.Project.{projected, projected_items, projected_fie
 use Rattle.pb_value.specs.KindView.{kind_view, slots_view, is_always}
 use Rattle.pb_value.specs.View.{view, items_view}
 use Rattle.pb_value.specs.declared.value.Value.{Value}
-use Rattle.pb_value.proofs.Slots.{SlotEntry}
+use Rattle.pb_value.proofs.KindLemmas.{SlotEntry}
 
 abbrev pub append_items : Items → Items → Items
 append_items no_items es = es

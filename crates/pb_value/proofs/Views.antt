@@ -1,9 +1,8 @@
 -- What the layers of a value and of a kind mean.
-use Rattle.std.proofs.Common.{◌≡◌, ℕ, List, Vec, BTreeMap, String, Global, string_bytes, map}
-use Rattle.std.specs.declared.collections.BTreeSet.{BTreeSet}
+use Rattle.std.proofs.Common.{◌≡◌, ℕ, List, Vec, BTreeMap, String, Global, string_bytes}
 use Rattle.std.specs.declared.sync.Arc.{Arc}
 use Rattle.pb_semantics.specs.Data.{list, rec, text}
-use Rattle.pb_semantics.specs.Kind.{recs, lists, results, hosts}
+use Rattle.pb_semantics.specs.Kind.{recs, lists, results}
 use Rattle.pb_value.specs.View.{view, fields_view, items_view}
 use Rattle.pb_value.specs.KindView.{kind_view, slots_view, cases_view}
 use Rattle.pb_value.specs.declared.kind.Case.{Case}
@@ -33,6 +32,3 @@ kind_view-Result cs r = search (rules, kind_lemmas)
 
 pub view-Text : (s : Arc (String Global) Global) → view (Value-of.Text s) ≡ text (string_bytes s.value)
 view-Text s = search (rules, value_lemmas)
-
-pub kind_view-Host : (ns : Arc (BTreeSet (String Global) Global) Global) → kind_view (Kind-of.Host ns) ≡ hosts (map (λ n. string_bytes n) ns.value.keys)
-kind_view-Host ns = search (rules, kind_lemmas)

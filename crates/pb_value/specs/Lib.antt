@@ -1,3 +1,4 @@
 pub mod View
 pub mod KindView
 pub mod FromJson
+pub mod Found

@@ -1,7 +1,6 @@
 // Which values a kind has.
-ghost use Rattle.std.specs.Prelude.{◌≡◌, ◌&&◌, is_some, map, string_bytes, option_map};
+ghost use Rattle.std.specs.Prelude.{◌≡◌, option_map};
 ghost use Rattle.pb_semantics.specs.Data.{rec, field_value};
-ghost use Rattle.pb_semantics.specs.Kind.{is_listed};
 ghost use Rattle.pb_semantics.specs.Keeps.{
   keeps as is_kept,
   all_items,
@@ -10,14 +9,13 @@ ghost use Rattle.pb_semantics.specs.Keeps.{
   all_listed,
   has_status,
   flag_is,
-  is_among,
 };
 ghost use Rattle.pb_value.specs.KindView.{kind_view, slots_view, cases_view, shape_view};
 ghost use Rattle.pb_value.specs.View.{view, items_view, fields_view};
 
+use crate::below::{has_field, has_name};
 use crate::kind::{Case, Kind, Presence, Shape, Slots};
 use crate::value::{Fields, Value};
-use std::collections::BTreeSet;
 
 /// Whether the value is one of the kind.
 pub fn keeps(value: &Value, kind: &Kind) -> bool
@@ -37,7 +35,7 @@ fn has(kind: &Kind, value: &Value) -> bool
         (Kind::Bool, Value::Bool(_)) => true,
         (Kind::Int, Value::Int(_)) => true,
         (Kind::Text, Value::Text(_)) => true,
-        (Kind::Host(names), Value::Text(text)) => is_name_among(text.as_str(), names),
+        (Kind::Host(names), Value::Text(text)) => has_name(names, text.as_str()),
         (Kind::List(item, most), Value::List(items)) => {
             items.len() <= *most && has_each(item, items)
         }
@@ -117,7 +115,7 @@ fn are_listed(fields: &Fields, slots: &Slots) -> bool
     ensures { result ≡ all_listed (fields_view fields.now.entries) (slots_view slots.now.entries) }
 {
     for (name, _) in fields.iter() {
-        if !is_slot(slots, name.as_str()) {
+        if !has_field(slots, name.as_str()) {
             return false;
         }
     }
@@ -128,16 +126,4 @@ pub(crate) fn field_at<'f>(fields: &'f Fields, name: &str) -> Option<&'f Value>
     ensures { option_map (λ v. view v.now) result ≡ field_value name.now (fields_view fields.now.entries) }
 {
     fields.get(name)
-}
-
-pub(crate) fn is_slot(slots: &Slots, name: &str) -> bool
-    ensures { result ≡ is_listed name.now (slots_view slots.now.entries) }
-{
-    slots.contains_key(name)
-}
-
-pub(crate) fn is_name_among(name: &str, names: &BTreeSet<String>) -> bool
-    ensures { result ≡ is_among name.now (map (λ s. string_bytes s) names.now.keys) }
-{
-    names.contains(name)
 }

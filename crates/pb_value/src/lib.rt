@@ -1,6 +1,8 @@
 // Values and kinds of variables, and JSON read into them.
 #![tactic(auto)]
 
+pub mod below;
+pub mod join;
 pub mod keeps;
 pub mod kind;
 pub mod project;

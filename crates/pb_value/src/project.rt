@@ -4,7 +4,8 @@ ghost use Rattle.pb_semantics.specs.Project.{projected, projected_items, project
 ghost use Rattle.pb_value.specs.KindView.{kind_view, slots_view};
 ghost use Rattle.pb_value.specs.View.{view, items_view, fields_view};
 
-use crate::keeps::{field_at, is_name_among};
+use crate::below::has_name;
+use crate::keeps::field_at;
 use crate::kind::{Kind, Presence, Slots};
 use crate::value::{Fields, Value};
 use std::alloc::{AllocError, Global};
@@ -29,7 +30,7 @@ fn project_onto(alloc: Global, kind: &Kind, value: &Value) -> Result<Option<Valu
         | (Kind::Int, Value::Int(_))
         | (Kind::Text, Value::Text(_)) => Ok(Some(value.clone()?)),
         (Kind::Host(names), Value::Text(text)) => {
-            if is_name_among(text.as_str(), names) {
+            if has_name(names, text.as_str()) {
                 Ok(Some(value.clone()?))
             } else {
                 Ok(None)

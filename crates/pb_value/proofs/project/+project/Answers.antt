@@ -10,8 +10,9 @@ use Rattle.pb_semantics.specs.Project.{projected, projected_items, projected_fie
 use Rattle.pb_value.specs.KindView.{kind_view, slots_view, is_always}
 use Rattle.pb_value.specs.View.{view, items_view, fields_view}
 use Rattle.pb_value.proofs.Fields.{fields_view-insert_entry}
-use Rattle.pb_value.proofs.Slots.{SlotEntry}
-use Rattle.pb_value.proofs.Views.{view-List, view-Rec, view-Text, kind_view-List, kind_view-Rec, kind_view-Host}
+use Rattle.pb_value.proofs.KindLemmas.{SlotEntry}
+use Rattle.pb_value.proofs.Views.{view-List, view-Rec, view-Text, kind_view-List, kind_view-Rec}
+use Rattle.pb_value.proofs.KindLemmas.{kind_view-Host}
 use Rattle.pb_value.proofs.KeptLists.{projected-short, projected-long}
 use Rattle.pb_value.proofs.Projections.{each_step, items_view-push, and_items, and_fields, append_fields, append_items, append_items-none, and_items-step, and_fields-nothing, and_items-nothing, and_fields-step, append_fields-none, put_field-above, IsAbove, IsAbove-further, IsAbove-append, neighbours, projected_fields-there, projected_fields-missing}
 use Rattle.pb_value.proofs.project.+project.Goals as goal
@@ -129,13 +130,13 @@ project_onto-returns-in-None-2 t c =
 pub project_onto-returns-in_ok-clone-in-Host-Text : goal.project_onto-returns-in_ok-clone-in-Host-Text
 project_onto-returns-in_ok-clone-in-Host-Text t c =
     let p = c.in-Host-Text in
-    let among = sym c.is_name_among.ensures ∙ c.if-is_name_among.true in
+    let among = sym c.has_name.ensures ∙ c.if-has_name.true in
     let among : is_among (string_bytes p.text.value) (map (λ n. string_bytes n) p.names.value.keys) ≡ true = rw (c.as_str.ensures.value, c.deref.ensures, c.deref-in-Host-Text.ensures) at among in
     ap Some (c.in_ok-clone-in-Host-Text.ensures.cases) ∙ sym (rw (p.is-0, p.is-1, view-Text, kind_view-Host, among) refl)
 
-pub project_onto-returns-else-is_name_among : goal.project_onto-returns-else-is_name_among
-project_onto-returns-else-is_name_among t c =
+pub project_onto-returns-else-has_name : goal.project_onto-returns-else-has_name
+project_onto-returns-else-has_name t c =
     let p = c.in-Host-Text in
-    let among = sym c.is_name_among.ensures ∙ c.if-is_name_among.false in
+    let among = sym c.has_name.ensures ∙ c.if-has_name.false in
     let among : is_among (string_bytes p.text.value) (map (λ n. string_bytes n) p.names.value.keys) ≡ false = rw (c.as_str.ensures.value, c.deref.ensures, c.deref-in-Host-Text.ensures) at among in
     sym (rw (p.is-0, p.is-1, view-Text, kind_view-Host, among) refl)

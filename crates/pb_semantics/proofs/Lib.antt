@@ -1,0 +1,15 @@
+pub mod Bools
+pub mod Names
+pub mod Hosts
+pub mod Slots
+pub mod Kept
+pub mod KeepsUp
+pub mod Order
+pub mod Through
+pub mod PutSlots
+pub mod JoinSlots
+pub mod JoinCases
+pub mod JoinAbove
+pub mod JoinLeast
+pub mod JoinWell
+pub mod Projected

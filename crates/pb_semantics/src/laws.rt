@@ -1,0 +1,63 @@
+// The laws of the definitions, each on a function that does nothing.
+ghost use Rattle.pb_semantics.specs.Laws.{
+  KeepsGoesUp,
+  BelowItself,
+  BelowThrough,
+  SameBothWays,
+  JoinAbove,
+  JoinLeast,
+  JoinWell,
+  ProjectedKeeps,
+  ProjectedOfKept,
+};
+ghost use Rattle.pb_semantics.specs.Rows.{Rows};
+
+/// Worked rows: what the definitions say of some values and kinds.
+pub fn rows()
+    ensures { Rows }
+{}
+
+/// A value of a kind is one of each kind above it.
+pub fn keeps_goes_up()
+    ensures { KeepsGoesUp }
+{}
+
+/// A well formed kind is below itself.
+pub fn below_itself()
+    ensures { BelowItself }
+{}
+
+/// What is below a kind is below each kind above that one.
+pub fn below_through()
+    ensures { BelowThrough }
+{}
+
+/// Two kinds that are below each other have the same values.
+pub fn same_both_ways()
+    ensures { SameBothWays }
+{}
+
+/// The join of two well formed kinds is above both.
+pub fn join_above()
+    ensures { JoinAbove }
+{}
+
+/// The join of two well formed kinds is below each kind that is above both.
+pub fn join_least()
+    ensures { JoinLeast }
+{}
+
+/// The join of two well formed kinds is well formed.
+pub fn join_well()
+    ensures { JoinWell }
+{}
+
+/// What a value is projected to is a value of the kind.
+pub fn projected_keeps()
+    ensures { ProjectedKeeps }
+{}
+
+/// A value of a kind with no results in it has a projection onto that kind.
+pub fn projected_of_kept()
+    ensures { ProjectedOfKept }
+{}

@@ -1,0 +1,241 @@
+// The least kind above two others.
+ghost use Rattle.std.specs.Prelude.{◌≡◌, ◌&&◌, IfOk, OnOk, map, max, string_bytes, [], ◌∷◌};
+ghost use Rattle.pb_semantics.specs.Kind.{recs, put_slot};
+ghost use Rattle.pb_semantics.specs.Join.{
+  join as join_of,
+  add_names,
+  add_cases as both_cases,
+  append_cases,
+  new_cases,
+  join_slots as both_slots,
+  joined,
+  presence_with,
+  kind_with,
+  record_with,
+};
+ghost use Rattle.pb_value.specs.KindView.{
+  kind_view,
+  slots_view,
+  cases_view,
+  is_always as is_certain,
+};
+ghost use Rattle.pb_value.specs.Found.{spot_view};
+
+use crate::below::{find, has_field, is_always, is_covered};
+use crate::kind::{Case, Kind, Presence, Slot, Slots};
+use std::alloc::{AllocError, Global};
+use std::collections::{BTreeMap, BTreeSet};
+use std::sync::Arc;
+
+/// The least kind above both, which shares what lies in them wherever one of them is the answer.
+///
+/// # Errors
+///
+/// Want of memory.
+#[cycle(join)]
+pub fn join(alloc: Global, first: &Kind, second: &Kind) -> Result<Kind, AllocError>
+    ensures { IfOk result (λ k. kind_view k ≡ join_of (kind_view first.now) (kind_view second.now)) }
+{
+    match (first, second) {
+        (Kind::Never, _) => Ok(second.clone()?),
+        (_, Kind::Never) => Ok(first.clone()?),
+        (Kind::Null, Kind::Null) => Ok(Kind::Null),
+        (Kind::Bool, Kind::Bool) => Ok(Kind::Bool),
+        (Kind::Int, Kind::Int) => Ok(Kind::Int),
+        (Kind::Text, Kind::Text) => Ok(Kind::Text),
+        (Kind::Text, Kind::Host(_)) => Ok(Kind::Text),
+        (Kind::Host(_), Kind::Text) => Ok(Kind::Text),
+        (Kind::Host(few), Kind::Host(more)) => {
+            let names = add_all(few, more)?;
+            Ok(Kind::Host(Arc::new(alloc, names)?))
+        }
+        (Kind::List(item, most), Kind::List(other, count)) => {
+            let item = join(alloc, item, other)?;
+            Ok(Kind::List(Arc::new(alloc, item)?, larger(*most, *count)))
+        }
+        (Kind::Rec(slots), Kind::Rec(others)) => join_records(alloc, slots, others),
+        (Kind::Rec(slots), Kind::Result(_, record)) => join_with_record(alloc, slots, record),
+        (Kind::Result(_, record), Kind::Rec(_)) => join(alloc, record, second),
+        (Kind::Result(cases, record), Kind::Result(others, other)) => {
+            let cases = add_cases(alloc, cases, others)?;
+            let record = join(alloc, record, other)?;
+            Ok(Kind::Result(Arc::new(alloc, cases)?, Arc::new(alloc, record)?))
+        }
+        _ => Ok(Kind::Any),
+    }
+}
+
+fn larger(first: usize, second: usize) -> usize
+    ensures { result ≡ max first second }
+{
+    if first < second { second } else { first }
+}
+
+/// The names of both.
+fn add_all(few: &BTreeSet<String>, more: &BTreeSet<String>) -> Result<BTreeSet<String>, AllocError>
+    ensures { IfOk result (λ s. map (λ n. string_bytes n) s.keys
+        ≡ add_names (map (λ n. string_bytes n) few.now.keys) (map (λ n. string_bytes n) more.now.keys)) }
+{
+    let mut all = more.clone()?;
+    for name in few.iter() {
+        all.insert(name.clone()?)?;
+    }
+    Ok(all)
+}
+
+/// A record and what is known of all cases of a result.
+#[cycle(join)]
+fn join_with_record(alloc: Global, slots: &Arc<Slots>, fields: &Kind) -> Result<Kind, AllocError>
+    ensures { IfOk result (λ k. kind_view k ≡ record_with (slots_view slots.now.value.entries)
+        (λ ts. joined (slots_view slots.now.value.entries) ts) (kind_view fields.now)) }
+{
+    match fields {
+        Kind::Never => Ok(Kind::Rec(slots.clone()?)),
+        Kind::Rec(others) => join_records(alloc, slots, others),
+        _ => Ok(Kind::Any),
+    }
+}
+
+#[cycle(join)]
+fn join_records(alloc: Global, first: &Slots, second: &Slots) -> Result<Kind, AllocError>
+    ensures { IfOk result (λ k. kind_view k ≡ recs (both_slots (slots_view first.now.entries) (slots_view second.now.entries))) }
+{
+    let slots = join_slots(alloc, first, second)?;
+    Ok(Kind::Rec(Arc::new(alloc, slots)?))
+}
+
+/// What is known where two environments meet: a field that only one of them lists is uncertain.
+///
+/// # Errors
+///
+/// Want of memory.
+#[cycle(join)]
+pub fn join_slots(alloc: Global, first: &Slots, second: &Slots) -> Result<Slots, AllocError>
+    ensures { IfOk result (λ s. slots_view s.entries
+        ≡ both_slots (slots_view first.now.entries) (slots_view second.now.entries)) }
+{
+    let mut all = meet_slots(alloc, first, second)?;
+    for (name, slot) in second.iter() {
+        if !has_field(first, name.as_str()) {
+            let kind = slot.kind.clone()?;
+            let presence = Presence::Maybe;
+            put(&mut all, name.clone()?, Slot { presence, kind })?;
+        }
+    }
+    Ok(all)
+}
+
+/// The first's slots, each with what the second knows of it.
+#[cycle(join)]
+fn meet_slots(alloc: Global, first: &Slots, second: &Slots) -> Result<Slots, AllocError>
+    ensures { IfOk result (λ s. slots_view s.entries ≡ joined (slots_view first.now.entries) (slots_view second.now.entries)) }
+{
+    let mut all = BTreeMap::new(alloc);
+    for (name, slot) in first.iter() {
+        let found = find(second, name.as_str());
+        let met = meet_slot(alloc, &slot.kind, slot.presence, found)?;
+        put(&mut all, name.clone()?, met)?;
+    }
+    Ok(all)
+}
+
+#[cycle(join)]
+fn meet_slot(
+    alloc: Global,
+    kind: &Kind,
+    presence: Presence,
+    found: Option<&Slot<Kind>>,
+) -> Result<Slot<Kind>, AllocError>
+    ensures certain { IfOk result (λ s. is_certain s.presence ≡ presence_with (is_certain presence) (spot_view found.entry)) }
+    ensures kinds { IfOk result (λ s. kind_view s.kind
+        ≡ kind_with (kind_view kind.now) (λ m. join_of (kind_view kind.now) m) (spot_view found.entry)) }
+{
+    match found {
+        None => {
+            let kind = kind.clone()?;
+            Ok(Slot {
+                presence: Presence::Maybe,
+                kind,
+            })
+        }
+        Some(other) => {
+            let kind = join(alloc, kind, &other.kind)?;
+            Ok(Slot {
+                presence: both(presence, other.presence),
+                kind,
+            })
+        }
+    }
+}
+
+fn put(slots: &mut Slots, name: String, slot: Slot<Kind>) -> Result<(), AllocError>
+    ensures { OnOk result (slots_view slots.new.entries
+        ≡ put_slot (string_bytes name) (is_certain slot.presence) (kind_view slot.kind) (slots_view slots.old.entries)) }
+{
+    let _ = slots.insert(name, slot)?;
+    Ok(())
+}
+
+fn both(first: Presence, second: Presence) -> Presence
+    ensures { is_certain result ≡ (is_certain first && is_certain second) }
+{
+    if is_always(first) {
+        second
+    } else {
+        Presence::Maybe
+    }
+}
+
+/// The cases of the first, then those of the second that the first doesn't cover.
+fn add_cases(
+    alloc: Global,
+    cases: &Vec<Case<Kind>>,
+    others: &Vec<Case<Kind>>,
+) -> Result<Vec<Case<Kind>>, AllocError>
+    ensures { IfOk result (λ v. cases_view v.items ≡ both_cases (cases_view cases.now.items) (cases_view others.now.items)) }
+{
+    let mut all = copies(alloc, cases)?;
+    for other in others {
+        add_case(&mut all, cases, other)?;
+    }
+    Ok(all)
+}
+
+/// One case more, if none of the cases covers it.
+fn add_case(
+    all: &mut Vec<Case<Kind>>,
+    cases: &Vec<Case<Kind>>,
+    other: &Case<Kind>,
+) -> Result<(), AllocError>
+    ensures { OnOk result (cases_view all.new.items
+        ≡ append_cases (cases_view all.old.items) (new_cases (cases_view (other.now ∷ [])) (cases_view cases.now.items))) }
+{
+    if !is_covered(cases, other) {
+        all.push(copy(other)?)?;
+    }
+    Ok(())
+}
+
+fn copies(alloc: Global, cases: &Vec<Case<Kind>>) -> Result<Vec<Case<Kind>>, AllocError>
+    ensures { IfOk result (λ v. cases_view v.items ≡ cases_view cases.now.items) }
+{
+    let mut all = Vec::new(alloc);
+    for case in cases {
+        all.push(copy(case)?)?;
+    }
+    Ok(all)
+}
+
+/// The same case, which shares its action and its fields.
+fn copy(case: &Case<Kind>) -> Result<Case<Kind>, AllocError>
+    ensures { IfOk result (λ c. cases_view (c ∷ []) ≡ cases_view (case.now ∷ [])) }
+{
+    let action = case.action.clone()?;
+    let fields = case.fields.clone()?;
+    Ok(Case {
+        action,
+        shape: case.shape,
+        failed: case.failed,
+        fields,
+    })
+}

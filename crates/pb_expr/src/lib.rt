@@ -1,4 +1,13 @@
 // Expressions and templates: their text, the kind that is known before a run, the value in it.
 #![tactic(auto)]
 
+pub mod equal;
+pub mod eval;
 pub mod expr;
+pub mod fault;
+pub mod fit;
+mod lexer;
+pub mod parse;
+#[cfg(test)]
+mod tests;
+pub mod vars;

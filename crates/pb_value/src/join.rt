@@ -27,7 +27,8 @@ use std::alloc::{AllocError, Global};
 use std::collections::{BTreeMap, BTreeSet};
 use std::sync::Arc;
 
-/// The least kind above both, which shares what lies in them wherever one of them is the answer.
+/// The least kind above both. It shares the fields and cases that only one of them has, and where one of
+/// them is `Never`, it is a copy of the other that shares all.
 ///
 /// # Errors
 ///

@@ -1,0 +1,169 @@
+// The arguments of a task.
+use crate::book::Argument;
+use crate::fault::FormFault;
+use pb_expr::expr::Expr;
+use pb_expr::parse::parse_template;
+use pb_value::value::{Fields, Value};
+use std::alloc::Global;
+use std::collections::BTreeMap;
+use std::sync::Arc;
+
+/// The most bytes of a text.
+pub(crate) const MOST_TEXT_BYTES: usize = 65_536;
+
+/// The most bytes of an expression.
+pub(crate) const MOST_EXPRESSION_BYTES: usize = 4_096;
+
+/// How many bytes stand round the expression of a template.
+const BRACES: usize = 4;
+
+/// How many lists and records of one argument may stand inside one another.
+const MOST_LEVELS: usize = 32;
+
+/// The arguments that a record lists, in the order of their names' bytes.
+pub(crate) fn arguments_of(alloc: Global, fields: &Fields) -> Result<Vec<Argument>, FormFault> {
+    let mut arguments = Vec::with_capacity(alloc, fields.len())?;
+    for (name, value) in fields.iter() {
+        arguments.push(Argument {
+            name: Arc::new(alloc, name.clone()?)?,
+            value: argument_value(alloc, value)?,
+        })?;
+    }
+    Ok(arguments)
+}
+
+/// The argument `cmd` with that value.
+pub(crate) fn command_line(alloc: Global, value: &Value) -> Result<Vec<Argument>, FormFault> {
+    let argument = Argument {
+        name: Arc::new(alloc, String::from_str(alloc, "cmd")?)?,
+        value: argument_value(alloc, value)?,
+    };
+    Ok(vec![in alloc; argument]?)
+}
+
+/// The expression that an argument's value is: the value itself where no text in it is a template.
+fn argument_value(alloc: Global, value: &Value) -> Result<Expr, FormFault> {
+    if !fits(value, MOST_LEVELS) {
+        return Err(FormFault::NotBuilt);
+    }
+    expr_of(alloc, value)
+}
+
+/// Whether the value is within the limits, with at most so many levels, and holds no opaque value.
+#[cycle(fits)]
+fn fits(value: &Value, levels: usize) -> bool {
+    match value {
+        Value::Null | Value::Bool(_) | Value::Int(_) => true,
+        Value::Text(text) => text_fits(text.as_str()),
+        Value::List(items) => levels > 0 && items_fit(items, levels - 1),
+        Value::Rec(fields) => levels > 0 && fields_fit(fields, levels - 1),
+        Value::Opaque => false,
+    }
+}
+
+#[cycle(fits)]
+fn items_fit(items: &Vec<Value>, levels: usize) -> bool {
+    for item in items {
+        if !fits(item, levels) {
+            return false;
+        }
+    }
+    true
+}
+
+#[cycle(fits)]
+fn fields_fit(fields: &Fields, levels: usize) -> bool {
+    for (_, value) in fields.iter() {
+        if !fits(value, levels) {
+            return false;
+        }
+    }
+    true
+}
+
+fn text_fits(text: &str) -> bool {
+    if has_opening(text) {
+        text.len() <= MOST_EXPRESSION_BYTES + BRACES
+    } else {
+        text.len() <= MOST_TEXT_BYTES
+    }
+}
+
+/// Whether a template, a statement or a comment begins in the text.
+fn has_opening(text: &str) -> bool {
+    let mut open = false;
+    for byte in text.as_bytes() {
+        if open && is_mark(*byte) {
+            return true;
+        }
+        open = *byte == b'{';
+    }
+    false
+}
+
+fn is_mark(byte: u8) -> bool {
+    matches!(byte, b'{' | b'%' | b'#')
+}
+
+/// Whether some text in the value is a template.
+#[cycle(template)]
+fn holds_template(value: &Value) -> bool {
+    match value {
+        Value::Text(text) => has_opening(text.as_str()),
+        Value::List(items) => some_item_holds(items),
+        Value::Rec(fields) => some_field_holds(fields),
+        Value::Null | Value::Bool(_) | Value::Int(_) | Value::Opaque => false,
+    }
+}
+
+#[cycle(template)]
+fn some_item_holds(items: &Vec<Value>) -> bool {
+    for item in items {
+        if holds_template(item) {
+            return true;
+        }
+    }
+    false
+}
+
+#[cycle(template)]
+fn some_field_holds(fields: &Fields) -> bool {
+    for (_, value) in fields.iter() {
+        if holds_template(value) {
+            return true;
+        }
+    }
+    false
+}
+
+#[cycle(expr_of)]
+fn expr_of(alloc: Global, value: &Value) -> Result<Expr, FormFault> {
+    if !holds_template(value) {
+        return Ok(Expr::Literal(value.clone()?));
+    }
+    match value {
+        Value::Text(text) => Ok(parse_template(alloc, text.as_str())?),
+        Value::List(items) => Ok(Expr::List(list_of(alloc, items)?)),
+        Value::Rec(fields) => Ok(Expr::Record(record_of(alloc, fields)?)),
+        _ => Ok(Expr::Literal(value.clone()?)),
+    }
+}
+
+#[cycle(expr_of)]
+fn list_of(alloc: Global, items: &Vec<Value>) -> Result<Vec<Expr>, FormFault> {
+    let mut parts = Vec::with_capacity(alloc, items.len())?;
+    for item in items {
+        parts.push(expr_of(alloc, item)?)?;
+    }
+    Ok(parts)
+}
+
+#[cycle(expr_of)]
+fn record_of(alloc: Global, fields: &Fields) -> Result<BTreeMap<String, Expr>, FormFault> {
+    let mut parts = BTreeMap::new(alloc);
+    for (name, value) in fields.iter() {
+        let name = name.clone()?;
+        drop(parts.insert(name, expr_of(alloc, value)?)?);
+    }
+    Ok(parts)
+}

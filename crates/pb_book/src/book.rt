@@ -1,0 +1,72 @@
+// A book: its plays, their tasks, and what each task asks for.
+ghost use Rattle.std.specs.Prelude.{◌≡◌, true};
+ghost use Rattle.pb_book.specs.Lines.{is_numbered};
+
+use pb_expr::expr::Expr;
+use std::sync::Arc;
+
+/// An argument of a module or an action.
+#[derive(Drop)]
+pub struct Argument {
+    pub name: Arc<String>,
+    pub value: Expr,
+}
+
+/// What a task does.
+#[derive(Drop)]
+pub enum Work {
+    /// Calls the module of that name.
+    Module(Arc<String>),
+    /// Shows a message.
+    Debug,
+    /// Sets variables of the host.
+    SetFact,
+}
+
+#[derive(Drop)]
+pub struct Task {
+    /// The place in the book, where the plays and their tasks are counted from 1.
+    pub line: u32,
+    pub work: Work,
+    /// In the order of their names' bytes.
+    pub arguments: Vec<Argument>,
+    /// The condition, if one is given.
+    pub when: Option<Expr>,
+    /// The variable that keeps the result, if one is given.
+    pub register: Option<Arc<String>>,
+}
+
+#[derive(Drop)]
+pub struct Play {
+    /// The place in the book.
+    pub line: u32,
+    pub tasks: Vec<Task>,
+}
+
+/// A book, as far as it is built: no play, or one, which stands at line 1 and has at most 4,095 tasks,
+/// at the lines 2, 3 and so on.
+#[derive(Drop)]
+pub struct Book {
+    plays: Vec<Play>,
+    ghost numbered: { is_numbered plays.items ≡ true },
+}
+
+impl Book {
+    ghost use Rattle.pb_book.specs.Books.{plays_of};
+
+    /// The plays in their order.
+    pub fn plays(&self) -> &[Play]
+        ensures value { result.now ≡ plays_of self.now }
+        ensures numbered { is_numbered result.now ≡ true }
+    {
+        self.plays.as_slice()
+    }
+
+    /// The book of these plays.
+    pub(crate) fn of_plays(plays: Vec<Play>) -> Book
+        requires { is_numbered plays.items ≡ true }
+        ensures { plays_of result ≡ plays.items }
+    {
+        Book { plays }
+    }
+}

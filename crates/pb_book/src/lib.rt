@@ -1,0 +1,10 @@
+// The plays of a book, read from JSON.
+#![tactic(auto)]
+
+pub mod argument;
+pub mod book;
+pub mod fault;
+pub mod read;
+pub mod task;
+#[cfg(test)]
+mod tests;

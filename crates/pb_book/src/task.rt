@@ -1,0 +1,161 @@
+// The tasks of a play.
+ghost use Rattle.std.specs.Prelude.{◌≡◌, ◌≤◌, IfOk, length, true};
+ghost use Rattle.pb_sig.specs.Modules.{modules_of};
+ghost use Rattle.pb_book.specs.Lines.{are_from, are_known, is_known};
+
+use crate::argument::{MOST_EXPRESSION_BYTES, MOST_TEXT_BYTES, arguments_of, command_line};
+use crate::book::{Argument, Task, Work};
+use crate::fault::FormFault;
+use pb_expr::expr::Expr;
+use pb_expr::parse::parse_expr;
+use pb_sig::registry::Registry;
+use pb_value::value::{Fields, Value};
+use std::alloc::Global;
+use std::sync::Arc;
+
+/// The most lines of a book but the first, which is the play's.
+const MOST_TASKS: usize = 4_095;
+
+/// The line of the first task.
+const FIRST_TASK_LINE: u32 = 2;
+
+/// The most bytes of a variable's name.
+const MOST_NAME_BYTES: usize = 128;
+
+/// The tasks that a list describes.
+pub(crate) fn tasks_of(
+    alloc: Global,
+    items: &[Value],
+    registry: &Registry,
+) -> Result<Vec<Task>, FormFault>
+    ensures lines { IfOk result (λ ts. are_from 2 ts.items ≡ true) }
+    ensures few { IfOk result (λ ts. length ts.items ≤ 4095) }
+    ensures known { IfOk result (λ ts. are_known (modules_of registry.now) ts.items ≡ true) }
+{
+    if items.len() > MOST_TASKS {
+        return Err(FormFault::NotBuilt);
+    }
+    let mut tasks = Vec::with_capacity(alloc, items.len())?;
+    let mut line = FIRST_TASK_LINE;
+    for item in items {
+        tasks.push(task_of(alloc, item, line, registry)?)?;
+        line += 1;
+    }
+    Ok(tasks)
+}
+
+fn task_of(alloc: Global, value: &Value, line: u32, registry: &Registry) -> Result<Task, FormFault>
+    ensures line { IfOk result (λ t. t.line ≡ line) }
+    ensures known { IfOk result (λ t. is_known (modules_of registry.now) t.work ≡ true) }
+{
+    let Value::Rec(fields) = value else {
+        return Err(FormFault::NotBuilt);
+    };
+    if !is_named(fields) {
+        return Err(FormFault::NotBuilt);
+    }
+    let (key, given) = work_entry(fields).ok_or(FormFault::NotBuilt)?;
+    let work = work_of(key, registry)?;
+    let arguments = given_arguments(alloc, key, given)?;
+    Ok(Task {
+        line,
+        work,
+        arguments,
+        when: condition_of(alloc, fields)?,
+        register: register_of(fields)?,
+    })
+}
+
+/// Whether the name, if there is one, is a text that isn't too long.
+pub(crate) fn is_named(fields: &Fields) -> bool {
+    match fields.get("name") {
+        None => true,
+        Some(Value::Text(text)) => text.len() <= MOST_TEXT_BYTES,
+        Some(_) => false,
+    }
+}
+
+/// The one entry whose key is no keyword.
+fn work_entry(fields: &Fields) -> Option<(&str, &Value)> {
+    let mut found = None;
+    for (key, value) in fields.iter() {
+        if !is_keyword(key.as_str()) {
+            if found.is_some() {
+                return None;
+            }
+            found = Some((key.as_str(), value));
+        }
+    }
+    found
+}
+
+fn is_keyword(key: &str) -> bool {
+    key == "name" || key == "register" || key == "when"
+}
+
+/// The action or the module of that name.
+fn work_of(key: &str, registry: &Registry) -> Result<Work, FormFault>
+    ensures { IfOk result (λ w. is_known (modules_of registry.now) w ≡ true) }
+{
+    if key == "debug" {
+        return Ok(Work::Debug);
+    }
+    if key == "set_fact" {
+        return Ok(Work::SetFact);
+    }
+    match registry.find(key) {
+        Some(found) => Ok(Work::Module(found.shared_name().clone()?)),
+        None => Err(FormFault::NotBuilt),
+    }
+}
+
+/// The arguments that stand at the key of a module or an action.
+fn given_arguments(alloc: Global, key: &str, given: &Value) -> Result<Vec<Argument>, FormFault> {
+    match given {
+        Value::Null => Ok(Vec::new(alloc)),
+        Value::Rec(fields) => arguments_of(alloc, fields),
+        Value::Text(_) if key == "command" => command_line(alloc, given),
+        _ => Err(FormFault::NotBuilt),
+    }
+}
+
+/// The condition of a task: a text that is an expression, or a truth value.
+fn condition_of(alloc: Global, fields: &Fields) -> Result<Option<Expr>, FormFault> {
+    match fields.get("when") {
+        None => Ok(None),
+        Some(Value::Bool(holds)) => Ok(Some(Expr::Literal(Value::Bool(*holds)))),
+        Some(Value::Text(text)) if text.len() <= MOST_EXPRESSION_BYTES => {
+            Ok(Some(parse_expr(alloc, text.as_str())?))
+        }
+        Some(_) => Err(FormFault::NotBuilt),
+    }
+}
+
+/// The variable that keeps the result.
+fn register_of(fields: &Fields) -> Result<Option<Arc<String>>, FormFault> {
+    match fields.get("register") {
+        None => Ok(None),
+        Some(Value::Text(text)) if is_variable(text.as_str()) => Ok(Some(text.clone()?)),
+        Some(_) => Err(FormFault::NotBuilt),
+    }
+}
+
+/// Whether a variable can have that name: 1 to 128 ASCII letters, digits or `_`, the first no digit.
+fn is_variable(name: &str) -> bool {
+    let Some(first) = name.as_bytes().first() else {
+        return false;
+    };
+    if first.is_ascii_digit() || name.len() > MOST_NAME_BYTES {
+        return false;
+    }
+    for byte in name.as_bytes() {
+        if !is_name_byte(*byte) {
+            return false;
+        }
+    }
+    true
+}
+
+fn is_name_byte(byte: u8) -> bool {
+    matches!(byte, b'a'..=b'z' | b'A'..=b'Z' | b'0'..=b'9' | b'_')
+}

@@ -1,0 +1,36 @@
+-- What the program prints.
+use Rattle.std.specs.Prelude.{ℕ, List, [], ◌∷◌, ◌++◌, codes, Option, Some, None, Result, Ok, Err, String, string_bytes}
+use Rattle.std.specs.declared.alloc.Global.{Global}
+use Rattle.std.specs.Fmt.{decimal}
+use Rattle.pb_verify.specs.declared.checked.Accepted.{Accepted}
+use Rattle.pb_verify.specs.declared.refusal.Refusal.{Refusal}
+use Rattle.pb_verify.specs.declared.refusal.Code.{Code}
+use Rattle.pb_verify.specs.Codes.{code_text}
+use Rattle.pb_strategy.specs.declared.recap.Recap.{Recap}
+use Rattle.pb_cli.specs.declared.judge.Fault.{Fault}
+use Rattle.pb_cli.specs.declared.judge.Fault.TheVariants.{Refused, NoMemory}
+
+-- the host's name, or `-` where there is none
+abbrev pub host_text : Option (String Global) → List ℕ
+host_text None = codes "-"
+host_text (Some name) = string_bytes name
+
+abbrev pub refusal_line : Refusal → List ℕ
+refusal_line r = codes "refused " ++ (code_text r.code ++ (codes " line " ++ (decimal r.line ++ (codes " host " ++ (host_text r.host ++ (10 ∷ []))))))
+
+-- the line of a verdict, with its line feed
+abbrev pub verdict_line : Result Accepted Fault → List ℕ
+verdict_line (Ok a) = codes "accepted budget " ++ (decimal a.budget ++ (10 ∷ []))
+verdict_line (Err (Refused r)) = refusal_line r
+verdict_line (Err NoMemory) = []
+
+abbrev pub reached_text : Recap → List ℕ
+reached_text r = codes "ok=" ++ (decimal r.ok ++ (codes " changed=" ++ (decimal r.changed ++ (codes " unreachable=" ++ decimal r.unreachable))))
+
+abbrev pub ended_text : Recap → List ℕ
+ended_text r =
+    codes "failed=" ++ (decimal r.failed ++ (codes " skipped=" ++ (decimal r.skipped ++ (codes " rescued=" ++ (decimal r.rescued ++ (codes " ignored=" ++ decimal r.ignored))))))
+
+-- the line of one host's recap, with its line feed
+abbrev pub recap_line : List ℕ → Recap → List ℕ
+recap_line name r = name ++ (codes " : " ++ (reached_text r ++ (codes " " ++ (ended_text r ++ (10 ∷ [])))))

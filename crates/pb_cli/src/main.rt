@@ -1,0 +1,30 @@
+// The program: judges a playbook, and runs what was accepted.
+#![tactic(auto)]
+
+mod files;
+mod judge;
+mod options;
+mod program;
+mod texts;
+mod words;
+
+use std::env;
+use std::env::Env;
+use std::io;
+use std::process::ExitCode;
+
+fn main(rt: HostRuntime) -> io::Result<ExitCode> {
+    let status = match words_of(&rt) {
+        Ok(words) => program::run(&rt, &words),
+        Err(e) => program::status_of_fault(&rt, e),
+    };
+    Ok(ExitCode::from(status))
+}
+
+fn words_of<R: Env + AllocGlobal>(rt: &R) -> io::Result<Vec<String>> {
+    let mut words = Vec::new(rt.alloc());
+    for word in env::args(rt)? {
+        words.push(word)?;
+    }
+    Ok(words)
+}

@@ -1,0 +1,5 @@
+pub mod Equality
+pub mod Outcomes
+pub mod Exprs
+pub mod Turns
+pub mod Findings

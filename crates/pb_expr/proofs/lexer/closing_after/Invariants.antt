@@ -1,0 +1,8 @@
+use Rattle.std.proofs.Common.{length, ◌-◌, ◌+◌, ◌≤◌}
+use Rattle.pb_expr.proofs.lexer.closing_after.Given as goal
+
+abbrev pub invariant-loop-at : goal.invariant-loop-at
+invariant-loop-at l = record { begins : l.start + 1 ≤ l.at; ends : l.at ≤ length l.text }
+
+abbrev pub decreases-loop-at : goal.decreases-loop-at
+decreases-loop-at l = length l.text - l.at

@@ -1,0 +1,33 @@
+use Rattle.pb_expr.specs.Place.{least_width}
+use Rattle.std.proofs.Common.{length, ◌-◌, ◌+◌, ◌*◌, ◌<◌, ◌≤◌}
+use Rattle.pb_expr.proofs.parse.+parser.Given as goal
+
+abbrev pub decreases-inside : goal.decreases-inside
+decreases-inside l = 8 * l.depth + 1
+
+abbrev pub decreases-operand_at : goal.decreases-operand_at
+decreases-operand_at l = 8 * l.depth + 2
+
+abbrev pub decreases-relation_at : goal.decreases-relation_at
+decreases-relation_at l = 8 * l.depth + 3
+
+abbrev pub decreases-not_at : goal.decreases-not_at
+decreases-not_at l = 8 * l.depth + 4
+
+abbrev pub decreases-and_at : goal.decreases-and_at
+decreases-and_at l = 8 * l.depth + 5
+
+abbrev pub decreases-or_at : goal.decreases-or_at
+decreases-or_at l = 8 * l.depth + 6
+
+abbrev pub invariant-and_at-operands : goal.invariant-and_at-operands
+invariant-and_at-operands l = record { begins : l.fn.token.start < l.after.start; ends : l.after.end ≤ length l.text; wide : l.after.start + least_width l.after.sort ≤ l.after.end }
+
+abbrev pub decreases-and_at-operands : goal.decreases-and_at-operands
+decreases-and_at-operands l = length l.text - l.after.start
+
+abbrev pub invariant-or_at-operands : goal.invariant-or_at-operands
+invariant-or_at-operands l = record { begins : l.fn.token.start < l.after.start; ends : l.after.end ≤ length l.text; wide : l.after.start + least_width l.after.sort ≤ l.after.end }
+
+abbrev pub decreases-or_at-operands : goal.decreases-or_at-operands
+decreases-or_at-operands l = length l.text - l.after.start

@@ -1,0 +1,113 @@
+// Equality of values, and what it is for one to be in another.
+ghost use Rattle.std.specs.Prelude.{◌≡◌};
+ghost use Rattle.pb_semantics.specs.Equal.{
+  data_eq,
+  items_eq,
+  fields_eq,
+  has_opaque,
+  any_opaque,
+  any_field_opaque,
+  is_item,
+};
+ghost use Rattle.pb_value.specs.View.{view, items_view, fields_view};
+
+use pb_value::value::{Fields, Value};
+
+/// Whether two values are equal in structure; values of different sorts aren't.
+#[cycle(equal)]
+pub fn equal(left: &Value, right: &Value) -> bool
+    ensures { result ≡ data_eq (view left.now) (view right.now) }
+{
+    match (left, right) {
+        (Value::Null, Value::Null) => true,
+        (Value::Bool(one), Value::Bool(other)) => *one == *other,
+        (Value::Int(one), Value::Int(other)) => *one == *other,
+        (Value::Text(one), Value::Text(other)) => one.as_str() == other.as_str(),
+        (Value::List(ones), Value::List(others)) => items_equal(ones, others),
+        (Value::Rec(ones), Value::Rec(others)) => fields_equal(ones, others),
+        _ => false,
+    }
+}
+
+#[cycle(equal)]
+fn items_equal(left: &Vec<Value>, right: &Vec<Value>) -> bool
+    ensures { result ≡ items_eq (items_view left.now.items) (items_view right.now.items) }
+{
+    if left.len() != right.len() {
+        return false;
+    }
+    for (index, item) in left.iter().enumerate() {
+        if !equal(item, &right[index]) {
+            return false;
+        }
+    }
+    true
+}
+
+#[cycle(equal)]
+fn fields_equal(left: &Fields, right: &Fields) -> bool
+    ensures { result ≡ fields_eq (fields_view left.now.entries) (fields_view right.now.entries) }
+{
+    let mut others = right.iter();
+    for (name, value) in left.iter() {
+        match others.next() {
+            Some((other, there)) => {
+                if name.as_str() != other.as_str() || !equal(value, there) {
+                    return false;
+                }
+            }
+            None => return false,
+        }
+    }
+    others.next().is_none()
+}
+
+/// Whether an item of the list is equal to the value.
+pub fn has_item(items: &Vec<Value>, value: &Value) -> bool
+    ensures { result ≡ is_item (view value.now) (items_view items.now.items) }
+{
+    for item in items {
+        if equal(value, item) {
+            return true;
+        }
+    }
+    false
+}
+
+/// Whether what may not be read lies in the value, at any depth.
+#[cycle(holds_opaque)]
+pub fn holds_opaque(value: &Value) -> bool
+    ensures { result ≡ has_opaque (view value.now) }
+{
+    match value {
+        Value::Opaque => true,
+        Value::List(items) => items_hold_opaque(items),
+        Value::Rec(fields) => fields_hold_opaque(fields),
+        _ => false,
+    }
+}
+
+/// Whether an item of the list holds what may not be read.
+#[cycle(holds_opaque)]
+pub fn items_hold_opaque(items: &Vec<Value>) -> bool
+    ensures { result ≡ any_opaque (items_view items.now.items) }
+{
+    for item in items {
+        if holds_opaque(item) {
+            return true;
+        }
+    }
+    false
+}
+
+#[cycle(holds_opaque)]
+fn fields_hold_opaque(fields: &Fields) -> bool
+    ensures { result ≡ any_field_opaque (fields_view fields.now.entries) }
+{
+    for (_, value) in fields.iter() {
+        if holds_opaque(value) {
+            return true;
+        }
+    }
+    false
+}

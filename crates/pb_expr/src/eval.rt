@@ -1,0 +1,255 @@
+// The value of an expression.
+ghost use Rattle.std.specs.Prelude.{◌≡◌, IfOk, OnOk, is_some, option_map, not, string_bytes};
+ghost use Rattle.pb_semantics.specs.Data.{list, field_value, put_field};
+ghost use Rattle.pb_semantics.specs.Equal.{is_part};
+ghost use Rattle.pb_semantics.specs.Eval.{
+  value,
+  or_stuck,
+  undefined,
+  value_below,
+  negated,
+  compared,
+  found_in,
+  eval_of,
+  eval_all,
+  eval_any,
+  eval_items,
+  eval_parts,
+  shown,
+};
+ghost use Rattle.pb_value.specs.View.{view, items_view, fields_view};
+ghost use Rattle.pb_expr.specs.ExprView.{expr_view, exprs_view, parts_view, names_of, truth, field_in, is_unreadable};
+
+use crate::equal::{equal, has_item, holds_opaque, items_hold_opaque};
+use crate::expr::{Expr, Path};
+use crate::vars::Vars;
+use pb_value::value::{Fields, Value};
+use std::alloc::{AllocError, Global};
+use std::collections::BTreeMap;
+
+/// The value of an expression, which shares what it can with the variables and the expression.
+///
+/// It is to be asked of a fit expression. One that has no value, as one that reads a name that holds nothing, is
+/// `Opaque`, which is what may not be read.
+#[cycle(eval)]
+pub fn eval<V: Vars>(alloc: Global, expr: &Expr, vars: &V) -> Result<Value, AllocError>
+    ensures { IfOk result (λ v. view v ≡ shown (eval_of (V.holds vars.now) (expr_view expr.now))) }
+{
+    match expr {
+        Expr::Literal(known) => Ok(known.clone()?),
+        Expr::Path(path) => Ok(value_of_path(path, vars)?),
+        Expr::Not(operand) => {
+            let operand = eval(alloc, operand, vars)?;
+            Ok(negation_of(&operand))
+        }
+        Expr::And(operands) => Ok(all_of(alloc, operands, vars)?),
+        Expr::Or(operands) => Ok(any_of(alloc, operands, vars)?),
+        Expr::Equal(left, right) => {
+            let left = eval(alloc, left, vars)?;
+            let right = eval(alloc, right, vars)?;
+            Ok(equality_of(&left, &right))
+        }
+        Expr::Unequal(left, right) => {
+            let left = eval(alloc, left, vars)?;
+            let right = eval(alloc, right, vars)?;
+            Ok(inequality_of(&left, &right))
+        }
+        Expr::In(part, whole) => {
+            let part = eval(alloc, part, vars)?;
+            let whole = eval(alloc, whole, vars)?;
+            Ok(membership_of(&part, &whole))
+        }
+        Expr::List(items) => Ok(list_of(alloc, items, vars)?),
+        Expr::Record(fields) => Ok(record_of(alloc, fields, vars)?),
+    }
+}
+
+#[cycle(eval)]
+fn all_of<V: Vars>(alloc: Global, operands: &Vec<Expr>, vars: &V) -> Result<Value, AllocError>
+    ensures { IfOk result (λ v. view v ≡ shown (eval_all (V.holds vars.now) (exprs_view operands.now.items))) }
+{
+    for operand in operands {
+        let found = eval(alloc, operand, vars)?;
+        match truth_of(&found) {
+            Some(true) => {}
+            Some(false) => return Ok(Value::Bool(false)),
+            None => return Ok(Value::Opaque),
+        }
+    }
+    Ok(Value::Bool(true))
+}
+
+#[cycle(eval)]
+fn any_of<V: Vars>(alloc: Global, operands: &Vec<Expr>, vars: &V) -> Result<Value, AllocError>
+    ensures { IfOk result (λ v. view v ≡ shown (eval_any (V.holds vars.now) (exprs_view operands.now.items))) }
+{
+    for operand in operands {
+        let found = eval(alloc, operand, vars)?;
+        match truth_of(&found) {
+            Some(false) => {}
+            Some(true) => return Ok(Value::Bool(true)),
+            None => return Ok(Value::Opaque),
+        }
+    }
+    Ok(Value::Bool(false))
+}
+
+#[cycle(eval)]
+fn list_of<V: Vars>(alloc: Global, items: &Vec<Expr>, vars: &V) -> Result<Value, AllocError>
+    ensures { IfOk result (λ v. view v ≡ shown (eval_items (V.holds vars.now) (exprs_view items.now.items))) }
+{
+    let mut values = Vec::new(alloc);
+    for item in items {
+        let found = eval(alloc, item, vars)?;
+        if is_opaque(&found) {
+            return Ok(Value::Opaque);
+        }
+        values.push(found)?;
+    }
+    Ok(Value::of_items(alloc, values)?)
+}
+
+#[cycle(eval)]
+fn record_of<V: Vars>(
+    alloc: Global,
+    fields: &BTreeMap<String, Expr>,
+    vars: &V,
+) -> Result<Value, AllocError>
+    ensures { IfOk result (λ v. view v ≡ shown (eval_parts (V.holds vars.now) (parts_view fields.now.entries))) }
+{
+    let mut values = BTreeMap::new(alloc);
+    for (name, field) in fields.iter() {
+        let found = eval(alloc, field, vars)?;
+        if is_opaque(&found) {
+            return Ok(Value::Opaque);
+        }
+        put(&mut values, name.clone()?, found)?;
+    }
+    Ok(Value::of_fields(alloc, values)?)
+}
+
+fn put(fields: &mut Fields, name: String, found: Value) -> Result<(), AllocError>
+    ensures { OnOk result (fields_view fields.new.entries ≡ put_field (string_bytes name) (view found) (fields_view fields.old.entries)) }
+{
+    fields.insert(name, found)?;
+    Ok(())
+}
+
+fn value_of_path<V: Vars>(path: &Path, vars: &V) -> Result<Value, AllocError>
+    ensures { IfOk result (λ v. view v ≡ shown (or_stuck undefined (λ d. value_below (names_of path.now.steps.items) d) (V.holds vars.now (string_bytes path.now.root)))) }
+{
+    match vars.value(path.root.as_str()) {
+        Some(held) => Ok(inner_value(held, &path.steps)?),
+        None => Ok(Value::Opaque),
+    }
+}
+
+// The value at the end of the steps.
+fn inner_value(outer: &Value, steps: &Vec<String>) -> Result<Value, AllocError>
+    ensures { IfOk result (λ v. view v ≡ shown (value_below (names_of steps.now.items) (view outer.now))) }
+{
+    let mut here = outer;
+    for step in steps {
+        match field_of(here, step.as_str()) {
+            Some(inner) => here = inner,
+            None => return Ok(Value::Opaque),
+        }
+    }
+    Ok(here.clone()?)
+}
+
+fn field_of<'v>(outer: &'v Value, name: &str) -> Option<&'v Value>
+    ensures { option_map (λ v. view v.now) result ≡ field_in name.now (view outer.now) }
+{
+    match outer {
+        Value::Rec(fields) => field_at(fields, name),
+        _ => None,
+    }
+}
+
+fn field_at<'f>(fields: &'f Fields, name: &str) -> Option<&'f Value>
+    ensures { option_map (λ v. view v.now) result ≡ field_value name.now (fields_view fields.now.entries) }
+{
+    fields.get(name)
+}
+
+fn truth_of(found: &Value) -> Option<bool>
+    ensures { result ≡ truth (view found.now) }
+{
+    match found {
+        Value::Bool(holds) => Some(*holds),
+        _ => None,
+    }
+}
+
+fn is_opaque(found: &Value) -> bool
+    ensures { result ≡ is_unreadable (view found.now) }
+{
+    match found {
+        Value::Opaque => true,
+        _ => false,
+    }
+}
+
+fn negation_of(operand: &Value) -> Value
+    ensures { view result ≡ shown (negated (value (view operand.now))) }
+{
+    match operand {
+        Value::Bool(holds) => Value::Bool(!*holds),
+        _ => Value::Opaque,
+    }
+}
+
+fn equality_of(left: &Value, right: &Value) -> Value
+    ensures { view result ≡ shown (compared (λ c. c) (view left.now) (view right.now)) }
+{
+    if holds_opaque(left) || holds_opaque(right) {
+        return Value::Opaque;
+    }
+    Value::Bool(equal(left, right))
+}
+
+fn inequality_of(left: &Value, right: &Value) -> Value
+    ensures { view result ≡ shown (compared (λ c. not c) (view left.now) (view right.now)) }
+{
+    if holds_opaque(left) || holds_opaque(right) {
+        return Value::Opaque;
+    }
+    Value::Bool(!equal(left, right))
+}
+
+// Whether the first value is in the second: an equal item, a part of the text or a field there.
+fn membership_of(part: &Value, whole: &Value) -> Value
+    ensures { view result ≡ shown (found_in (view part.now) (view whole.now)) }
+{
+    match (part, whole) {
+        (_, Value::List(items)) => membership_in(part, items),
+        (Value::Text(part), Value::Text(text)) => Value::Bool(has_part(
+            text.as_str(),
+            part.as_str(),
+        )),
+        (Value::Text(name), Value::Rec(fields)) => Value::Bool(has_field(fields, name.as_str())),
+        _ => Value::Opaque,
+    }
+}
+
+fn membership_in(part: &Value, items: &Vec<Value>) -> Value
+    ensures { view result ≡ shown (found_in (view part.now) (list (items_view items.now.items))) }
+{
+    if holds_opaque(part) || items_hold_opaque(items) {
+        return Value::Opaque;
+    }
+    Value::Bool(has_item(items, part))
+}
+
+fn has_part(text: &str, part: &str) -> bool
+    ensures { result ≡ is_part part.now text.now }
+{
+    text.contains(part)
+}
+
+fn has_field(fields: &Fields, name: &str) -> bool
+    ensures { result ≡ is_some (field_value name.now (fields_view fields.now.entries)) }
+{
+    fields.get(name).is_some()
+}

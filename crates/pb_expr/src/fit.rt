@@ -1,0 +1,404 @@
+// The kind of an expression in an environment, and why it has none.
+ghost use Rattle.std.specs.Prelude.{◌≡◌, ◌∷◌, ℕ, List, IfOk, OnOk, MatchResult, Some, None, true, option_map, string_bytes};
+ghost use Rattle.pb_semantics.specs.Data.{count_of};
+ghost use Rattle.pb_semantics.specs.Kind.{Cases, never, booleans, lists, recs, results, slot_at as spot_at, put_slot};
+ghost use Rattle.pb_semantics.specs.Join.{join as join_of};
+ghost use Rattle.pb_semantics.specs.Fit.{
+  unfit,
+  fits,
+  holds_any as any_in,
+  any_slot_holds,
+  any_case_holds,
+  where_certain,
+  perhaps_undefined,
+  kind_below,
+  is_boolean,
+  is_text as is_textual,
+  on_fit,
+  asking,
+  compared_kinds,
+  is_any as is_anything,
+  found_kinds,
+  data_kind,
+  items_kind,
+  fields_kind,
+  length_of,
+  kind_of as kind_found,
+  chain_kind as chain_found,
+  joined_kind,
+  parts_kind,
+};
+ghost use Rattle.pb_expr.specs.declared.fit.KindFault.TheVariants.{NoMemory};
+ghost use Rattle.pb_value.specs.KindView.{kind_view, slots_view, cases_view};
+ghost use Rattle.pb_value.specs.View.{view, items_view, fields_view};
+ghost use Rattle.pb_expr.specs.ExprView.{expr_view, exprs_view, parts_view, names_of};
+ghost use Rattle.pb_expr.specs.FitView.{Finds, fault_view, certain, part_found};
+
+use crate::expr::{Expr, Path};
+use pb_value::below::find;
+use pb_value::join::join;
+use pb_value::kind::{Case, Kind, Presence, Slot, Slots};
+use pb_value::value::{Fields, Value};
+use std::alloc::{AllocError, AllocFailed, Global};
+use std::collections::BTreeMap;
+use std::sync::Arc;
+use thiserror::Error;
+
+/// Why an expression isn't fit.
+#[derive(Clone, Copy, PartialEq, Eq, Debug, Error)]
+pub enum Unfit {
+    /// A name that may hold nothing.
+    #[error("a name that may hold nothing")]
+    Undefined,
+    /// A field that may be missing.
+    #[error("a field that may be missing")]
+    MissingField,
+    /// An operand of another kind than its form asks.
+    #[error("an operand of another kind than its form asks")]
+    WrongKind,
+}
+
+/// Why an expression has no kind.
+#[derive(Debug, Drop, Error)]
+pub enum KindFault {
+    #[error("{0}")]
+    Unfit(Unfit),
+    #[error("out of memory")]
+    NoMemory,
+}
+
+impl From<AllocError> for KindFault {
+    ghost from_gives = { λ _ e. e ≡ NoMemory };
+
+    fn from(_: AllocError) -> KindFault {
+        KindFault::NoMemory
+    }
+}
+
+impl<T: Drop> From<AllocFailed<T>> for KindFault {
+    ghost from_gives = { λ _ e. e ≡ NoMemory };
+
+    fn from(_: AllocFailed<T>) -> KindFault {
+        KindFault::NoMemory
+    }
+}
+
+/// The kind of a fit expression in an environment, or else the first fault from left to right, operands before the
+/// form round them.
+#[cycle(kind_of)]
+pub fn kind_of(alloc: Global, expr: &Expr, slots: &Slots) -> Result<Kind, KindFault>
+    ensures { Finds result (kind_found (slots_view slots.now.entries) (expr_view expr.now)) }
+{
+    match expr {
+        Expr::Literal(known) => Ok(literal_kind(alloc, known)?),
+        Expr::Path(path) => path_kind(path, slots),
+        Expr::Not(operand) => {
+            let operand = kind_of(alloc, operand, slots)?;
+            negation_kind(&operand)
+        }
+        Expr::And(operands) => chain_kind(alloc, operands, slots),
+        Expr::Or(operands) => chain_kind(alloc, operands, slots),
+        Expr::Equal(left, right) => {
+            let left = kind_of(alloc, left, slots)?;
+            let right = kind_of(alloc, right, slots)?;
+            comparison_kind(&left, &right)
+        }
+        Expr::Unequal(left, right) => {
+            let left = kind_of(alloc, left, slots)?;
+            let right = kind_of(alloc, right, slots)?;
+            comparison_kind(&left, &right)
+        }
+        Expr::In(part, whole) => {
+            let part = kind_of(alloc, part, slots)?;
+            let whole = kind_of(alloc, whole, slots)?;
+            membership_kind(&part, &whole)
+        }
+        Expr::List(items) => list_kind(alloc, items, slots),
+        Expr::Record(fields) => record_kind(alloc, fields, slots),
+    }
+}
+
+#[cycle(kind_of)]
+fn chain_kind(alloc: Global, operands: &Vec<Expr>, slots: &Slots) -> Result<Kind, KindFault>
+    ensures { Finds result (chain_found (slots_view slots.now.entries) (exprs_view operands.now.items)) }
+{
+    let mut are_bool = true;
+    for operand in operands {
+        let kind = kind_of(alloc, operand, slots)?;
+        are_bool = are_bool & is_bool(&kind);
+    }
+    asked(are_bool)
+}
+
+#[cycle(kind_of)]
+fn list_kind(alloc: Global, items: &Vec<Expr>, slots: &Slots) -> Result<Kind, KindFault>
+    ensures { Finds result (on_fit (λ k. fits (lists k (length_of (exprs_view items.now.items)))) (joined_kind (slots_view slots.now.entries) never (exprs_view items.now.items))) }
+{
+    let mut joined = Kind::Never;
+    for item in items {
+        let kind = part_kind(alloc, item, slots)?;
+        joined = join(alloc, &joined, &kind)?;
+    }
+    Ok(Kind::List(Arc::new(alloc, joined)?, items.len()))
+}
+
+#[cycle(kind_of)]
+fn record_kind(
+    alloc: Global,
+    fields: &BTreeMap<String, Expr>,
+    slots: &Slots,
+) -> Result<Kind, KindFault>
+    ensures { Finds result (parts_kind (slots_view slots.now.entries) (parts_view fields.now.entries)) }
+{
+    let mut kinds = BTreeMap::new(alloc);
+    for (name, field) in fields.iter() {
+        let kind = part_kind(alloc, field, slots)?;
+        put(&mut kinds, name.clone()?, kind)?;
+    }
+    Ok(Kind::Rec(Arc::new(alloc, kinds)?))
+}
+
+// The kind of an item or a field, which isn't `Any`.
+#[cycle(kind_of)]
+fn part_kind(alloc: Global, expr: &Expr, slots: &Slots) -> Result<Kind, KindFault>
+    ensures { Finds result (part_found (kind_found (slots_view slots.now.entries) (expr_view expr.now))) }
+{
+    let kind = kind_of(alloc, expr, slots)?;
+    if is_any(&kind) {
+        return Err(KindFault::Unfit(Unfit::WrongKind));
+    }
+    Ok(kind)
+}
+
+fn put(kinds: &mut Slots, name: String, kind: Kind) -> Result<(), AllocError>
+    ensures { OnOk result (slots_view kinds.new.entries ≡ put_slot (string_bytes name) true (kind_view kind) (slots_view kinds.old.entries)) }
+{
+    kinds.insert(
+        name,
+        Slot {
+            presence: Presence::Always,
+            kind,
+        },
+    )?;
+    Ok(())
+}
+
+fn path_kind(path: &Path, slots: &Slots) -> Result<Kind, KindFault>
+    ensures { Finds result (where_certain perhaps_undefined (λ k. kind_below (names_of path.now.steps.items) k) (spot_at (string_bytes path.now.root) (slots_view slots.now.entries))) }
+{
+    match certain_kind(slots, path.root.as_str()) {
+        Some(kind) => inner_kind(kind, &path.steps),
+        None => Err(KindFault::Unfit(Unfit::Undefined)),
+    }
+}
+
+// The kind at the end of the steps.
+fn inner_kind(outer: &Kind, steps: &Vec<String>) -> Result<Kind, KindFault>
+    ensures { Finds result (kind_below (names_of steps.now.items) (kind_view outer.now)) }
+{
+    let mut here = outer;
+    for step in steps {
+        match kind_in(here, step.as_str()) {
+            Ok(inner) => here = inner,
+            Err(unfit) => return Err(KindFault::Unfit(unfit)),
+        }
+    }
+    Ok(here.clone()?)
+}
+
+// The kind of a field, `Never` in `Never`.
+fn kind_in<'k>(outer: &'k Kind, name: &str) -> Result<&'k Kind, Unfit>
+    ensures { MatchResult result
+        (λ k. (ns : List (List ℕ)) → kind_below (name.now ∷ ns) (kind_view outer.now) ≡ kind_below ns (kind_view k.now))
+        (λ u. (ns : List (List ℕ)) → kind_below (name.now ∷ ns) (kind_view outer.now) ≡ unfit (fault_view u)) }
+{
+    match outer {
+        Kind::Never => Ok(outer),
+        Kind::Rec(slots) => kind_among(slots, name),
+        Kind::Result(_, record) => kind_in_record(record, name),
+        _ => Err(Unfit::WrongKind),
+    }
+}
+
+// The kind of a field of what is known of all cases of a result.
+fn kind_in_record<'k>(record: &'k Kind, name: &str) -> Result<&'k Kind, Unfit>
+    ensures { MatchResult result
+        (λ k. (ns : List (List ℕ)) (cs : Cases) → kind_below (name.now ∷ ns) (results cs (kind_view record.now)) ≡ kind_below ns (kind_view k.now))
+        (λ u. (ns : List (List ℕ)) (cs : Cases) → kind_below (name.now ∷ ns) (results cs (kind_view record.now)) ≡ unfit (fault_view u)) }
+{
+    match record {
+        Kind::Never => Ok(record),
+        Kind::Rec(slots) => kind_among(slots, name),
+        _ => Err(Unfit::WrongKind),
+    }
+}
+
+fn kind_among<'k>(slots: &'k Slots, name: &str) -> Result<&'k Kind, Unfit>
+    ensures { MatchResult result
+        (λ k. certain (spot_at name.now (slots_view slots.now.entries)) ≡ Some (kind_view k.now))
+        (λ u. (certain (spot_at name.now (slots_view slots.now.entries)) ≡ None) × (u ≡ Unfit.MissingField)) }
+{
+    match certain_kind(slots, name) {
+        Some(kind) => Ok(kind),
+        None => Err(Unfit::MissingField),
+    }
+}
+
+fn certain_kind<'k>(slots: &'k Slots, name: &str) -> Option<&'k Kind>
+    ensures { option_map (λ k. kind_view k.now) result ≡ certain (spot_at name.now (slots_view slots.now.entries)) }
+{
+    match find(slots, name) {
+        Some(slot) => match slot.presence {
+            Presence::Always => Some(&slot.kind),
+            Presence::Maybe => None,
+        },
+        None => None,
+    }
+}
+
+// The kind of a form whose operands are as it asks.
+fn asked(is_fit: bool) -> Result<Kind, KindFault>
+    ensures { Finds result (asking is_fit booleans) }
+{
+    if is_fit {
+        Ok(Kind::Bool)
+    } else {
+        Err(KindFault::Unfit(Unfit::WrongKind))
+    }
+}
+
+fn negation_kind(operand: &Kind) -> Result<Kind, KindFault>
+    ensures { Finds result (asking (is_boolean (kind_view operand.now)) booleans) }
+{
+    asked(is_bool(operand))
+}
+
+// What `==` and `!=` give between operands of these kinds.
+fn comparison_kind(left: &Kind, right: &Kind) -> Result<Kind, KindFault>
+    ensures { Finds result (compared_kinds (kind_view left.now) (kind_view right.now)) }
+{
+    if holds_any(left) || holds_any(right) {
+        return Err(KindFault::Unfit(Unfit::WrongKind));
+    }
+    Ok(Kind::Bool)
+}
+
+// What `in` gives between operands of these kinds.
+fn membership_kind(part: &Kind, whole: &Kind) -> Result<Kind, KindFault>
+    ensures { Finds result (found_kinds (kind_view part.now) (kind_view whole.now)) }
+{
+    match whole {
+        Kind::Never => asked(!is_any(part)),
+        Kind::List(item, _) => comparison_kind(part, item),
+        Kind::Text => asked(is_text(part)),
+        Kind::Host(_) => asked(is_text(part)),
+        Kind::Rec(_) => asked(is_text(part)),
+        Kind::Result(_, _) => asked(is_text(part)),
+        _ => asked(false),
+    }
+}
+
+fn is_bool(kind: &Kind) -> bool
+    ensures { result ≡ is_boolean (kind_view kind.now) }
+{
+    match kind {
+        Kind::Bool | Kind::Never => true,
+        _ => false,
+    }
+}
+
+fn is_text(kind: &Kind) -> bool
+    ensures { result ≡ is_textual (kind_view kind.now) }
+{
+    match kind {
+        Kind::Text | Kind::Host(_) | Kind::Never => true,
+        _ => false,
+    }
+}
+
+fn is_any(kind: &Kind) -> bool
+    ensures { result ≡ is_anything (kind_view kind.now) }
+{
+    match kind {
+        Kind::Any => true,
+        _ => false,
+    }
+}
+
+// Whether the kind is `Any` or holds it at any depth.
+#[cycle(holds_any)]
+fn holds_any(kind: &Kind) -> bool
+    ensures { result ≡ any_in (kind_view kind.now) }
+{
+    match kind {
+        Kind::Any => true,
+        Kind::List(item, _) => holds_any(item),
+        Kind::Rec(slots) => slots_hold_any(slots),
+        Kind::Result(cases, _) => cases_hold_any(cases),
+        _ => false,
+    }
+}
+
+#[cycle(holds_any)]
+fn slots_hold_any(slots: &Slots) -> bool
+    ensures { result ≡ any_slot_holds (slots_view slots.now.entries) }
+{
+    for (_, slot) in slots.iter() {
+        if holds_any(&slot.kind) {
+            return true;
+        }
+    }
+    false
+}
+
+#[cycle(holds_any)]
+fn cases_hold_any(cases: &Vec<Case<Kind>>) -> bool
+    ensures { result ≡ any_case_holds (cases_view cases.now.items) }
+{
+    for case in cases {
+        if holds_any(&case.fields) {
+            return true;
+        }
+    }
+    false
+}
+
+// The kind of a value that is known.
+#[cycle(literal_kind)]
+fn literal_kind(alloc: Global, known: &Value) -> Result<Kind, AllocError>
+    ensures { IfOk result (λ k. kind_view k ≡ data_kind (view known.now)) }
+{
+    match known {
+        Value::Null => Ok(Kind::Null),
+        Value::Bool(_) => Ok(Kind::Bool),
+        Value::Int(_) => Ok(Kind::Int),
+        Value::Text(_) => Ok(Kind::Text),
+        Value::List(items) => Ok(literal_items(alloc, items)?),
+        Value::Rec(fields) => Ok(literal_fields(alloc, fields)?),
+        Value::Opaque => Ok(Kind::Any),
+    }
+}
+
+#[cycle(literal_kind)]
+fn literal_items(alloc: Global, items: &Vec<Value>) -> Result<Kind, AllocError>
+    ensures { IfOk result (λ k. kind_view k ≡ lists (items_kind never (items_view items.now.items)) (count_of (items_view items.now.items))) }
+{
+    let mut joined = Kind::Never;
+    for item in items {
+        let kind = literal_kind(alloc, item)?;
+        joined = join(alloc, &joined, &kind)?;
+    }
+    Ok(Kind::List(Arc::new(alloc, joined)?, items.len()))
+}
+
+#[cycle(literal_kind)]
+fn literal_fields(alloc: Global, fields: &Fields) -> Result<Kind, AllocError>
+    ensures { IfOk result (λ k. kind_view k ≡ recs (fields_kind (fields_view fields.now.entries))) }
+{
+    let mut kinds = BTreeMap::new(alloc);
+    for (name, field) in fields.iter() {
+        let kind = literal_kind(alloc, field)?;
+        put(&mut kinds, name.clone()?, kind)?;
+    }
+    Ok(Kind::Rec(Arc::new(alloc, kinds)?))
+}

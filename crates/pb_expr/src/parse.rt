@@ -1,0 +1,341 @@
+// Expressions and templates, read from their texts.
+ghost use Rattle.std.specs.Prelude.{vec_len, ◌≡◌, ◌+◌, ◌<◌, ◌≤◌, length, IfOk, IfErr, IfSome};
+ghost use Rattle.pb_expr.specs.Place.{place_of, least_width};
+
+use crate::expr::{Expr, Path};
+use crate::fault::ExprFault;
+use crate::lexer::{Sort, Token, is_step, meaning_of, name_of, token_at};
+use pb_value::value::Value;
+use std::alloc::{AllocError, Global};
+
+/// How deep parentheses and `not` may nest.
+pub const DEPTH: usize = 32;
+
+/// How many steps a path may have.
+pub const STEPS: usize = 16;
+
+/// Reads an expression.
+pub fn parse_expr(alloc: Global, text: &str) -> Result<Expr, ExprFault>
+    ensures place { IfErr result (λ e. place_of e ≤ length text.now) }
+{
+    expr_from(alloc, text.as_bytes(), 0)
+}
+
+/// Reads a text that may have templates: without any it is a literal text, and one that is `{{ e }}` from its
+/// first byte to its last is the expression `e`.
+pub fn parse_template(alloc: Global, text: &str) -> Result<Expr, ExprFault>
+    ensures place { IfErr result (λ e. place_of e ≤ length text.now) }
+{
+    let bytes = text.as_bytes();
+    let Some(at) = opening_of(bytes) else {
+        let letters = String::from_str(alloc, text)?;
+        return Ok(Expr::Literal(Value::of_text(alloc, letters)?));
+    };
+    if bytes[at + 1] != b'{' {
+        return Err(ExprFault::Unreadable { at });
+    }
+    let Some(end) = closing_of(bytes, at + 2) else {
+        return Err(ExprFault::Unreadable { at: bytes.len() });
+    };
+    if at != 0 || end + 2 != bytes.len() {
+        return Err(ExprFault::NotBuilt);
+    }
+    expr_from(alloc, &bytes[..end], 2)
+}
+
+// The place of the first `{{`, `{%` or `{#`.
+fn opening_of(text: &[u8]) -> Option<usize>
+    ensures { IfSome result (λ at. at + 2 ≤ length text.now) }
+{
+    let mut at = 0;
+    while at + 1 < text.len() {
+        if text[at] == b'{' && is_opening(text[at + 1]) {
+            return Some(at);
+        }
+        at += 1;
+    }
+    None
+}
+
+fn is_opening(byte: u8) -> bool {
+    byte == b'{' || byte == b'%' || byte == b'#'
+}
+
+// The place of the first `}}` from there on that isn't inside a quoted text.
+fn closing_of(text: &[u8], from: usize) -> Option<usize>
+    requires { from ≤ length text.now }
+    ensures begins { IfSome result (λ at. from ≤ at) }
+    ensures ends { IfSome result (λ at. at + 2 ≤ length text.now) }
+{
+    let mut quote = None;
+    let mut at = from;
+    while at + 1 < text.len() {
+        let byte = text[at];
+        match quote {
+            None if byte == b'}' && text[at + 1] == b'}' => return Some(at),
+            None if byte == b'\'' || byte == b'"' => quote = Some(byte),
+            Some(_) if byte == b'\\' => at += 1,
+            Some(open) if byte == open => quote = None,
+            _ => {}
+        }
+        at += 1;
+    }
+    None
+}
+
+// The expression that the text is from there on.
+fn expr_from(alloc: Global, text: &[u8], from: usize) -> Result<Expr, ExprFault>
+    requires { from ≤ length text.now }
+    ensures place { IfErr result (λ e. place_of e ≤ length text.now) }
+{
+    let (expr, after) = or_at(alloc, text, token_at(text, from)?, DEPTH)?;
+    if after.sort != Sort::End {
+        return Err(ExprFault::Unreadable { at: after.start });
+    }
+    Ok(expr)
+}
+
+// A chain of `or` that begins with the token, and the token after it.
+#[cycle(parser)]
+fn or_at(alloc: Global, text: &[u8], token: Token, depth: usize) -> Result<(Expr, Token), ExprFault>
+    requires bounded { depth ≤ 32 }
+    requires wide { token.start + least_width token.sort ≤ token.end }
+    requires within { token.end ≤ length text.now }
+    ensures begins { IfOk result (λ r. token.start < r.1.start) }
+    ensures ends { IfOk result (λ r. r.1.end ≤ length text.now) }
+    ensures wide { IfOk result (λ r. r.1.start + least_width r.1.sort ≤ r.1.end) }
+    ensures place { IfErr result (λ e. place_of e ≤ length text.now) }
+{
+    let (first, mut after) = and_at(alloc, text, token, depth)?;
+    if after.sort != Sort::Or {
+        return Ok((first, after));
+    }
+    let mut operands = Vec::new(alloc);
+    operands.push(first)?;
+    'operands: while after.sort == Sort::Or {
+        let (operand, next) = and_at(alloc, text, token_at(text, after.end)?, depth)?;
+        operands.push(operand)?;
+        after = next;
+    }
+    Ok((Expr::Or(operands), after))
+}
+
+// A chain of `and` that begins with the token, and the token after it.
+#[cycle(parser)]
+fn and_at(
+    alloc: Global,
+    text: &[u8],
+    token: Token,
+    depth: usize,
+) -> Result<(Expr, Token), ExprFault>
+    requires bounded { depth ≤ 32 }
+    requires wide { token.start + least_width token.sort ≤ token.end }
+    requires within { token.end ≤ length text.now }
+    ensures begins { IfOk result (λ r. token.start < r.1.start) }
+    ensures ends { IfOk result (λ r. r.1.end ≤ length text.now) }
+    ensures wide { IfOk result (λ r. r.1.start + least_width r.1.sort ≤ r.1.end) }
+    ensures place { IfErr result (λ e. place_of e ≤ length text.now) }
+{
+    let (first, mut after) = not_at(alloc, text, token, depth)?;
+    if after.sort != Sort::And {
+        return Ok((first, after));
+    }
+    let mut operands = Vec::new(alloc);
+    operands.push(first)?;
+    'operands: while after.sort == Sort::And {
+        let (operand, next) = not_at(alloc, text, token_at(text, after.end)?, depth)?;
+        operands.push(operand)?;
+        after = next;
+    }
+    Ok((Expr::And(operands), after))
+}
+
+// A negation or a relation that begins with the token, and the token after it.
+#[cycle(parser)]
+fn not_at(
+    alloc: Global,
+    text: &[u8],
+    token: Token,
+    depth: usize,
+) -> Result<(Expr, Token), ExprFault>
+    requires bounded { depth ≤ 32 }
+    requires wide { token.start + least_width token.sort ≤ token.end }
+    requires within { token.end ≤ length text.now }
+    ensures begins { IfOk result (λ r. token.start < r.1.start) }
+    ensures ends { IfOk result (λ r. r.1.end ≤ length text.now) }
+    ensures wide { IfOk result (λ r. r.1.start + least_width r.1.sort ≤ r.1.end) }
+    ensures place { IfErr result (λ e. place_of e ≤ length text.now) }
+{
+    if token.sort != Sort::Not {
+        return relation_at(alloc, text, token, depth);
+    }
+    if depth == 0 {
+        return Err(ExprFault::TooDeep);
+    }
+    let (operand, after) = not_at(alloc, text, token_at(text, token.end)?, depth - 1)?;
+    Ok((Expr::Not(Box::new(alloc, operand)?), after))
+}
+
+// An operand, or two and what relates them.
+#[cycle(parser)]
+fn relation_at(
+    alloc: Global,
+    text: &[u8],
+    token: Token,
+    depth: usize,
+) -> Result<(Expr, Token), ExprFault>
+    requires bounded { depth ≤ 32 }
+    requires wide { token.start + least_width token.sort ≤ token.end }
+    requires within { token.end ≤ length text.now }
+    ensures begins { IfOk result (λ r. token.start < r.1.start) }
+    ensures ends { IfOk result (λ r. r.1.end ≤ length text.now) }
+    ensures wide { IfOk result (λ r. r.1.start + least_width r.1.sort ≤ r.1.end) }
+    ensures place { IfErr result (λ e. place_of e ≤ length text.now) }
+{
+    let (left, sign) = operand_at(alloc, text, token, depth)?;
+    match sign.sort {
+        Sort::Equal | Sort::Unequal | Sort::In => {
+            let (right, after) = operand_at(alloc, text, token_at(text, sign.end)?, depth)?;
+            Ok((related(alloc, sign.sort, left, right)?, after))
+        }
+        Sort::Order | Sort::Is | Sort::Not => Err(ExprFault::NotBuilt),
+        _ => Ok((left, sign)),
+    }
+}
+
+fn related(alloc: Global, sort: Sort, left: Expr, right: Expr) -> Result<Expr, AllocError> {
+    let left = Box::new(alloc, left)?;
+    let right = Box::new(alloc, right)?;
+    match sort {
+        Sort::Equal => Ok(Expr::Equal(left, right)),
+        Sort::Unequal => Ok(Expr::Unequal(left, right)),
+        _ => Ok(Expr::In(left, right)),
+    }
+}
+
+// A literal, a path or an expression in parentheses.
+#[cycle(parser)]
+fn operand_at(
+    alloc: Global,
+    text: &[u8],
+    token: Token,
+    depth: usize,
+) -> Result<(Expr, Token), ExprFault>
+    requires bounded { depth ≤ 32 }
+    requires wide { token.start + least_width token.sort ≤ token.end }
+    requires within { token.end ≤ length text.now }
+    ensures begins { IfOk result (λ r. token.start < r.1.start) }
+    ensures ends { IfOk result (λ r. r.1.end ≤ length text.now) }
+    ensures wide { IfOk result (λ r. r.1.start + least_width r.1.sort ≤ r.1.end) }
+    ensures place { IfErr result (λ e. place_of e ≤ length text.now) }
+{
+    let (operand, after) = match token.sort {
+        Sort::Open => inside(alloc, text, token, depth)?,
+        Sort::Name => path_at(alloc, text, token)?,
+        _ => {
+            let literal = literal_of(alloc, text, token)?;
+            (Expr::Literal(literal), token_at(text, token.end)?)
+        }
+    };
+    if after.sort == Sort::Pipe {
+        return Err(ExprFault::NotBuilt);
+    }
+    Ok((operand, after))
+}
+
+// What stands in the parentheses that the token opens.
+#[cycle(parser)]
+fn inside(
+    alloc: Global,
+    text: &[u8],
+    token: Token,
+    depth: usize,
+) -> Result<(Expr, Token), ExprFault>
+    requires bounded { depth ≤ 32 }
+    requires wide { token.start < token.end }
+    requires within { token.end ≤ length text.now }
+    ensures begins { IfOk result (λ r. token.start < r.1.start) }
+    ensures ends { IfOk result (λ r. r.1.end ≤ length text.now) }
+    ensures wide { IfOk result (λ r. r.1.start + least_width r.1.sort ≤ r.1.end) }
+    ensures place { IfErr result (λ e. place_of e ≤ length text.now) }
+{
+    if depth == 0 {
+        return Err(ExprFault::TooDeep);
+    }
+    let (expr, close) = or_at(alloc, text, token_at(text, token.end)?, depth - 1)?;
+    if close.sort != Sort::Close {
+        return Err(ExprFault::Unreadable { at: close.start });
+    }
+    Ok((expr, token_at(text, close.end)?))
+}
+
+// The value that a token spells.
+fn literal_of(alloc: Global, text: &[u8], token: Token) -> Result<Value, ExprFault>
+    requires wide { token.start + least_width token.sort ≤ token.end }
+    requires within { token.end ≤ length text.now }
+    ensures wide { IfOk result (λ _. token.start < token.end) }
+    ensures place { IfErr result (λ e. place_of e ≤ length text.now) }
+{
+    match token.sort {
+        Sort::Int(number) => Ok(Value::Int(number)),
+        Sort::True => Ok(Value::Bool(true)),
+        Sort::False => Ok(Value::Bool(false)),
+        Sort::Text => Ok(Value::of_text(alloc, meaning_of(alloc, text, token)?)?),
+        Sort::None | Sort::Bracket => Err(ExprFault::NotBuilt),
+        _ => Err(ExprFault::Unreadable { at: token.start }),
+    }
+}
+
+// The path that begins with the token, and the token after it.
+fn path_at(alloc: Global, text: &[u8], token: Token) -> Result<(Expr, Token), ExprFault>
+    requires wide { token.start < token.end }
+    requires within { token.end ≤ length text.now }
+    ensures begins { IfOk result (λ r. token.start < r.1.start) }
+    ensures ends { IfOk result (λ r. r.1.end ≤ length text.now) }
+    ensures wide { IfOk result (λ r. r.1.start + least_width r.1.sort ≤ r.1.end) }
+    ensures place { IfErr result (λ e. place_of e ≤ length text.now) }
+{
+    if is_special(&text[token.start..token.end]) {
+        return Err(ExprFault::NotBuilt);
+    }
+    let root = name_of(alloc, text, token)?;
+    let (steps, after) = steps_at(alloc, text, token_at(text, token.end)?)?;
+    if after.sort == Sort::Bracket {
+        return Err(ExprFault::NotBuilt);
+    }
+    Ok((Expr::Path(Path { root, steps }), after))
+}
+
+// A root whose paths have forms of their own.
+fn is_special(root: &[u8]) -> bool {
+    match root {
+        b"groups" | b"hostvars" | b"ansible_play_batch" => true,
+        _ => false,
+    }
+}
+
+// The steps from the token on, and the token after them.
+fn steps_at(alloc: Global, text: &[u8], token: Token) -> Result<(Vec<String>, Token), ExprFault>
+    requires wide { token.start + least_width token.sort ≤ token.end }
+    requires within { token.end ≤ length text.now }
+    ensures short { IfOk result (λ r. vec_len r.0 ≤ 16) }
+    ensures begins { IfOk result (λ r. token.start ≤ r.1.start) }
+    ensures ends { IfOk result (λ r. r.1.end ≤ length text.now) }
+    ensures wide { IfOk result (λ r. r.1.start + least_width r.1.sort ≤ r.1.end) }
+    ensures place { IfErr result (λ e. place_of e ≤ length text.now) }
+{
+    let mut steps = Vec::new(alloc);
+    let mut after = token;
+    'steps: while after.sort == Sort::Dot {
+        let name = token_at(text, after.end)?;
+        if !is_step(name.sort) {
+            return Err(ExprFault::Unreadable { at: name.start });
+        }
+        if steps.len() >= STEPS {
+            return Err(ExprFault::TooDeep);
+        }
+        steps.push(name_of(alloc, text, name)?)?;
+        after = token_at(text, name.end)?;
+    }
+    Ok((steps, after))
+}

@@ -1,0 +1,102 @@
+// The hosts of a run in their order, and the groups that they stand in.
+ghost use Rattle.std.specs.Prelude.{◌≡◌, ◌<◌, ◌≤◌, IfOk, Some, length, map, option_map, slice_get, string_bytes};
+ghost use Rattle.indexmap.specs.IndexMap.{index_map_len};
+ghost use Rattle.pb_value.specs.View.{fields_view};
+ghost use Rattle.pb_inventory.specs.Hosts.{one_host};
+
+use indexmap::IndexMap;
+use pb_value::value::Fields;
+use std::alloc::{AllocError, Global};
+use std::sync::Arc;
+
+/// What is known of a host.
+#[derive(Drop)]
+struct Host {
+    /// The names of its groups but `all`, in the order of their bytes.
+    groups: Vec<Arc<String>>,
+    vars: Fields,
+}
+
+/// The hosts of a run in host order, at most 1,024, and the groups. A host is named by its place in that order.
+#[derive(Drop)]
+pub struct Inventory {
+    hosts: IndexMap<String, Host>,
+    groups: IndexMap<String, Vec<usize>>,
+    ghost few: { index_map_len hosts ≤ 1024 },
+}
+
+impl Inventory {
+    ghost use Rattle.pb_inventory.specs.Inventory.{inventory_view, group_at};
+
+    /// How many hosts there are.
+    pub fn hosts(&self) -> usize
+        ensures count { result ≡ length (inventory_view self.now).hosts }
+        ensures few { result ≤ 1024 }
+    {
+        self.hosts.len()
+    }
+
+    /// The name of the host.
+    pub fn host_name(&self, host: usize) -> &str
+        requires { host < length (inventory_view self.now).hosts }
+        ensures { option_map (λ h. h.name) (slice_get (inventory_view self.now).hosts host)
+            ≡ Some result.now }
+    {
+        match self.hosts.get_index(host) {
+            Some((name, _)) => name.as_str(),
+            None => unreachable!(),
+        }
+    }
+
+    /// The names of the host's groups but `all`, in the order of their bytes.
+    pub fn group_names(&self, host: usize) -> &[Arc<String>]
+        requires { host < length (inventory_view self.now).hosts }
+        ensures { option_map (λ h. h.groups) (slice_get (inventory_view self.now).hosts host)
+            ≡ Some (map (λ n. string_bytes n.value) result.now) }
+    {
+        match self.hosts.get_index(host) {
+            Some((_, known)) => known.groups.as_slice(),
+            None => unreachable!(),
+        }
+    }
+
+    /// The variables that the host has before anything is run.
+    pub fn vars_of(&self, host: usize) -> &Fields
+        requires { host < length (inventory_view self.now).hosts }
+        ensures { option_map (λ h. h.vars) (slice_get (inventory_view self.now).hosts host)
+            ≡ Some (fields_view result.now.entries) }
+    {
+        match self.hosts.get_index(host) {
+            Some((_, known)) => &known.vars,
+            None => unreachable!(),
+        }
+    }
+
+    /// The places of the group's hosts in host order, or none where there is no such group.
+    pub fn group_hosts(&self, name: &str) -> Option<&[usize]>
+        ensures { option_map (λ g. g.now) result
+            ≡ group_at name.now (inventory_view self.now).groups }
+    {
+        match self.groups.get(name) {
+            Some(places) => Some(places.as_slice()),
+            None => None,
+        }
+    }
+
+    /// The inventory of one host, which stands in no group of its own.
+    pub(crate) fn of_one(alloc: Global, name: String) -> Result<Inventory, AllocError>
+        ensures { IfOk result (λ i. inventory_view i ≡ one_host (string_bytes name)) }
+    {
+        let ungrouped = Arc::new(alloc, String::from_str(alloc, "ungrouped")?)?;
+        let known = Host {
+            groups: vec![in alloc; ungrouped]?,
+            vars: Fields::new(alloc),
+        };
+        let mut hosts = IndexMap::new(alloc);
+        drop(hosts.insert(name, known)?);
+        let mut groups = IndexMap::new(alloc);
+        drop(groups.insert(String::from_str(alloc, "all")?, vec![in alloc; 0]?)?);
+        drop(groups.insert(String::from_str(alloc, "ungrouped")?, vec![in alloc; 0]?)?);
+        Ok(Inventory { hosts, groups })
+    }
+}

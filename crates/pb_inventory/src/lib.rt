@@ -1,0 +1,7 @@
+// The hosts and groups of a run.
+#![tactic(auto)]
+
+pub mod inventory;
+pub mod read;
+#[cfg(test)]
+mod tests;

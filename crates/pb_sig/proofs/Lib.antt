@@ -1,0 +1,4 @@
+pub mod Slots
+pub mod Found
+pub mod Copies
+pub mod Ended

@@ -1,0 +1,7 @@
+pub mod Signature
+pub mod Views
+pub mod Modules
+pub mod Rows
+pub mod Table
+pub mod Admission
+pub mod AdmissionView

@@ -1,0 +1,19 @@
+-- What modules mean, and which one a name finds.
+use Rattle.std.specs.Prelude.{ℕ, List, [], ◌∷◌, Option, Some, None, cond, map, string_bytes}
+use Rattle.std.specs.Str.{bytes_eq}
+use Rattle.pb_value.specs.KindView.{kind_view}
+use Rattle.pb_sig.specs.Signature.{ModuleData}
+use Rattle.pb_sig.specs.Views.{parameter_view}
+use Rattle.pb_sig.specs.declared.builtin.Builtin.{Builtin}
+use Rattle.pb_sig.specs.declared.registry.Registry.{Registry}
+
+abbrev pub builtin_view : Builtin → ModuleData
+builtin_view m = record { name = string_bytes m.name.value; params = map parameter_view m.parameters.items; ok = kind_view m.ok; failure = kind_view m.failure }
+
+abbrev pub modules_of : Registry → List ModuleData
+modules_of r = map builtin_view r.modules.items
+
+-- the first module of that name
+abbrev pub module_at : List ℕ → List ModuleData → Option ModuleData
+module_at n [] = None
+module_at n (m ∷ ms) = cond (bytes_eq m.name n) (Some m) (module_at n ms)

@@ -1,0 +1,130 @@
+// Which answers of a module are admitted, and as what.
+ghost use Rattle.std.specs.Prelude.{◌≡◌, IfOk, Some, option_map, codes};
+ghost use Rattle.pb_semantics.specs.Data.{boolean, field_value, put_field, rec};
+ghost use Rattle.pb_value.specs.View.{view, fields_view};
+ghost use Rattle.pb_sig.specs.Admission.{admission, changed_fields, ended, failed_of};
+ghost use Rattle.pb_sig.specs.AdmissionView.{admission_view};
+
+use crate::signature::Module;
+use pb_value::project::project;
+use pb_value::value::{Fields, Value};
+use std::alloc::{AllocError, Global};
+use std::sync::Arc;
+
+/// What is made of an answer.
+#[derive(Drop)]
+pub enum Admission {
+    /// The kept fields of an answer that isn't failed, with `changed` and `failed`.
+    Ok(Value),
+    /// The kept fields of a failed answer, with `changed` and `failed`.
+    Failed(Value),
+    /// The answer isn't what the module may give.
+    Breach,
+}
+
+/// Admits an answer. `failed`, false where it is absent, has to be a truth value, and says which shape
+/// counts; `changed` is false where it is absent. Fields that the shape doesn't name are dropped at
+/// every depth, and the rest has to keep the shape.
+pub fn admit<M: Module>(alloc: Global, source: &M, answer: &Value) -> Result<Admission, AllocError>
+    ensures { IfOk result (λ a. admission_view a
+        ≡ admission (M.meaning source.now).ok (M.meaning source.now).failure (view answer.now)) }
+{
+    let Value::Rec(fields) = answer else {
+        return Ok(Admission::Breach);
+    };
+    match failed_in(fields) {
+        Some(true) => ended_as(
+            alloc,
+            true,
+            project(alloc, &with_changed(alloc, fields)?, source.fail_shape())?,
+        ),
+        Some(false) => ended_as(
+            alloc,
+            false,
+            project(alloc, &with_changed(alloc, fields)?, source.ok_shape())?,
+        ),
+        None => Ok(Admission::Breach),
+    }
+}
+
+/// The field `failed`, false where it is absent; none where it is no truth value.
+fn failed_in(fields: &Fields) -> Option<bool>
+    ensures { result ≡ failed_of (field_value (codes "failed") (fields_view fields.now.entries)) }
+{
+    match field_of(fields, "failed") {
+        None => Some(false),
+        Some(Value::Bool(failed)) => Some(*failed),
+        Some(_) => None,
+    }
+}
+
+fn field_of<'v>(fields: &'v Fields, name: &str) -> Option<&'v Value>
+    ensures { option_map (λ v. view v.now) result
+        ≡ field_value name.now (fields_view fields.now.entries) }
+{
+    fields.get(name)
+}
+
+/// The record with `changed`, false where it was absent.
+fn with_changed(alloc: Global, fields: &Arc<Fields>) -> Result<Value, AllocError>
+    ensures { IfOk result (λ v. view v
+        ≡ rec (changed_fields (fields_view fields.now.value.entries))) }
+{
+    if field_of(fields, "changed").is_some() {
+        return Ok(Value::Rec(fields.clone()?));
+    }
+    let unchanged = put(alloc, copy_of(fields)?, "changed", false)?;
+    Value::of_fields(alloc, unchanged)
+}
+
+/// The answer with what is kept of it.
+fn ended_as(alloc: Global, failed: bool, kept: Option<Value>) -> Result<Admission, AllocError>
+    ensures { IfOk result (λ a. admission_view a ≡ ended failed (option_map view kept)) }
+{
+    match kept {
+        Some(value) => kept_as(alloc, failed, value),
+        None => Ok(Admission::Breach),
+    }
+}
+
+fn kept_as(alloc: Global, failed: bool, kept: Value) -> Result<Admission, AllocError>
+    ensures { IfOk result (λ a. admission_view a ≡ ended failed (Some (view kept))) }
+{
+    match kept {
+        Value::Rec(fields) => {
+            let value = Value::of_fields(alloc, put(alloc, owned(fields)?, "failed", failed)?)?;
+            if failed {
+                Ok(Admission::Failed(value))
+            } else {
+                Ok(Admission::Ok(value))
+            }
+        }
+        _ => Ok(Admission::Breach),
+    }
+}
+
+/// The fields with that flag.
+fn put(alloc: Global, fields: Fields, name: &str, flag: bool) -> Result<Fields, AllocError>
+    ensures { IfOk result (λ m. fields_view m.entries
+        ≡ put_field name.now (boolean flag) (fields_view fields.entries)) }
+{
+    let mut fields = fields;
+    drop(fields.insert(String::from_str(alloc, name)?, Value::Bool(flag))?);
+    Ok(fields)
+}
+
+/// The fields, copied where someone else holds them too.
+fn owned(fields: Arc<Fields>) -> Result<Fields, AllocError>
+    ensures { IfOk result (λ m. fields_view m.entries ≡ fields_view fields.value.entries) }
+{
+    match Arc::try_unwrap(fields) {
+        Ok(fields) => Ok(fields),
+        Err(shared) => copy_of(&shared),
+    }
+}
+
+fn copy_of(fields: &Fields) -> Result<Fields, AllocError>
+    ensures { IfOk result (λ m. fields_view m.entries ≡ fields_view fields.now.entries) }
+{
+    Ok(fields.clone()?)
+}

@@ -1,0 +1,10 @@
+// The modules that a task can name: their parameters, the shapes of their answers, and the admission of answers.
+#![tactic(auto)]
+
+pub mod admission;
+pub mod builtin;
+pub mod registry;
+pub mod rows;
+pub mod signature;
+#[cfg(test)]
+mod tests;

@@ -1,0 +1,37 @@
+// The modules of a run, found by their names.
+ghost use Rattle.std.specs.Prelude.{◌≡◌, IfOk, option_map};
+ghost use Rattle.pb_sig.specs.Modules.{builtin_view, modules_of, module_at};
+ghost use Rattle.pb_sig.specs.Table.{builtins};
+
+use crate::builtin::Builtin;
+use crate::signature::Module;
+use std::alloc::{AllocError, Global};
+
+/// The modules of a run, each name once.
+#[derive(Drop)]
+pub struct Registry {
+    modules: Vec<Builtin>,
+}
+
+impl Registry {
+    /// The modules that are there in every run.
+    pub fn builtin(alloc: Global) -> Result<Registry, AllocError>
+        ensures { IfOk result (λ r. modules_of r ≡ builtins) }
+    {
+        let modules = vec![in alloc; Builtin::command(alloc)?, Builtin::ping(alloc)?]?;
+        Ok(Registry { modules })
+    }
+
+    /// The module of that name, or none where there is none.
+    pub fn find(&self, name: &str) -> Option<&Builtin>
+        ensures { option_map (λ m. builtin_view m.now) result
+            ≡ module_at name.now (modules_of self.now) }
+    {
+        for found in &self.modules {
+            if found.name() == name {
+                return Some(found);
+            }
+        }
+        None
+    }
+}

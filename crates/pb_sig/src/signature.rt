@@ -1,0 +1,40 @@
+// What is known of a module before it is called.
+ghost use Rattle.std.specs.Prelude.{◌≡◌, true, map};
+ghost use Rattle.pb_value.specs.KindView.{kind_view};
+ghost use Rattle.pb_sig.specs.Signature.{ModuleData, is_shape, is_failure_shape};
+
+use pb_value::kind::Kind;
+
+/// A parameter of a module.
+#[derive(Drop)]
+pub struct Parameter {
+    pub name: String,
+    pub kind: Kind,
+    /// Whether each call has to give it.
+    pub required: bool,
+}
+
+/// A module that a task can name.
+pub trait Module {
+    ghost use Rattle.pb_sig.specs.Views.{parameter_view};
+
+    ghost meaning: { Self → ModuleData };
+
+    fn name(&self) -> &str
+        ensures { result.now ≡ (meaning self.now).name };
+
+    /// Each parameter once.
+    fn params(&self) -> &[Parameter]
+        ensures { map parameter_view result.now ≡ (meaning self.now).params };
+
+    /// The fields of an answer that isn't failed: a record that holds no result, with the truth value
+    /// `changed` always there, and without a field `failed`.
+    fn ok_shape(&self) -> &Kind
+        ensures gives { kind_view result.now ≡ (meaning self.now).ok }
+        ensures lawful { is_shape (kind_view result.now) ≡ true };
+
+    /// The fields of a failed answer: as an `ok_shape`, and the text `msg` is always there.
+    fn fail_shape(&self) -> &Kind
+        ensures gives { kind_view result.now ≡ (meaning self.now).failure }
+        ensures lawful { is_failure_shape (kind_view result.now) ≡ true };
+}

@@ -1,0 +1,53 @@
+-- A run that goes on by one event.
+use Rattle.std.proofs.Common.{◌≡◌, ◌<◌, List, [], ◌∷◌, ◌++◌, Bool, true, false, ◌||◌, length, vec_capacity, refl, sym, ap, ◌∙◌}
+use Rattle.pb_strategy.specs.History.{RunState, after, is_stop, is_stopped, is_turn, is_turned, is_over, has_no_plays}
+use Rattle.pb_strategy.specs.Inside.{IsRun, run_state, is_phase_over}
+use Rattle.pb_book.specs.Books.{plays_of}
+use Rattle.pb_strategy.specs.declared.event.Event.{Event}
+use Rattle.pb_strategy.specs.declared.event.Event.TheVariants.{Turn, Stop}
+use Rattle.pb_strategy.specs.declared.run.Phase.TheVariants as phase
+use Rattle.pb_strategy.specs.declared.run.Run.TheInside.{Inside}
+
+pub or-false : (a : Bool) → a || false ≡ a
+or-false true = refl
+or-false false = refl
+
+or-assoc : (a b c : Bool) → a || (b || c) ≡ (a || b) || c
+or-assoc true b c = refl
+or-assoc false b c = refl
+
+pub is_stopped-more : (es : List Event) (e : Event) → is_stopped (es ++ e ∷ []) ≡ is_stopped es || is_stop e
+is_stopped-more [] e = or-false (is_stop e)
+is_stopped-more (x ∷ es) e = ap (λ b. is_stop x || b) (is_stopped-more es e) ∙ or-assoc (is_stop x) (is_stopped es) (is_stop e)
+
+pub is_turned-more : (es : List Event) (e : Event) → is_turned (es ++ e ∷ []) ≡ is_turned es || is_turn e
+is_turned-more [] e = or-false (is_turn e)
+is_turned-more (x ∷ es) e = ap (λ b. is_turn x || b) (is_turned-more es e) ∙ or-assoc (is_turn x) (is_turned es) (is_turn e)
+
+-- an event that is neither a Stop nor a Turn leaves a run as over as it was
+pub is_over-more : (r : RunState) (e : Event) → is_stop e ≡ false → is_turn e ≡ false → is_over (after r e) ≡ is_over r
+is_over-more r e unlike other =
+    rw (is_stopped-more r.history e, is_turned-more r.history e, unlike, other, or-false (is_stopped r.history), or-false (is_turned r.history)) refl
+
+or-true : (a : Bool) → a || true ≡ true
+or-true true = refl
+or-true false = refl
+
+pub is_stopped-stop : (es : List Event) → is_stopped (es ++ Stop ∷ []) ≡ true
+is_stopped-stop es = is_stopped-more es Stop ∙ or-true (is_stopped es)
+
+pub is_over-stop : (r : RunState) → is_over (after r Stop) ≡ true
+is_over-stop r = rw (is_stopped-stop r.history) refl
+
+pub is_over-turn : (r : RunState) → is_over (after r Turn) ≡ true
+is_over-turn r =
+    rw (is_turned-more r.history Turn, or-true (is_turned r.history), or-true (has_no_plays (plays_of r.checked.book))) (or-true (is_stopped (r.history ++ Turn ∷ [])))
+
+-- after a Start or a Give, in the same phase
+pub goes_on : (a b : Inside) (e : Event) → IsRun a → is_stop e ≡ false → is_turn e ≡ false → run_state b ≡ after (run_state a) e → b.phase ≡ a.phase
+    → b.history.items ≡ a.history.items ++ e ∷ [] → length b.history.items < vec_capacity b.history → IsRun b
+goes_on a b e i unlike other next same items room = record {
+  room = λ _. room;
+  stopped = rw (items, is_stopped-more a.history.items e, unlike, or-false (is_stopped a.history.items), same) i.stopped;
+  over = ap is_over next ∙ is_over-more (run_state a) e unlike other ∙ i.over ∙ ap is_phase_over (sym same);
+}

@@ -1,0 +1,16 @@
+use Rattle.std.proofs.Common.{◌≡◌, false, refl, ap, ◌∙◌, rules}
+use Rattle.pb_strategy.specs.History.{RunState, is_stopped}
+use Rattle.pb_strategy.specs.Inside.{run_state}
+use Rattle.pb_strategy.specs.declared.event.Event.TheVariants.{Turn}
+use Rattle.pb_strategy.proofs.Histories.{is_stopped-more, or-false, is_over-turn}
+use Rattle.pb_strategy.proofs.run.Run.turn.Goals as goal
+
+pub invariant_of-self-2 : goal.invariant_of-self-2
+invariant_of-self-2 c =
+    let kept : c.reserve.new.self.items ≡ c.self.inside.history.items = search rules in
+    let before : is_stopped c.self.inside.history.items ≡ false = ap (λ (r : RunState). is_stopped r.history) c.self.view_is ∙ c.requires in
+    let items = rw kept at c.push_reserved.ensures.items in record {
+      room = λ e. cc;
+      stopped = ap is_stopped items ∙ is_stopped-more c.self.inside.history.items Turn ∙ or-false (is_stopped c.self.inside.history.items) ∙ before;
+      over = rw items (is_over-turn (run_state c.self.inside));
+    }

@@ -1,0 +1,441 @@
+// The run: where each host stands, and the history that brought it there.
+ghost use Rattle.std.specs.Prelude.{◌≡◌, ◌<◌, ◌++◌, ◌∷◌, [], length, IfOk, IfErr, IsErr, OnErr, OnOk, Some, option_map, slice_get, true, false};
+ghost use Rattle.pb_inventory.specs.Inventory.{inventory_view};
+ghost use Rattle.pb_strategy.specs.History.{RunState, after, IsAfterTake, is_stopped, is_ended, is_over};
+
+use crate::answer::{Answer, Call, Job};
+use crate::event::{Event, GiveError, Given, Taken};
+use crate::host::{HostState, Pending, Stage};
+use crate::outcome::{FixedResults, Outcome, Started, finish, start};
+use crate::recap::Recap;
+use pb_book::book::Task;
+use pb_verify::checked::Checked;
+use std::alloc::{AllocError, Global};
+use std::marker::Model;
+
+/// Whether anything can still happen.
+#[derive(Clone, Copy, PartialEq, Eq, Debug)]
+enum Phase {
+    Going,
+    Ended,
+    Stopped,
+}
+
+/// A run of an accepted book. Contracts see the book, the fork count and the history.
+#[derive(Drop)]
+pub struct Run {
+    checked: Checked,
+    forks: usize,
+    history: Vec<Event>,
+    hosts: Vec<HostState>,
+    fixed: FixedResults,
+    phase: Phase,
+}
+
+impl Model for Run {
+    ghost use Rattle.pb_strategy.specs.History.{RunState};
+    ghost use Rattle.pb_strategy.specs.Inside.{run_state, IsRun};
+    ghost use Rattle.pb_value.specs.contracts.value.Value as value;
+    ghost use Rattle.pb_value.specs.contracts.kind.Kind as kind;
+    ghost use Rattle.pb_expr.specs.contracts.expr.Expr as expr;
+    ghost use Rattle.std.specs.Coded.{codes};
+    ghost use Rattle.std_collections.specs.Layout.BTreeMap.{btree_map_code};
+    ghost use Rattle.std_collections.specs.Layout.HashMap.{hash_map_code};
+
+    ghost Value = { RunState };
+
+    ghost coded = { Prim.hlevel
+        (codes, btree_map_code, hash_map_code, value.the_row.coded, kind.the_row.coded, expr.the_row.coded) };
+
+    ghost view = { run_state };
+
+    ghost invariant = { IsRun };
+}
+
+impl Run {
+    /// A run in which nothing has happened yet. At most `forks` hosts have a job out at one time.
+    pub fn open(alloc: Global, checked: &Checked, forks: usize) -> Result<Run, AllocError>
+        ensures { IfOk result (λ r. r ≡ record { checked = checked.now; forks = forks; history = [] }) }
+    {
+        let phase = if checked.book().plays().is_empty() {
+            Phase::Ended
+        } else {
+            Phase::Going
+        };
+        Ok(Run {
+            checked: checked.clone()?,
+            forks,
+            history: Vec::with_capacity(alloc, 1)?,
+            hosts: opening_hosts(alloc, checked)?,
+            fixed: FixedResults::new(alloc)?,
+            phase,
+        })
+    }
+
+    /// What there is to do: the job of the ready host with the lowest place, ties by host order, or why there is none.
+    /// A batch that is over is turned. Where memory is refused nothing has happened.
+    pub fn take(&mut self) -> Result<Taken, AllocError>
+        ensures taken { IfOk result (λ t. IsAfterTake t self.old self.new) }
+        ensures err { OnErr result (self.new ≡ self.old) }
+        ensures stopped { is_stopped self.old.history ≡ true → result ≡ Ok Taken.Stopped }
+        ensures ended { is_stopped self.old.history ≡ false → is_ended self.old ≡ true
+            → (result ≡ Ok Taken.Finished) × (self.new ≡ self.old) }
+    {
+        match self.phase {
+            Phase::Stopped => return Ok(Taken::Stopped),
+            Phase::Ended => return Ok(Taken::Finished),
+            Phase::Going => {}
+        }
+        let tasks = tasks_of(&self.checked);
+        if let Some(host) = ready_host(&self.hosts, tasks, self.forks) {
+            let job = self.begin(host)?;
+            return Ok(Taken::Job(job));
+        }
+        if running(&self.hosts) > 0 {
+            return Ok(Taken::Idle);
+        }
+        self.turn()?;
+        Ok(Taken::Finished)
+    }
+
+    // Starts the next task of a host that is ready.
+    fn begin(&mut self, host: usize) -> Result<Job, AllocError>
+        requires { is_stopped self.old.history ≡ false }
+        ensures job { IfOk result (λ j. (self.new ≡ after self.old (Event.Start host))
+            × (j.host ≡ host) × (j.ticket ≡ length self.old.history)) }
+        ensures err { OnErr result (self.new ≡ self.old) }
+    {
+        let alloc = *self.history.allocator();
+        let ticket = self.history.len();
+        let begun = begin_on(alloc, &self.checked, &self.hosts, host)?;
+        self.history.reserve(2)?;
+        self.history.push_reserved(Event::Start(host));
+        let Begun { pending, calls } = begun;
+        set_running(&mut self.hosts, host, Stage::Running { ticket, pending }, calls.len());
+        Ok(Job { ticket, host, calls })
+    }
+
+    /// The answers to a job, in the order of its calls; what stands in the job beside its ticket and host isn't looked at.
+    /// Refused where the run is stopped, then where no job of that ticket and host is out, then for want of memory:
+    /// job and answers come back then, and nothing has happened.
+    pub fn give(&mut self, job: Job, answers: Vec<Answer>) -> Result<Given, (GiveError, Job, Vec<Answer>)>
+        ensures done { OnOk result (self.new ≡ after self.old (Event.Give job.host answers)) }
+        ensures err { OnErr result (self.new ≡ self.old) }
+        ensures back { IfErr result (λ e. (e.1 ≡ job) × (e.2 ≡ answers)) }
+        ensures stopped { is_stopped self.old.history ≡ true → IfErr result (λ e. e.0 ≡ GiveError.Stopped) }
+        ensures refused { is_stopped self.old.history ≡ true → IsErr result }
+        ensures stopped_only { IfErr result (λ e. e.0 ≡ GiveError.Stopped → is_stopped self.old.history ≡ true) }
+    {
+        if let Phase::Stopped = self.phase {
+            return Err((GiveError::Stopped, job, answers));
+        }
+        let found = match (self.hosts.get(job.host), task_of(&self.checked, &self.hosts, job.host)) {
+            (Some(state), Some(task)) if state.is_running(job.ticket) => {
+                outcome_of(&self.checked, &self.fixed, state, task, &answers)
+            }
+            _ => return Err((GiveError::Stranger, job, answers)),
+        };
+        let Ok(found) = found else {
+            return Err((GiveError::NoMemory, job, answers));
+        };
+        if self.history.reserve(2).is_err() || room_for(&mut self.hosts, job.host, &found).is_err() {
+            return Err((GiveError::NoMemory, job, answers));
+        }
+        self.history.push_reserved(Event::Give(job.host, answers));
+        settle(&mut self.hosts, job.host, found);
+        Ok(Given::Done)
+    }
+
+    /// Stops the run; nothing where it is stopped or has ended. There is always room for this event.
+    pub fn stop(&mut self)
+        ensures going { is_over self.old ≡ false → self.new ≡ after self.old Event.Stop }
+        ensures over { is_over self.old ≡ true → self.new ≡ self.old }
+        ensures ends { is_over self.new ≡ true }
+    {
+        if let Phase::Going = self.phase {
+            self.history.push_reserved(Event::Stop);
+            self.phase = Phase::Stopped;
+        }
+    }
+
+    /// What has happened, in order.
+    pub fn history(&self) -> &[Event]
+        ensures { result.now ≡ self.now.history }
+    {
+        self.history.as_slice()
+    }
+
+    /// How many hosts the inventory has.
+    pub fn hosts(&self) -> usize
+        ensures { result ≡ length (inventory_view self.now.checked.inventory).hosts }
+    {
+        self.checked.hosts()
+    }
+
+    /// The name of the host.
+    pub fn host_name(&self, host: usize) -> &str
+        requires { host < length (inventory_view self.now.checked.inventory).hosts }
+        ensures { option_map (λ h. h.name) (slice_get (inventory_view self.now.checked.inventory).hosts host)
+            ≡ Some result.now }
+    {
+        self.checked.inventory().host_name(host)
+    }
+
+    /// What the host's tasks came to so far; zeros past the last host.
+    pub fn recap(&self, host: usize) -> Recap {
+        match self.hosts.get(host) {
+            Some(state) => state.recap,
+            None => Recap::new(),
+        }
+    }
+}
+
+fn opening_hosts(alloc: Global, checked: &Checked) -> Result<Vec<HostState>, AllocError> {
+    let inventory = checked.inventory();
+    let count = inventory.hosts();
+    let mut hosts = Vec::with_capacity(alloc, count)?;
+    for host in 0..count {
+        let name = inventory.host_name(host);
+        hosts.push(HostState::opening(alloc, name, inventory.group_names(host))?)?;
+    }
+    Ok(hosts)
+}
+
+/// The tasks of the play that runs.
+fn tasks_of(checked: &Checked) -> &[Task] {
+    match checked.book().plays().first() {
+        Some(play) => play.tasks.as_slice(),
+        None => &[],
+    }
+}
+
+fn running(hosts: &[HostState]) -> usize {
+    hosts.iter().filter(|state| matches!(state.stage, Stage::Running { .. })).count()
+}
+
+// The waiting host with the lowest place, ties by host order, where fewer hosts than the forks are running.
+fn ready_host(hosts: &[HostState], tasks: &[Task], forks: usize) -> Option<usize> {
+    if running(hosts) >= forks {
+        return None;
+    }
+    let mut best: Option<(usize, usize)> = None;
+    for (host, state) in hosts.iter().enumerate() {
+        if matches!(state.stage, Stage::Waiting) && state.place < tasks.len() {
+            let lower = match best {
+                Some((_, place)) => state.place < place,
+                None => true,
+            };
+            if lower {
+                best = Some((host, state.place));
+            }
+        }
+    }
+    best.map(|(host, _)| host)
+}
+
+impl Run {
+    // Follows one recorded event, where it is enabled.
+    fn follow(&mut self, event: &Event) -> Result<(), AllocError>
+        ensures { (self.new.checked ≡ self.old.checked) × (self.new.forks ≡ self.old.forks) }
+    {
+        match event {
+            Event::Start(host) => {
+                if self.can_start(*host) {
+                    drop(self.begin(*host)?);
+                }
+                Ok(())
+            }
+            Event::Give(host, answers) => self.give_again(*host, answers),
+            Event::Turn => {
+                if self.is_over() {
+                    self.turn()?;
+                }
+                Ok(())
+            }
+            Event::Stop => {
+                self.stop();
+                Ok(())
+            }
+        }
+    }
+
+    fn give_again(&mut self, host: usize, answers: &Vec<Answer>) -> Result<(), AllocError>
+        ensures { (self.new.checked ≡ self.old.checked) × (self.new.forks ≡ self.old.forks) }
+    {
+        let Some(ticket) = ticket_of(&self.hosts, host) else {
+            return Ok(());
+        };
+        let answers = copied(answers)?;
+        let calls = Vec::new(*answers.allocator());
+        match self.give(Job { ticket, host, calls }, answers) {
+            Ok(_) | Err((GiveError::Stopped, _, _)) | Err((GiveError::Stranger, _, _)) => Ok(()),
+            Err((GiveError::NoMemory, _, _)) => Err(AllocError),
+        }
+    }
+
+    // Something can still happen, and the host is ready.
+    fn can_start(&self, host: usize) -> bool
+        ensures { result ≡ true → is_stopped self.now.history ≡ false }
+    {
+        match self.phase {
+            Phase::Going => is_ready(&self.hosts, tasks_of(&self.checked), self.forks, host),
+            Phase::Ended | Phase::Stopped => false,
+        }
+    }
+
+    // Each host of the batch has left or has nothing more to run, and no job is out.
+    fn is_over(&self) -> bool
+        ensures { result ≡ true → is_stopped self.now.history ≡ false }
+    {
+        match self.phase {
+            Phase::Going => {
+                let tasks = tasks_of(&self.checked).len();
+                self.hosts.iter().all(|state| is_through(state, tasks))
+            }
+            Phase::Ended | Phase::Stopped => false,
+        }
+    }
+
+    // The batch is over, and with it the run.
+    fn turn(&mut self) -> Result<(), AllocError>
+        requires { is_stopped self.old.history ≡ false }
+        ensures ok { OnOk result (self.new ≡ after self.old Event.Turn) }
+        ensures err { OnErr result (self.new ≡ self.old) }
+    {
+        self.history.reserve(2)?;
+        self.history.push_reserved(Event::Turn);
+        self.phase = Phase::Ended;
+        Ok(())
+    }
+}
+
+/// The run that these events lead to, those that aren't enabled left out.
+pub fn replay(
+    alloc: Global,
+    checked: &Checked,
+    forks: usize,
+    events: &[Event],
+) -> Result<Run, AllocError>
+    ensures { IfOk result (λ r. (r.checked ≡ checked.now) × (r.forks ≡ forks)) }
+{
+    let mut run = Run::open(alloc, checked, forks)?;
+    for event in events {
+        run.follow(event)?;
+    }
+    Ok(run)
+}
+
+fn copied(answers: &Vec<Answer>) -> Result<Vec<Answer>, AllocError> {
+    let mut copies = Vec::with_capacity(*answers.allocator(), answers.len())?;
+    for answer in answers {
+        copies.push(match answer {
+            Answer::Object(value) => Answer::Object(value.clone()?),
+            Answer::Unreachable => Answer::Unreachable,
+            Answer::Broken(why) => Answer::Broken(*why),
+        })?;
+    }
+    Ok(copies)
+}
+
+fn ticket_of(hosts: &[HostState], host: usize) -> Option<usize> {
+    match hosts.get(host) {
+        Some(state) => match &state.stage {
+            Stage::Running { ticket, .. } => Some(*ticket),
+            Stage::Waiting | Stage::Left => None,
+        },
+        None => None,
+    }
+}
+
+// The host has left, or waits at the end.
+fn is_through(state: &HostState, tasks: usize) -> bool {
+    match state.stage {
+        Stage::Waiting => state.place >= tasks,
+        Stage::Running { .. } => false,
+        Stage::Left => true,
+    }
+}
+
+fn is_ready(hosts: &[HostState], tasks: &[Task], forks: usize, host: usize) -> bool {
+    match hosts.get(host) {
+        Some(state) => {
+            matches!(state.stage, Stage::Waiting)
+                && state.place < tasks.len()
+                && running(hosts) < forks
+        }
+        None => false,
+    }
+}
+
+/// What the host waits for once its task is started, and the calls.
+#[derive(Drop)]
+struct Begun {
+    pending: Pending,
+    calls: Vec<Call>,
+}
+
+fn begin_on(
+    alloc: Global,
+    checked: &Checked,
+    hosts: &[HostState],
+    host: usize,
+) -> Result<Begun, AllocError> {
+    let mut calls = Vec::new(alloc);
+    let (Some(state), Some(task)) = (hosts.get(host), task_of(checked, hosts, host)) else {
+        return Ok(Begun { pending: Pending::Skipped, calls });
+    };
+    let Started { pending, call } = start(alloc, task, host, state)?;
+    if let Some(call) = call {
+        calls.push(call)?;
+    }
+    Ok(Begun { pending, calls })
+}
+
+fn set_running(hosts: &mut Vec<HostState>, host: usize, stage: Stage, calls: usize) {
+    if let Some(state) = hosts.get_mut(host) {
+        state.calls = state.calls.saturating_add(calls as u64);
+        state.stage = stage;
+    }
+}
+
+/// The task that the host is at.
+fn task_of<'c>(checked: &'c Checked, hosts: &[HostState], host: usize) -> Option<&'c Task> {
+    match hosts.get(host) {
+        Some(state) => tasks_of(checked).get(state.place),
+        None => None,
+    }
+}
+
+fn outcome_of(
+    checked: &Checked,
+    fixed: &FixedResults,
+    state: &HostState,
+    task: &Task,
+    answers: &Vec<Answer>,
+) -> Result<Outcome, AllocError> {
+    match &state.stage {
+        Stage::Running { pending, .. } => {
+            finish(*answers.allocator(), task, pending, answers, checked.registry(), fixed)
+        }
+        Stage::Waiting | Stage::Left => Err(AllocError),
+    }
+}
+
+// Makes room for what the host's task writes.
+fn room_for(hosts: &mut Vec<HostState>, host: usize, found: &Outcome) -> Result<(), AllocError> {
+    match hosts.get_mut(host) {
+        Some(state) => state.vars.values.reserve(found.writes.len()),
+        None => Ok(()),
+    }
+}
+
+// Writes what the host's task writes, for which there is room, and lets the host go on or leave.
+fn settle(hosts: &mut Vec<HostState>, host: usize, found: Outcome) {
+    if let Some(state) = hosts.get_mut(host) {
+        let Outcome { ending, writes } = found;
+        for (name, value) in writes {
+            drop(state.vars.values.insert(name, value));
+        }
+        state.end(ending);
+    }
+}

@@ -1,0 +1,103 @@
+// A book that was accepted, with its inventory and modules.
+ghost use Rattle.std.specs.Prelude.{◌≡◌, IfOk};
+
+use pb_book::book::Book;
+use pb_inventory::inventory::Inventory;
+use pb_sig::registry::Registry;
+use std::alloc::{AllocError, Global};
+use std::marker::Model;
+use std::sync::Arc;
+
+/// What was handed to the verifier, and the budget.
+#[derive(Drop)]
+pub struct Accepted {
+    pub book: Book,
+    pub inventory: Inventory,
+    pub registry: Registry,
+    /// The most module calls that a run hands out.
+    pub budget: u64,
+}
+
+/// A book that was accepted for an inventory. Contracts see what was accepted; copies share it.
+#[derive(Drop)]
+pub struct Checked {
+    accepted: Arc<Accepted>,
+}
+
+impl Model for Checked {
+    ghost use Rattle.pb_verify.specs.declared.checked.Accepted.{Accepted};
+    ghost use Rattle.pb_value.specs.contracts.value.Value as value;
+    ghost use Rattle.pb_value.specs.contracts.kind.Kind as kind;
+    ghost use Rattle.pb_expr.specs.contracts.expr.Expr as expr;
+    ghost use Rattle.std.specs.Coded.{codes};
+    ghost use Rattle.std_collections.specs.Layout.BTreeMap.{btree_map_code};
+    ghost use Rattle.std_collections.specs.Layout.HashMap.{hash_map_code};
+
+    ghost Value = { Accepted };
+
+    ghost coded = { Prim.hlevel
+        (codes, btree_map_code, hash_map_code, value.the_row.coded, kind.the_row.coded, expr.the_row.coded) };
+
+    ghost view = { λ a. a.accepted.value };
+}
+
+impl Clone for Checked {
+    ghost use Rattle.std.specs.Prelude.{◌≡◌};
+
+    ghost is_clone = { λ v w. w ≡ v };
+
+    fn clone(&self) -> Result<Checked, AllocError> {
+        Ok(Checked {
+            accepted: self.accepted.clone()?,
+        })
+    }
+}
+
+impl Checked {
+    ghost use Rattle.std.specs.Prelude.{length};
+    ghost use Rattle.pb_inventory.specs.Inventory.{inventory_view};
+
+    /// Accepts without judging, for the verifier alone.
+    pub(crate) fn of(alloc: Global, accepted: Accepted) -> Result<Checked, AllocError>
+        ensures { IfOk result (λ c. c ≡ accepted) }
+    {
+        Ok(Checked {
+            accepted: Arc::new(alloc, accepted)?,
+        })
+    }
+
+    /// The most module calls that a run of the book hands out.
+    pub fn budget(&self) -> u64
+        ensures { result ≡ self.now.budget }
+    {
+        self.accepted.budget
+    }
+
+    /// The book as it was handed in.
+    pub fn book(&self) -> &Book
+        ensures { result.now ≡ self.now.book }
+    {
+        &self.accepted.book
+    }
+
+    /// The inventory as it was handed in.
+    pub fn inventory(&self) -> &Inventory
+        ensures { result.now ≡ self.now.inventory }
+    {
+        &self.accepted.inventory
+    }
+
+    /// The modules as they were handed in.
+    pub fn registry(&self) -> &Registry
+        ensures { result.now ≡ self.now.registry }
+    {
+        &self.accepted.registry
+    }
+
+    /// How many hosts the inventory has.
+    pub fn hosts(&self) -> usize
+        ensures { result ≡ length (inventory_view self.now.inventory).hosts }
+    {
+        self.accepted.inventory.hosts()
+    }
+}

@@ -1,0 +1,60 @@
+// Why a book is refused.
+ghost use Rattle.std.specs.Prelude.{◌≡◌};
+ghost use Rattle.pb_verify.specs.Codes.{code_text};
+
+
+/// The code of a refusal.
+#[derive(Clone, Copy, PartialEq, Eq, Debug)]
+pub enum Code {
+    /// A form that isn't built yet.
+    N00,
+    /// The playbook isn't JSON.
+    P01,
+    /// The inventory isn't JSON.
+    I01,
+    /// The answers aren't JSON.
+    A01,
+    /// The answers have another shape than an object from host names to lists of objects.
+    A02,
+    /// The answers are past their limit.
+    A03,
+    /// A variable that is perhaps undefined.
+    V01,
+    /// A field that is perhaps missing.
+    V03,
+    /// A value of the wrong kind, or an opaque value that is read.
+    V04,
+    /// An unknown, missing or malformed parameter.
+    V07,
+    /// A name clash or a reserved name.
+    V08,
+}
+
+impl Code {
+    /// The code as it is printed.
+    pub fn text(self) -> &'static str
+        ensures { result.now ≡ code_text self }
+    {
+        match self {
+            Code::N00 => "N00",
+            Code::P01 => "P01",
+            Code::I01 => "I01",
+            Code::A01 => "A01",
+            Code::A02 => "A02",
+            Code::A03 => "A03",
+            Code::V01 => "V01",
+            Code::V03 => "V03",
+            Code::V04 => "V04",
+            Code::V07 => "V07",
+            Code::V08 => "V08",
+        }
+    }
+}
+
+/// One refusal: its code, the line of the book from 1, or 0 for none, and the host's name or none.
+#[derive(Drop)]
+pub struct Refusal {
+    pub code: Code,
+    pub line: u32,
+    pub host: Option<String>,
+}

@@ -1,0 +1,93 @@
+# What one check of the program is, and how it is run: files in a folder of its own, words, and what is wanted.
+import base64
+import os
+import subprocess
+import tempfile
+from dataclasses import dataclass, field
+from typing import Callable, Optional
+
+TIMEOUT = 20
+FOLDER = object()  # stands for a folder, in the place of a file's bytes
+
+
+@dataclass
+class Outcome:
+    status: int
+    stdout: bytes
+    stderr: bytes
+
+    def __str__(self):
+        return f"status {self.status}, stdout {short(self.stdout)}, stderr {short(self.stderr)}"
+
+
+@dataclass
+class Check:
+    id: str
+    words: list
+    judge: Callable  # of an Outcome: an empty text where it is as wanted, else what is wanted
+    files: dict = field(default_factory=dict)  # name to content, see bytes_of
+    stdout: Optional[str] = None  # a file that takes the standard output
+
+
+def short(data, most=300):
+    return repr(data if len(data) <= most else data[:most] + b"..")
+
+
+def bytes_of(content):
+    """The bytes of a file: bytes, a text, {"base64": ..} or {"gen": [piece, ..]}."""
+    if isinstance(content, bytes):
+        return content
+    if isinstance(content, str):
+        return content.encode()
+    if "base64" in content:
+        return base64.b64decode(content["base64"])
+    return "".join(piece_of(piece) for piece in content["gen"]).encode()
+
+
+def piece_of(piece):
+    if isinstance(piece, str):
+        return piece
+    if piece[0] == "repeat":
+        return piece[1] * piece[2]
+    if piece[0] == "count":
+        _, text, first, end, between = piece
+        return between.join(text.replace("#", str(n)) for n in range(first, end))
+    raise ValueError(f"an unknown piece: {piece[0]}")
+
+
+def write_files(folder, files):
+    for name, content in files.items():
+        path = os.path.join(folder, name)
+        if content is FOLDER:
+            os.mkdir(path)
+            continue
+        with open(path, "wb") as file:
+            file.write(bytes_of(content))
+
+
+def outcome_of(program, check):
+    with tempfile.TemporaryDirectory() as folder:
+        write_files(folder, check.files)
+        with open(check.stdout or os.devnull, "wb") as taken:
+            done = subprocess.run(
+                [program, *check.words],
+                cwd=folder,
+                stdin=subprocess.DEVNULL,
+                stdout=taken if check.stdout else subprocess.PIPE,
+                stderr=subprocess.PIPE,
+                timeout=TIMEOUT,
+            )
+    return Outcome(done.returncode, done.stdout or b"", done.stderr)
+
+
+def exactly(stdout, status):
+    """Wants these bytes on standard output, and this status."""
+    if isinstance(stdout, str):
+        stdout = stdout.encode()
+
+    def judge(outcome):
+        if outcome.stdout == stdout and outcome.status == status:
+            return ""
+        return f"status {status}, stdout {short(stdout)}"
+
+    return judge

@@ -1,0 +1,320 @@
+# Checks of the program itself: its command line, files that can't be read, hostile files, the examples.
+import json
+import os
+import random
+import re
+
+from check import FOLDER, Check, exactly
+
+ONE_HOST = '{"all":{"hosts":["h1"]}}'
+PING_BOOK = '[{"hosts":"all","tasks":[{"ping":null,"register":"p","when":"1 == 1"}]}]'
+PING_ANSWERS = '{"h1":[{"ping":"pong"}]}'
+FILES = {"book": "[]", "inventory": ONE_HOST, "answers": "{}", "signatures": "[]"}
+
+CHECK = ["check", "book", "-i", "inventory"]
+RUN = ["run", "book", "-i", "inventory", "--answers", "answers"]
+
+NOTHING_DONE = "h1 : ok=0 changed=0 unreachable=0 failed=0 skipped=0 rescued=0 ignored=0\n"
+VERDICT = re.compile(rb"accepted budget \d+\n|refused [A-Z]\d\d line \d+ host (-|[A-Za-z0-9._-]{1,253})\n")
+COUNTS = rb"ok=\d+ changed=\d+ unreachable=\d+ failed=\d+ skipped=\d+ rescued=\d+ ignored=\d+\n"
+RECAP = re.compile(rb"([A-Za-z0-9._-]{1,253} : " + COUNTS + rb")*")
+
+
+def program_checks(top):
+    return [
+        *command_lines(),
+        *fork_counts(),
+        *long_forms(),
+        *unreadable_files(),
+        *unwritable_output(),
+        *not_json(),
+        *odd_json(),
+        *answer_shapes(),
+        *random_files(),
+        *examples(top / "examples"),
+    ]
+
+
+# What is wanted.
+
+
+def refused(code, line=0):
+    return exactly(f"refused {code} line {line} host -\n", 1)
+
+
+def usage(said=b""):
+    """Wants status 64, nothing on standard output, and on standard error something that holds this."""
+
+    def judge(outcome):
+        if outcome.status == 64 and not outcome.stdout and outcome.stderr and said in outcome.stderr:
+            return ""
+        return f"status 64, empty stdout, {said!r} in stderr"
+
+    return judge
+
+
+def cannot_read(name):
+    """Wants the line about a file that can't be read, and no other."""
+
+    def judge(outcome):
+        line = f"playcheck: cannot read {name}\n".encode()
+        if (outcome.status, outcome.stdout, outcome.stderr) == (64, b"", line):
+            return ""
+        return f"status 64, empty stdout, stderr {line!r}"
+
+    return judge
+
+
+def help_shown(outcome):
+    if outcome.status == 0 and not outcome.stdout and outcome.stderr:
+        return ""
+    return "status 0, empty stdout, a help text on stderr"
+
+
+def unwritten(outcome):
+    return "" if outcome.status == 64 else "status 64"
+
+
+def some_answer(outcome):
+    """Wants a verdict or a recap, whichever it is, with a status that goes with it."""
+    if VERDICT.fullmatch(outcome.stdout):
+        wanted = [1 if outcome.stdout.startswith(b"refused") else 0]
+    elif RECAP.fullmatch(outcome.stdout):
+        wanted = [0, 2, 4]
+    else:
+        return "a verdict or a recap"
+    return "" if outcome.status in wanted else f"a status of {wanted}"
+
+
+def some_answer_but(code):
+    """Wants any answer save the refusal with this code."""
+
+    def judge(outcome):
+        if outcome.stdout.startswith(f"refused {code} ".encode()):
+            return f"no {code}"
+        return some_answer(outcome)
+
+    return judge
+
+
+# The command line.
+
+
+def command_lines():
+    lines = [
+        ("no-words", [], usage()),
+        ("help", ["--help"], help_shown),
+        ("help-of-check", ["check", "--help"], help_shown),
+        ("help-of-run", ["run", "--help"], help_shown),
+        ("unknown-command", ["test", "book", "-i", "inventory"], usage()),
+        ("unknown-option", ["--nope"], usage()),
+        ("unknown-option-of-check", [*CHECK, "--nope"], usage()),
+        ("unknown-option-of-run", [*RUN, "-x"], usage()),
+        ("check-without-book", ["check", "-i", "inventory"], usage()),
+        ("check-without-inventory", ["check", "book"], usage()),
+        ("check-with-two-books", [*CHECK, "book"], usage()),
+        ("check-with-answers", [*CHECK, "--answers", "answers"], usage()),
+        ("check-with-forks", [*CHECK, "-f", "5"], usage()),
+        ("option-without-value", ["check", "book", "-i"], usage()),
+        ("run-without-answers-or-modules", ["run", "book", "-i", "inventory"], usage()),
+        ("run-with-answers-and-modules", [*RUN, "--modules", "."], usage()),
+    ]
+    return [Check(f"line-{name}", words, judge, FILES) for name, words, judge in lines]
+
+
+def fork_counts():
+    bad = ["0", "257", "65536", "99999999999999999999", "abc", "1.5", "", "-1"]
+    refusals = [Check(f"forks-{n or 'empty'}", [*RUN, "-f", n], usage(), FILES) for n in bad]
+    fine = [Check(f"forks-{n}", [*RUN, "-f", n], exactly(NOTHING_DONE, 0), FILES) for n in ["1", "256"]]
+    return refusals + fine
+
+
+def long_forms():
+    check = ["check", "book", "--inventory", "inventory"]
+    run = ["run", "book", "--inventory", "inventory", "--forks", "7", "--answers", "answers"]
+    accepted = exactly("accepted budget 0\n", 0)
+    return [
+        Check("long-inventory", check, accepted, FILES),
+        Check("long-forks", run, exactly(NOTHING_DONE, 0), FILES),
+        Check("short-signatures", [*CHECK, "-s", "signatures"], accepted, FILES),
+        Check("long-signatures", [*check, "--signatures", "signatures"], accepted, FILES),
+    ]
+
+
+# Files that can't be read, and an output that can't be written.
+
+
+def unreadable_files():
+    words = ["run", "book", "-i", "inventory", "-s", "signatures", "--answers", "answers"]
+    order = ["book", "inventory", "signatures", "answers"]
+    checks = []
+    for at, name in enumerate(order):
+        others = {key: text for key, text in FILES.items() if key != name}
+        earlier = {key: FILES[key] for key in order[:at]}
+        checks += [
+            Check(f"missing-{name}", words, cannot_read(name), others),
+            Check(f"folder-as-{name}", words, cannot_read(name), {**others, name: FOLDER}),
+            Check(f"missing-from-{name}-on", words, cannot_read(name), earlier),
+        ]
+    checks += [
+        Check("missing-answers-of-refused-book", RUN, cannot_read("answers"), {**FILES_BUT_ANSWERS, "book": "["}),
+        Check("file-as-folder", ["check", "book/x", "-i", "inventory"], cannot_read("book/x"), FILES),
+    ]
+    if os.geteuid() != 0:  # root may read every file
+        secret = "/etc/shadow"
+        checks.append(Check("no-permission", ["check", secret, "-i", "inventory"], cannot_read(secret), FILES))
+    return checks
+
+
+FILES_BUT_ANSWERS = {name: text for name, text in FILES.items() if name != "answers"}
+
+
+def unwritable_output():
+    refusal = {**FILES, "book": "["}
+    return [
+        Check("full-verdict", CHECK, unwritten, FILES, "/dev/full"),
+        Check("full-refusal", CHECK, unwritten, refusal, "/dev/full"),
+        Check("full-recap", RUN, unwritten, FILES, "/dev/full"),
+    ]
+
+
+# Hostile files. Each place is a file, the words that read it, its code for what isn't JSON, and a sound text.
+
+PLACES = [
+    ("book", CHECK, "P01", PING_BOOK),
+    ("inventory", CHECK, "I01", ONE_HOST),
+    ("answers", RUN, "A01", PING_ANSWERS),
+]
+
+
+def not_json():
+    checks = []
+    for place, words, code, sound in PLACES:
+        for name, content in broken_texts(sound):
+            checks.append(Check(f"{place}-{name}", words, refused(code), {**FILES, place: content}))
+    return checks
+
+
+def broken_texts(sound):
+    """Names and contents that aren't JSON; among them each proper prefix of a sound text, from the empty one."""
+    prefixes = [(f"prefix-{n}", sound[:n]) for n in range(len(sound))]
+    return prefixes + [
+        ("blanks", " \t\r\n"),
+        ("two-values", sound + sound),
+        ("zero-byte", sound + "\0"),
+        ("byte-order-mark", "\ufeff" + sound),
+        ("utf-16", sound.encode("utf-16")),
+        ("lone-byte", b'["\xff"]'),
+        ("cut-utf-8", b'["\xe2\x82"]'),
+        ("overlong-utf-8", b'["\xc0\xaf"]'),
+        ("surrogate", b'["\\ud800"]'),
+        ("single-quotes", sound.replace('"', "'")),
+        ("trailing-comma", sound[:-1] + "," + sound[-1]),
+        ("comment", sound + "// x"),
+        ("not-a-number", "NaN"),
+        ("128-lists", "[" * 128 + "]" * 128),
+        ("100000-lists", "[" * 100_000),
+        ("100000-objects", '{"a":' * 100_000),
+    ]
+
+
+def odd_json():
+    deep = "[" * 127 + "]" * 127
+    twice_hosts = '[{"hosts":"zz","hosts":"all","tasks":[]}]'
+    twice_all = '{"all":{"hosts":["b"]},"all":{"hosts":["h1"]}}'
+    twice_h1 = '{"h1":[1],"h1":[{"ping":"pong"}]}'
+    done = NOTHING_DONE.replace("ok=0", "ok=1")
+    return [
+        Check("book-127-lists", CHECK, refused("P02", 1), {**FILES, "book": deep}),
+        Check("inventory-127-lists", CHECK, some_answer_but("I01"), {**FILES, "inventory": deep}),
+        Check("answers-127-lists", RUN, refused("A02"), {**FILES, "answers": deep}),
+        Check("book-repeated-key", CHECK, exactly("accepted budget 0\n", 0), {**FILES, "book": twice_hosts}),
+        Check("inventory-repeated-key", RUN, exactly(NOTHING_DONE, 0), {**FILES, "inventory": twice_all}),
+        Check(
+            "answers-repeated-key",
+            RUN,
+            exactly(done, 0),
+            {**FILES, "book": PING_BOOK, "answers": twice_h1},
+        ),
+    ]
+
+
+def answer_shapes():
+    shapes = [
+        ("a-list", "[]", refused("A02")),
+        ("null", "null", refused("A02")),
+        ("a-text", '"x"', refused("A02")),
+        ("number-for-list", '{"h1":1}', refused("A02")),
+        ("list-of-a-number", '{"h1":[1]}', refused("A02")),
+        ("bad-list-of-no-host", '{"zz":[1]}', refused("A02")),
+        ("host-unknown", '{"zz":[]}', exactly(NOTHING_DONE, 0)),
+        ("more-than-calls", '{"h1":[{},{}]}', exactly(NOTHING_DONE, 0)),
+    ]
+    checks = [Check(f"answers-{name}", RUN, judge, {**FILES, "answers": text}) for name, text, judge in shapes]
+    books = [("P01", 0, "["), ("V07", 2, '[{"hosts":"all","tasks":[{"command":{}}]}]')]
+    for code, line, book in books:
+        files = {**FILES, "book": book, "answers": "["}
+        checks.append(Check(f"answers-after-{code}", RUN, refused(code, line), files))
+    return checks
+
+
+# Random files, the same ones each time.
+
+
+def random_files():
+    checks = []
+    source = random.Random(20)
+    for place, words, code, sound in PLACES:
+        for number in range(40):
+            content = source.randbytes(source.randrange(1, 200))
+            checks.append(random_check(f"{place}-random-{number}", words, place, content, code))
+        for number in range(120):
+            content = changed(source, sound.encode())
+            checks.append(random_check(f"{place}-changed-{number}", words, place, content, code))
+    return checks
+
+
+def random_check(name, words, place, content, code):
+    judge = some_answer if python_reads(content) else refused(code)
+    book = PING_BOOK if place == "answers" else "[]"
+    return Check(name, words, judge, {**FILES, "book": book, place: content})
+
+
+def changed(source, content):
+    """One to three bytes taken away, put in or replaced."""
+    content = bytearray(content)
+    for _ in range(source.randrange(1, 4)):
+        at = source.randrange(len(content))
+        new = source.choice([source.randrange(256), source.choice(b'[]{}",:0aeE.-\\')])
+        content[at : at + source.randrange(2)] = source.choice([b"", bytes([new])])
+    return bytes(content)
+
+
+def python_reads(content):
+    """Whether Python reads it as JSON; it reads some texts more than JSON has, and none less."""
+    try:
+        json.loads(content.decode())
+        return True
+    except (ValueError, RecursionError):
+        return False
+
+
+# The examples.
+
+
+def examples(folder):
+    first, faulty = folder / "first", folder / "faulty"
+    recap = "web1 : ok=7 changed=3 unreachable=0 failed=0 skipped=0 rescued=0 ignored=0\n"
+    return [
+        Check("example-first", words_of("check", first), exactly("accepted budget 4\n", 0)),
+        Check(
+            "example-first-run",
+            [*words_of("run", first), "--answers", str(first / "answers.json")],
+            exactly(recap, 0),
+        ),
+        Check("example-faulty", words_of("check", faulty), exactly("refused V03 line 5 host web1\n", 1)),
+    ]
+
+
+def words_of(command, folder):
+    return [command, str(folder / "book.json"), "-i", str(folder / "inventory.json")]

@@ -1,0 +1,102 @@
+# Runs the cases of tests/cases and the checks of program_checks.py: python3 tests/run_cases.py [PROGRAM]
+import json
+import os
+import sys
+from concurrent.futures import ThreadPoolExecutor
+from pathlib import Path
+
+sys.dont_write_bytecode = True
+
+from check import Check, exactly, outcome_of
+from program_checks import program_checks
+
+TESTS = Path(__file__).resolve().parent
+PROGRAM = TESTS.parent / "crates/pb_cli/out/pb_cli"
+LIMIT = TESTS / "not_built_yet"
+SHOWN = 20
+
+# Whether until, retries and force_handlers are built; where they aren't, some cases have another answer.
+UNTIL_BUILT = False
+
+PASSED, FAILED, NOT_BUILT = "passed", "failed", "not built yet"
+
+
+def wanted_of(case):
+    if not UNTIL_BUILT and "before_until" in case:
+        return case["before_until"]["stdout"], case["before_until"]["status"]
+    return case["expected_stdout"], case["expected_status"]
+
+
+def check_of(case):
+    """The check that a line of a case file describes: `run` where it has answers, else `check`."""
+    files = {"book.json": case["book"], "inventory.json": case["inventory"]}
+    words = ["check", "book.json", "-i", "inventory.json"]
+    if case["signatures"] is not None:
+        files["signatures.json"] = case["signatures"]
+        words += ["-s", "signatures.json"]
+    if case["answers"] is not None:
+        files["answers.json"] = case["answers"]
+        words[0] = "run"
+        words += ["-f", str(case["forks"]), "--answers", "answers.json"]
+    return Check(case["id"], words, exactly(*wanted_of(case)), files)
+
+
+def cases():
+    for path in sorted((TESTS / "cases").glob("*.jsonl")):
+        with open(path, encoding="utf-8") as lines:
+            for line in lines:
+                yield check_of(json.loads(line))
+
+
+def run_check(program, check):
+    """Passed, failed or not built yet, and what to say of it."""
+    try:
+        outcome = outcome_of(program, check)
+        wanted = check.judge(outcome)
+    except Exception as fault:  # also a program that can't be run, and one that takes too long
+        return FAILED, f"{check.id}\n  got: {fault!r}"
+    if not wanted:
+        return PASSED, ""
+    if outcome.stdout.startswith(b"refused N00 ") and outcome.status == 1:
+        return NOT_BUILT, ""
+    return FAILED, f"{check.id}\n  wanted: {wanted}\n  got: {outcome}"
+
+
+def run_all(program, checks):
+    with ThreadPoolExecutor(os.cpu_count() or 1) as pool:
+        return list(pool.map(lambda check: run_check(program, check), checks))
+
+
+def within_limit(count):
+    """Prints how many cases aren't built yet; answers whether that is no more than it may be."""
+    limit = int(LIMIT.read_text())
+    print(f"not built yet: {count}")
+    if count > limit:
+        print(f"FAILED: tests/not_built_yet allows {limit}")
+    if count < limit:
+        print(f"hint: tests/not_built_yet can be lowered from {limit} to {count}")
+    return count <= limit
+
+
+def main():
+    program = os.path.abspath(sys.argv[1] if len(sys.argv) > 1 else PROGRAM)
+    designed = list(cases())
+    results = run_all(program, designed + program_checks(TESTS.parent))
+    failures = [said for kind, said in results if kind == FAILED]
+    for said in failures[:SHOWN]:
+        print(f"FAILED: {said}")
+    if len(failures) > SHOWN:
+        print(f"and {len(failures) - SHOWN} more")
+    passed = sum(kind == PASSED for kind, _ in results)
+    failed = len(failures)
+    if not within_limit(sum(kind == NOT_BUILT for kind, _ in results)):
+        failed += 1
+    if not designed:
+        print("FAILED: there is no case in tests/cases")
+        failed += 1
+    print(f"{passed} passed, {failed} failed")
+    return 1 if failed else 0
+
+
+if __name__ == "__main__":
+    sys.exit(main())

@@ -75,7 +75,10 @@ fn source_of(alloc: Global, found: &ArgMatches<'_>) -> Result<Source, LineFault>
     match (found.get_str("answers"), found.get_str("modules")) {
         (Some(name), None) => Ok(Source::Answers(String::from_str(alloc, name)?)),
         (None, Some(name)) => Ok(Source::Modules(String::from_str(alloc, name)?)),
-        _ => Err(line(alloc, "playcheck: run takes either --answers or --modules\n")?),
+        _ => Err(line(
+            alloc,
+            "playcheck: run takes either --answers or --modules\n",
+        )?),
     }
 }
 
@@ -93,8 +96,12 @@ fn check_command<'a>(alloc: Global) -> Result<Command<'a>, AllocError> {
 }
 
 fn run_command<'a>(alloc: Global) -> Result<Command<'a>, AllocError> {
-    let command = Command::new(alloc, "run").about("Runs a playbook that is accepted, and prints the recap");
-    let forks = option(alloc, "forks").short('f').help("How many workers at most, 1 to 256");
+    let command = Command::new(alloc, "run").about(
+        "Runs a playbook that is accepted, and prints the recap",
+    );
+    let forks = option(alloc, "forks")
+        .short('f')
+        .help("How many workers at most, 1 to 256");
     let answers = option(alloc, "answers").help("A file of answers, in place of modules");
     let modules = option(alloc, "modules").help("A folder of programs, one for each module");
     with_subject(alloc, command)?
@@ -112,7 +119,9 @@ fn with_subject<'a>(alloc: Global, command: Command<'a>) -> Result<Command<'a>, 
         .short('i')
         .required(true)
         .help("The inventory, a JSON file");
-    let signatures = option(alloc, "signatures").short('s').help("Further modules, a JSON file");
+    let signatures = option(alloc, "signatures")
+        .short('s')
+        .help("Further modules, a JSON file");
     command.arg(book)?.arg(inventory)?.arg(signatures)
 }
 

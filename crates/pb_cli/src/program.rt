@@ -13,13 +13,18 @@ use std::io;
 use std::rt::Files;
 
 const FINE: u8 = 0;
+
 const REFUSED: u8 = 1;
+
 const NO_MEMORY: u8 = 3;
+
 const USAGE: u8 = 64;
 
 /// The most bytes of a playbook or an inventory, of signatures and of answers.
 const BOOK_LIMIT: usize = 4_194_304;
+
 const SIGNATURES_LIMIT: usize = 1_048_576;
+
 const ANSWERS_LIMIT: usize = 67_108_864;
 
 /// The bytes of the files that are named.
@@ -125,7 +130,12 @@ fn verdict_of<R: AllocGlobal>(rt: &R, bytes: &Bytes) -> Result<Checked, Fault> {
         Some(found) => Some(found.as_slice()),
         None => None,
     };
-    judge(rt.alloc(), bytes.book.as_slice(), bytes.inventory.as_slice(), signatures)
+    judge(
+        rt.alloc(),
+        bytes.book.as_slice(),
+        bytes.inventory.as_slice(),
+        signatures,
+    )
 }
 
 fn print_verdict<R: AllocGlobal + Print + Eprint>(rt: &R, verdict: &Result<Checked, Fault>) -> u8 {
@@ -183,7 +193,11 @@ fn read_all<R: Files + AllocGlobal + Eprint>(
     })
 }
 
-fn read_named<R: Files + AllocGlobal + Eprint>(rt: &R, name: &str, most: usize) -> Result<Vec<u8>, u8> {
+fn read_named<R: Files + AllocGlobal + Eprint>(
+    rt: &R,
+    name: &str,
+    most: usize,
+) -> Result<Vec<u8>, u8> {
     match read_bounded(rt, name, most) {
         Ok(bytes) => Ok(bytes),
         Err(e) => {

@@ -65,14 +65,25 @@ fn recap_line_of(alloc: Global, name: &str, recap: Recap) -> Result<String, Allo
 fn reached_of(alloc: Global, recap: Recap) -> Result<String, AllocError>
     ensures { IfOk result (λ s. string_bytes s ≡ reached_text recap) }
 {
-    let Recap { ok, changed, unreachable, .. } = recap;
+    let Recap {
+        ok,
+        changed,
+        unreachable,
+        ..
+    } = recap;
     format!(in alloc; "ok={ok} changed={changed} unreachable={unreachable}")
 }
 
 fn ended_of(alloc: Global, recap: Recap) -> Result<String, AllocError>
     ensures { IfOk result (λ s. string_bytes s ≡ ended_text recap) }
 {
-    let Recap { failed, skipped, rescued, ignored, .. } = recap;
+    let Recap {
+        failed,
+        skipped,
+        rescued,
+        ignored,
+        ..
+    } = recap;
     format!(in alloc; "failed={failed} skipped={skipped} rescued={rescued} ignored={ignored}")
 }
 

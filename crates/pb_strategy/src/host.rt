@@ -65,11 +65,21 @@ pub struct HostState {
 
 impl HostState {
     /// A host before anything is run.
-    pub fn opening(alloc: Global, name: &str, groups: &[Arc<String>]) -> Result<HostState, AllocError> {
+    pub fn opening(
+        alloc: Global,
+        name: &str,
+        groups: &[Arc<String>],
+    ) -> Result<HostState, AllocError> {
         let name = Arc::new(alloc, String::from_str(alloc, name)?)?;
         let mut values = IndexMap::new(alloc);
-        drop(values.insert(String::from_str(alloc, "inventory_hostname")?, Value::Text(name.clone()?))?);
-        drop(values.insert(String::from_str(alloc, "group_names")?, list_of(alloc, groups)?)?);
+        drop(values.insert(
+            String::from_str(alloc, "inventory_hostname")?,
+            Value::Text(name.clone()?),
+        )?);
+        drop(values.insert(
+            String::from_str(alloc, "group_names")?,
+            list_of(alloc, groups)?,
+        )?);
         Ok(HostState {
             name,
             vars: HostVars { values },

@@ -27,7 +27,12 @@ impl FixedResults {
         put(alloc, &mut skipped, "failed", Value::Bool(false))?;
         put(alloc, &mut skipped, "skipped", Value::Bool(true))?;
         let reason = String::from_str(alloc, "Conditional result was False")?;
-        put(alloc, &mut skipped, "skip_reason", Value::of_text(alloc, reason)?)?;
+        put(
+            alloc,
+            &mut skipped,
+            "skip_reason",
+            Value::of_text(alloc, reason)?,
+        )?;
         Ok(FixedResults {
             skipped: Value::of_fields(alloc, skipped)?,
             unchanged: Value::of_fields(alloc, unchanged)?,
@@ -48,7 +53,12 @@ pub struct Started {
 }
 
 /// Evaluates the condition and, where it holds, the arguments, against the host's variables at this moment.
-pub fn start(alloc: Global, task: &Task, host: usize, state: &HostState) -> Result<Started, AllocError> {
+pub fn start(
+    alloc: Global,
+    task: &Task,
+    host: usize,
+    state: &HostState,
+) -> Result<Started, AllocError> {
     if let Some(condition) = &task.when {
         if !is_true(&eval(alloc, condition, &state.vars)?) {
             return Ok(Started {
@@ -84,7 +94,11 @@ fn is_true(value: &Value) -> bool {
     matches!(value, Value::Bool(true))
 }
 
-fn evaluated(alloc: Global, arguments: &Vec<Argument>, vars: &HostVars) -> Result<Fields, AllocError> {
+fn evaluated(
+    alloc: Global,
+    arguments: &Vec<Argument>,
+    vars: &HostVars,
+) -> Result<Fields, AllocError> {
     let mut fields = Fields::new(alloc);
     for argument in arguments {
         let value = eval(alloc, &argument.value, vars)?;
@@ -137,7 +151,8 @@ fn answered(
     let admission = match (answers.first(), found) {
         (Some(Answer::Unreachable), _) => return left(alloc, Ending::Unreachable),
         (Some(Answer::Object(value)), Some(found)) => admit(alloc, found, value)?,
-        (Some(Answer::Object(_)), None) | (Some(Answer::Broken(_)), _) | (None, _) => Admission::Breach,
+        (Some(Answer::Object(_)), None) | (Some(Answer::Broken(_)), _) | (None, _) =>
+            Admission::Breach,
     };
     match admission {
         Admission::Ok(value) => {

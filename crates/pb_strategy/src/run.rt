@@ -111,14 +111,27 @@ impl Run {
         self.history.reserve(2)?;
         self.history.push_reserved(Event::Start(host));
         let Begun { pending, calls } = begun;
-        set_running(&mut self.hosts, host, Stage::Running { ticket, pending }, calls.len());
-        Ok(Job { ticket, host, calls })
+        set_running(
+            &mut self.hosts,
+            host,
+            Stage::Running { ticket, pending },
+            calls.len(),
+        );
+        Ok(Job {
+            ticket,
+            host,
+            calls,
+        })
     }
 
     /// The answers to a job, in the order of its calls; what stands in the job beside its ticket and host isn't looked at.
     /// Refused where the run is stopped, then where no job of that ticket and host is out, then for want of memory:
     /// job and answers come back then, and nothing has happened.
-    pub fn give(&mut self, job: Job, answers: Vec<Answer>) -> Result<Given, (GiveError, Job, Vec<Answer>)>
+    pub fn give(
+        &mut self,
+        job: Job,
+        answers: Vec<Answer>,
+    ) -> Result<Given, (GiveError, Job, Vec<Answer>)>
         ensures done { OnOk result (self.new ≡ after self.old (Event.Give job.host answers)) }
         ensures err { OnErr result (self.new ≡ self.old) }
         ensures back { IfErr result (λ e. (e.1 ≡ job) × (e.2 ≡ answers)) }
@@ -129,7 +142,10 @@ impl Run {
         if let Phase::Stopped = self.phase {
             return Err((GiveError::Stopped, job, answers));
         }
-        let found = match (self.hosts.get(job.host), task_of(&self.checked, &self.hosts, job.host)) {
+        let found = match (
+            self.hosts.get(job.host),
+            task_of(&self.checked, &self.hosts, job.host),
+        ) {
             (Some(state), Some(task)) if state.is_running(job.ticket) => {
                 outcome_of(&self.checked, &self.fixed, state, task, &answers)
             }
@@ -138,7 +154,9 @@ impl Run {
         let Ok(found) = found else {
             return Err((GiveError::NoMemory, job, answers));
         };
-        if self.history.reserve(2).is_err() || room_for(&mut self.hosts, job.host, &found).is_err() {
+        if self.history.reserve(2).is_err()
+            || room_for(&mut self.hosts, job.host, &found).is_err()
+        {
             return Err((GiveError::NoMemory, job, answers));
         }
         self.history.push_reserved(Event::Give(job.host, answers));
@@ -210,7 +228,10 @@ fn tasks_of(checked: &Checked) -> &[Task] {
 }
 
 fn running(hosts: &[HostState]) -> usize {
-    hosts.iter().filter(|state| matches!(state.stage, Stage::Running { .. })).count()
+    hosts
+        .iter()
+        .filter(|state| matches!(state.stage, Stage::Running { .. }))
+        .count()
 }
 
 // The waiting host with the lowest place, ties by host order, where fewer hosts than the forks are running.
@@ -267,7 +288,14 @@ impl Run {
         };
         let answers = copied(answers)?;
         let calls = Vec::new(*answers.allocator());
-        match self.give(Job { ticket, host, calls }, answers) {
+        match self.give(
+            Job {
+                ticket,
+                host,
+                calls,
+            },
+            answers,
+        ) {
             Ok(_) | Err((GiveError::Stopped, _, _)) | Err((GiveError::Stranger, _, _)) => Ok(()),
             Err((GiveError::NoMemory, _, _)) => Err(AllocError),
         }
@@ -382,7 +410,10 @@ fn begin_on(
 ) -> Result<Begun, AllocError> {
     let mut calls = Vec::new(alloc);
     let (Some(state), Some(task)) = (hosts.get(host), task_of(checked, hosts, host)) else {
-        return Ok(Begun { pending: Pending::Skipped, calls });
+        return Ok(Begun {
+            pending: Pending::Skipped,
+            calls,
+        });
     };
     let Started { pending, call } = start(alloc, task, host, state)?;
     if let Some(call) = call {
@@ -415,7 +446,14 @@ fn outcome_of(
 ) -> Result<Outcome, AllocError> {
     match &state.stage {
         Stage::Running { pending, .. } => {
-            finish(*answers.allocator(), task, pending, answers, checked.registry(), fixed)
+            finish(
+                *answers.allocator(),
+                task,
+                pending,
+                answers,
+                checked.registry(),
+                fixed,
+            )
         }
         Stage::Waiting | Stage::Left => Err(AllocError),
     }

@@ -2,7 +2,6 @@
 ghost use Rattle.std.specs.Prelude.{◌≡◌};
 ghost use Rattle.pb_verify.specs.Codes.{code_text};
 
-
 /// The code of a refusal.
 #[derive(Clone, Copy, PartialEq, Eq, Debug)]
 pub enum Code {

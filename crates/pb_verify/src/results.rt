@@ -44,7 +44,10 @@ impl ResultKinds {
         if !self.by_action.contains_key(action) {
             let shape = ok_record(alloc, task, registry)?;
             let results = results_of(alloc, action, shape, &self.skipped)?;
-            drop(self.by_action.insert(String::from_str(alloc, action)?, results)?);
+            drop(
+                self.by_action
+                    .insert(String::from_str(alloc, action)?, results)?,
+            );
         }
         match (self.by_action.get(action), &task.when) {
             (Some(results), None) => results.ran.clone(),

@@ -73,15 +73,20 @@ fn offence_of(task: &Task, registry: &Registry) -> Option<Code> {
 // Each argument is a parameter, and each parameter that is required is given.
 fn fills(arguments: &Vec<Argument>, parameters: &[Parameter]) -> bool {
     arguments.iter().all(|argument| is_parameter(argument.name.as_str(), parameters))
-        && parameters.iter().all(|parameter| !parameter.required || is_given(parameter.name.as_str(), arguments))
+        && parameters.iter().all(|parameter| !parameter.required
+            || is_given(parameter.name.as_str(), arguments))
 }
 
 fn is_parameter(name: &str, parameters: &[Parameter]) -> bool {
-    parameters.iter().any(|parameter| parameter.name.as_str() == name)
+    parameters
+        .iter()
+        .any(|parameter| parameter.name.as_str() == name)
 }
 
 fn is_given(name: &str, arguments: &Vec<Argument>) -> bool {
-    arguments.iter().any(|argument| argument.name.as_str() == name)
+    arguments
+        .iter()
+        .any(|argument| argument.name.as_str() == name)
 }
 
 fn is_message(arguments: &Vec<Argument>) -> bool {
@@ -103,7 +108,9 @@ fn is_variable_name(name: &str) -> bool {
         Some(first) => {
             bytes.len() <= NAME_LIMIT
                 && !first.is_ascii_digit()
-                && bytes.iter().all(|byte| byte.is_ascii_alphanumeric() || *byte == b'_')
+                && bytes
+                    .iter()
+                    .all(|byte| byte.is_ascii_alphanumeric() || *byte == b'_')
         }
         None => false,
     }
@@ -115,7 +122,10 @@ fn has_reserved(task: &Task) -> bool {
         None => false,
     };
     let sets = match &task.work {
-        Work::SetFact => task.arguments.iter().any(|argument| is_reserved(argument.name.as_str())),
+        Work::SetFact => task
+            .arguments
+            .iter()
+            .any(|argument| is_reserved(argument.name.as_str())),
         Work::Module(_) | Work::Debug => false,
     };
     registers || sets

@@ -74,7 +74,10 @@ impl Walk<'_> {
             }
         }
         let parameters = match &task.work {
-            Work::Module(name) => self.registry.find(name.as_str()).map(|found| found.params()),
+            Work::Module(name) => self
+                .registry
+                .find(name.as_str())
+                .map(|found| found.params()),
             Work::Debug | Work::SetFact => None,
         };
         for argument in &task.arguments {
@@ -131,10 +134,16 @@ impl Walk<'_> {
         for (argument, kind) in task.arguments.iter().zip(values) {
             let name = argument.name.as_str();
             let slot = match &task.when {
-                None => Slot { presence: Presence::Always, kind },
+                None => Slot {
+                    presence: Presence::Always,
+                    kind,
+                },
                 Some(_) => met(alloc, self.environment.get(name), kind)?,
             };
-            drop(self.environment.insert(String::from_str(alloc, name)?, slot)?);
+            drop(
+                self.environment
+                    .insert(String::from_str(alloc, name)?, slot)?,
+            );
         }
         Ok(())
     }
@@ -155,12 +164,16 @@ fn met(alloc: Global, before: Option<&Slot<Kind>>, kind: Kind) -> Result<Slot<Ki
             presence: slot.presence,
             kind: join(alloc, &slot.kind, &kind)?,
         }),
-        None => Ok(Slot { presence: Presence::Maybe, kind }),
+        None => Ok(Slot {
+            presence: Presence::Maybe,
+            kind,
+        }),
     }
 }
 
 fn is_of(kind: &Kind, name: &str, parameters: &[Parameter]) -> bool {
-    parameters.iter().any(|parameter| parameter.name.as_str() == name && below(kind, &parameter.kind))
+    parameters.iter().any(|parameter| parameter.name.as_str() == name
+        && below(kind, &parameter.kind))
 }
 
 fn code_of(unfit: Unfit) -> Code {

@@ -198,7 +198,16 @@ fn relation_at(
             let (right, after) = operand_at(alloc, text, token_at(text, sign.end)?, depth)?;
             Ok((related(alloc, sign.sort, left, right)?, after))
         }
-        Sort::Order | Sort::Is | Sort::Not => Err(ExprFault::NotBuilt),
+        Sort::Not => {
+            let word = token_at(text, sign.end)?;
+            if word.sort != Sort::In {
+                return Err(ExprFault::Unreadable { at: word.start });
+            }
+            let (right, after) = operand_at(alloc, text, token_at(text, word.end)?, depth)?;
+            let found = related(alloc, word.sort, left, right)?;
+            Ok((Expr::Not(Box::new(alloc, found)?), after))
+        }
+        Sort::Order | Sort::Is => Err(ExprFault::NotBuilt),
         _ => Ok((left, sign)),
     }
 }

@@ -9,3 +9,5 @@ mod outcome;
 pub mod recap;
 pub mod run;
 pub mod script;
+#[cfg(test)]
+mod tests;

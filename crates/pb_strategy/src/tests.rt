@@ -1,0 +1,110 @@
+// Runs of one task, taken and given by hand.
+use crate::answer::{Answer, Job};
+use crate::drive::drive;
+use crate::event::{Event, GiveError, Given, Taken};
+use crate::run::{Run, replay};
+use crate::script::ScriptRunner;
+use pb_book::book::Book;
+use pb_inventory::inventory::Inventory;
+use pb_sig::registry::Registry;
+use pb_value::read::read_json;
+use pb_verify::checked::Checked;
+use pb_verify::verify::verify;
+use std::alloc::Global;
+use std::test::Fail;
+
+const ONE_HOST: &[u8] = b"{\"all\":{\"hosts\":[\"h1\"]}}";
+
+const ONE_PING: &[u8] = b"[{\"hosts\":\"all\",\"tasks\":[{\"ping\":null}]}]";
+
+const PONG: &[u8] = b"{\"ping\":\"pong\"}";
+
+fn accepted(alloc: Global, book: &[u8]) -> Result<Checked, Fail> {
+    let registry = Registry::builtin(alloc)?;
+    let inventory = Inventory::read(alloc, ONE_HOST)?;
+    let book = Book::read(alloc, book, &registry)?;
+    match verify(alloc, book, inventory, registry) {
+        Ok(checked) => Ok(checked),
+        Err(_) => Err("refused")?,
+    }
+}
+
+fn job_of(taken: Taken) -> Result<Job, &'static str> {
+    match taken {
+        Taken::Job(job) => Ok(job),
+        _ => Err("no job"),
+    }
+}
+
+fn pong(alloc: Global) -> Result<Vec<Answer>, Fail> {
+    let mut answers = Vec::new(alloc);
+    answers.push(Answer::Object(read_json(alloc, PONG)?))?;
+    Ok(answers)
+}
+
+fn error_of(given: &Result<Given, (GiveError, Job, Vec<Answer>)>) -> Option<GiveError> {
+    match given {
+        Ok(_) => None,
+        Err(refused) => Some(refused.0),
+    }
+}
+
+#[test]
+fn a_second_give_is_a_stranger(rt: HostRuntime) -> Result<(), Fail> {
+    let alloc = rt.alloc();
+    let checked = accepted(alloc, ONE_PING)?;
+    let mut run = Run::open(alloc, &checked, 1)?;
+    let job = job_of(run.take()?)?;
+    assert_eq!(rt; job.ticket, 0);
+    assert_eq!(rt; error_of(&run.give(job, pong(alloc)?)), None);
+    let again = Job {
+        ticket: 0,
+        host: 0,
+        calls: Vec::new(alloc),
+    };
+    assert_eq!(rt;
+        error_of(&run.give(again, pong(alloc)?)),
+        Some(GiveError::Stranger)
+    );
+    assert_eq!(rt; run.history().len(), 2);
+    assert!(rt; matches!(run.take()?, Taken::Finished));
+    assert_eq!(rt; run.history().len(), 3);
+    let same = replay(alloc, &checked, 1, run.history())?;
+    assert_eq!(rt; same.history().len(), 3);
+    assert_eq!(rt; same.recap(0).ok, 1);
+    Ok(())
+}
+
+#[test]
+fn a_stopped_run_gives_the_job_back(rt: HostRuntime) -> Result<(), Fail> {
+    let alloc = rt.alloc();
+    let checked = accepted(alloc, ONE_PING)?;
+    let mut run = Run::open(alloc, &checked, 1)?;
+    let job = job_of(run.take()?)?;
+    run.stop();
+    assert_eq!(rt;
+        error_of(&run.give(job, pong(alloc)?)),
+        Some(GiveError::Stopped)
+    );
+    assert!(rt; matches!(run.take()?, Taken::Stopped));
+    assert!(rt; matches!(run.history(), [Event::Start(0), Event::Stop]));
+    assert_eq!(rt; run.recap(0).ok, 0);
+    Ok(())
+}
+
+#[test]
+fn drive_runs_to_the_end(rt: HostRuntime) -> Result<(), Fail> {
+    let alloc = rt.alloc();
+    let checked = accepted(alloc, ONE_PING)?;
+    let mut run = Run::open(alloc, &checked, 1)?;
+    let mut runner = ScriptRunner::read(alloc, b"{\"h1\":[{\"ping\":\"pong\"}]}")?;
+    drive(&mut run, &mut runner)?;
+    assert!(rt;
+        matches!(
+            run.history(),
+            [Event::Start(0), Event::Give(0, _), Event::Turn]
+        )
+    );
+    assert_eq!(rt; run.recap(0).ok, 1);
+    Ok(())
+}

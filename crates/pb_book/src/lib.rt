@@ -6,5 +6,3 @@ pub mod book;
 pub mod fault;
 pub mod read;
 pub mod task;
-#[cfg(test)]
-mod tests;

@@ -8,6 +8,4 @@ pub mod fault;
 pub mod fit;
 mod lexer;
 pub mod parse;
-#[cfg(test)]
-mod tests;
 pub mod vars;

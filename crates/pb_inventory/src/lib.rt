@@ -3,5 +3,3 @@
 
 pub mod inventory;
 pub mod read;
-#[cfg(test)]
-mod tests;

@@ -6,5 +6,3 @@ pub mod builtin;
 pub mod registry;
 pub mod rows;
 pub mod signature;
-#[cfg(test)]
-mod tests;

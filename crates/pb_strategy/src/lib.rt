@@ -9,5 +9,3 @@ mod outcome;
 pub mod recap;
 pub mod run;
 pub mod script;
-#[cfg(test)]
-mod tests;

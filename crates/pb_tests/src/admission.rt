@@ -1,7 +1,7 @@
 // Answers that are admitted, dropped fields, and breaches.
-use crate::admission::{Admission, admit};
-use crate::registry::Registry;
-use crate::signature::Module;
+use pb_sig::admission::{Admission, admit};
+use pb_sig::registry::Registry;
+use pb_sig::signature::Module;
 use pb_value::read::read_json;
 use pb_value::value::{Fields, Value};
 use std::alloc::Global;

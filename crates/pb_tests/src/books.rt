@@ -1,6 +1,6 @@
 // Texts that are a book, and texts that aren't.
-use crate::book::{Book, Task, Work};
-use crate::fault::BookFault;
+use pb_book::book::{Book, Task, Work};
+use pb_book::fault::BookFault;
 use pb_expr::expr::Expr;
 use pb_sig::registry::Registry;
 use pb_value::value::Value;

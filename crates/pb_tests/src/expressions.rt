@@ -1,8 +1,8 @@
 // What texts are read as, and what they are worth.
-use crate::eval::eval;
-use crate::expr::Expr;
-use crate::fault::ExprFault;
-use crate::parse::{parse_expr, parse_template};
+use pb_expr::eval::eval;
+use pb_expr::expr::Expr;
+use pb_expr::fault::ExprFault;
+use pb_expr::parse::{parse_expr, parse_template};
 use pb_value::value::{Fields, Value};
 use std::alloc::{AllocError, Global};
 use std::collections::BTreeMap;

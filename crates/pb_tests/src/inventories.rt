@@ -1,6 +1,6 @@
 // Texts that are an inventory, and texts that aren't.
-use crate::inventory::Inventory;
-use crate::read::InventoryFault;
+use pb_inventory::inventory::Inventory;
+use pb_inventory::read::InventoryFault;
 use std::alloc::Global;
 use std::test::Fail;
 

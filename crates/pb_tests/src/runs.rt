@@ -1,12 +1,12 @@
 // Runs of one task, taken and given by hand.
-use crate::answer::{Answer, Job};
-use crate::drive::drive;
-use crate::event::{Event, GiveError, Given, Taken};
-use crate::run::{Run, replay};
-use crate::script::ScriptRunner;
 use pb_book::book::Book;
 use pb_inventory::inventory::Inventory;
 use pb_sig::registry::Registry;
+use pb_strategy::answer::{Answer, Job};
+use pb_strategy::drive::drive;
+use pb_strategy::event::{Event, GiveError, Given, Taken};
+use pb_strategy::run::{Run, replay};
+use pb_strategy::script::ScriptRunner;
 use pb_value::read::read_json;
 use pb_verify::checked::Checked;
 use pb_verify::verify::verify;

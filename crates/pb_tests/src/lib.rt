@@ -1,0 +1,13 @@
+// Tests of the crates' public calls. They stand here together, so that no crate with code is proved twice.
+#![tactic(auto)]
+
+#[cfg(test)]
+mod admission;
+#[cfg(test)]
+mod books;
+#[cfg(test)]
+mod expressions;
+#[cfg(test)]
+mod inventories;
+#[cfg(test)]
+mod runs;

@@ -13,3 +13,4 @@ pub mod JoinAbove
 pub mod JoinLeast
 pub mod JoinWell
 pub mod Projected
+pub mod JoinModels

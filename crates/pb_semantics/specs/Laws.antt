@@ -1,10 +1,10 @@
 -- The laws of kinds.
 use Rattle.std.specs.Prelude.{◌≡◌, ◌≢◌, true, Some, None}
-use Rattle.pb_semantics.specs.Data.{Data}
-use Rattle.pb_semantics.specs.Kind.{KindData}
-use Rattle.pb_semantics.specs.Keeps.{keeps}
+use Rattle.pb_semantics.specs.Data.{Data, Fields}
+use Rattle.pb_semantics.specs.Kind.{KindData, Slots, recs}
+use Rattle.pb_semantics.specs.Keeps.{keeps, Models}
 use Rattle.pb_semantics.specs.Below.{below}
-use Rattle.pb_semantics.specs.Join.{join}
+use Rattle.pb_semantics.specs.Join.{join, join_slots}
 use Rattle.pb_semantics.specs.Well.{Well}
 use Rattle.pb_semantics.specs.Project.{projected, has_no_results}
 
@@ -33,6 +33,10 @@ JoinLeast = (k m h : KindData) → Well k → Well m → below k h ≡ true → 
 
 abbrev pub JoinWell : Type 0
 JoinWell = (k m : KindData) → Well k → Well m → Well (join k m)
+
+-- variables that one of two environments knows are known where the two meet
+abbrev pub MeetModels : Type 0
+MeetModels = (fs : Fields) (ss ts : Slots) → Well (recs ss) → Well (recs ts) → (Models fs ss → Models fs (join_slots ss ts)) × (Models fs ts → Models fs (join_slots ss ts))
 
 -- the kind is well formed, since of a name that stands twice the first alone is seen
 abbrev pub ProjectedKeeps : Type 0

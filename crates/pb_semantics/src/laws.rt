@@ -7,6 +7,7 @@ ghost use Rattle.pb_semantics.specs.Laws.{
   JoinAbove,
   JoinLeast,
   JoinWell,
+  MeetModels,
   ProjectedKeeps,
   ProjectedOfKept,
 };
@@ -50,6 +51,11 @@ pub fn join_least()
 /// The join of two well formed kinds is well formed.
 pub fn join_well()
     ensures { JoinWell }
+{}
+
+/// The variables that one of two environments knows are known where the two meet.
+pub fn meet_models()
+    ensures { MeetModels }
 {}
 
 /// What a value is projected to is a value of the kind.

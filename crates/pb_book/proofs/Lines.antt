@@ -1,7 +1,7 @@
 -- One more task.
 use Rattle.std.proofs.Common.{◌≡◌, ℕ, suc, ◌+◌, List, [], ◌∷◌, ◌++◌, length, Bool, true, false, ◌&&◌, ◌==◌, arith, refl}
 use Rattle.std.proofs.lemmas.Bool.Decides.{Decides-eqb}
-use Rattle.pb_sig.specs.Signature.{ModuleData}
+use Rattle.pb_semantics.specs.Signature.{ModuleData}
 use Rattle.pb_book.specs.Lines.{are_from, are_known, is_known}
 use Rattle.pb_book.specs.declared.book.Task.{Task}
 

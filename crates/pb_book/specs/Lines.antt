@@ -1,6 +1,6 @@
 -- The lines of a book, and the modules that it names.
 use Rattle.std.specs.Prelude.{ℕ, suc, List, [], ◌∷◌, length, Bool, true, false, ◌&&◌, ◌==◌, nat_le, is_some, string_bytes}
-use Rattle.pb_sig.specs.Signature.{ModuleData}
+use Rattle.pb_semantics.specs.Signature.{ModuleData}
 use Rattle.pb_sig.specs.Modules.{module_at}
 use Rattle.pb_book.specs.declared.book.Play.{Play}
 use Rattle.pb_book.specs.declared.book.Task.{Task}

@@ -3,13 +3,13 @@ use Rattle.std.proofs.Common.{◌≡◌, List, ℕ, Bool, true, false, not, ◌&
 use Rattle.pb_semantics.specs.Data.{Data, Fields, field_value}
 use Rattle.pb_semantics.specs.Kind.{KindData, Slots, Spot, recs, nowhere, spot, slot_at}
 use Rattle.pb_semantics.specs.Keeps.{spot_ok, Models}
-use Rattle.pb_semantics.specs.Join.{join, join_slots}
+use Rattle.pb_semantics.specs.Join.{join, join_slots, join_spot}
 use Rattle.pb_semantics.specs.Well.{Well}
 use Rattle.pb_semantics.proofs.Bools.{untrue}
 use Rattle.pb_semantics.proofs.Slots.{each_at}
 use Rattle.pb_semantics.proofs.Order.{well_each}
 use Rattle.pb_semantics.proofs.KeepsUp.{keeps_up}
-use Rattle.pb_semantics.proofs.JoinSlots.{join_spot, at_join}
+use Rattle.pb_semantics.proofs.JoinSlots.{at_join}
 use Rattle.pb_semantics.proofs.JoinAbove.{above_join}
 
 not-first : (a b : Bool) → not a ≡ true → not (a && b) ≡ true

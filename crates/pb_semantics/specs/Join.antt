@@ -80,3 +80,10 @@ abbrev mutual
 -- where two environments meet
 abbrev pub join_slots : Slots → Slots → Slots
 join_slots ss ts = with_others ts ss (joined ss ts)
+
+-- what is known of a name where two environments meet
+abbrev pub join_spot : Spot → Spot → Spot
+join_spot nowhere nowhere = nowhere
+join_spot nowhere (spot b m) = spot false m
+join_spot (spot a k) nowhere = spot false k
+join_spot (spot a k) (spot b m) = spot (a && b) (join k m)

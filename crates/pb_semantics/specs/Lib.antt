@@ -12,3 +12,5 @@ pub mod Rows
 pub mod Expr
 pub mod Eval
 pub mod Fit
+pub mod Signature
+pub mod Admission

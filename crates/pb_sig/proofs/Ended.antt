@@ -6,7 +6,7 @@ use Rattle.pb_value.specs.View.{view, fields_view}
 use Rattle.pb_value.specs.declared.value.Value.{Value}
 use Rattle.pb_value.specs.declared.value.Value as Value-of
 use Rattle.pb_value.proofs.Views.{view-Rec}
-use Rattle.pb_sig.specs.Admission.{ended, failed, taken}
+use Rattle.pb_semantics.specs.Admission.{ended, failed, taken}
 
 abbrev pub SharedFields : Type 0
 SharedFields = Arc (BTreeMap (String Global) Value) Global

@@ -2,7 +2,7 @@
 use Rattle.std.proofs.Common.{◌≡◌, ℕ, List, [], ◌∷◌, Bool, true, false, Option, Some, is_some, cond, refl, ap, sym, ◌∙◌}
 use Rattle.std.specs.Str.{bytes_eq}
 use Rattle.std.proofs.lemmas.Slice.Eq.{bytes_eq-Decides}
-use Rattle.pb_sig.specs.Signature.{ModuleData}
+use Rattle.pb_semantics.specs.Signature.{ModuleData}
 use Rattle.pb_sig.specs.Modules.{module_at}
 
 same_name : (b : Bool) (k : ModuleData) (n : List ℕ) (rest : Option ModuleData) (m : ModuleData) → (b ≡ true → k.name ≡ n) → (rest ≡ Some m → m.name ≡ n) → cond b (Some k) rest ≡ Some m → m.name ≡ n

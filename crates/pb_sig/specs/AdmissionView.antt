@@ -1,6 +1,6 @@
 -- What an `Admission` means.
 use Rattle.pb_value.specs.View.{view}
-use Rattle.pb_sig.specs.Admission.{AdmissionData, taken, failed, breach}
+use Rattle.pb_semantics.specs.Admission.{AdmissionData, taken, failed, breach}
 use Rattle.pb_sig.specs.declared.admission.Admission.{Admission}
 use Rattle.pb_sig.specs.declared.admission.Admission.TheVariants.{Ok, Failed, Breach}
 

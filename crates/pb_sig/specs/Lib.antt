@@ -1,7 +1,5 @@
-pub mod Signature
 pub mod Views
 pub mod Modules
 pub mod Rows
 pub mod Table
-pub mod Admission
 pub mod AdmissionView

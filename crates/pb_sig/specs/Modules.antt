@@ -2,7 +2,7 @@
 use Rattle.std.specs.Prelude.{ℕ, List, [], ◌∷◌, Option, Some, None, cond, map, string_bytes}
 use Rattle.std.specs.Str.{bytes_eq}
 use Rattle.pb_value.specs.KindView.{kind_view}
-use Rattle.pb_sig.specs.Signature.{ModuleData}
+use Rattle.pb_semantics.specs.Signature.{ModuleData}
 use Rattle.pb_sig.specs.Views.{parameter_view}
 use Rattle.pb_sig.specs.declared.builtin.Builtin.{Builtin}
 use Rattle.pb_sig.specs.declared.registry.Registry.{Registry}

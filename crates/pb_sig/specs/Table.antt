@@ -1,7 +1,7 @@
 -- The modules that are there in every run; the fields of a shape in the order of their names' bytes.
 use Rattle.std.specs.Prelude.{ℕ, List, [], ◌∷◌, Bool, true, false, codes}
 use Rattle.pb_semantics.specs.Kind.{KindData, Slots, booleans, ints, texts, lists, recs, no_slots, slot}
-use Rattle.pb_sig.specs.Signature.{ParameterData, ModuleData}
+use Rattle.pb_semantics.specs.Signature.{ParameterData, ModuleData}
 
 -- the lines that a program wrote
 abbrev pub lines : KindData

@@ -2,7 +2,7 @@
 ghost use Rattle.std.specs.Prelude.{◌≡◌, IfOk, Some, option_map, codes};
 ghost use Rattle.pb_semantics.specs.Data.{boolean, field_value, put_field, rec};
 ghost use Rattle.pb_value.specs.View.{view, fields_view};
-ghost use Rattle.pb_sig.specs.Admission.{admission, changed_fields, ended, failed_of};
+ghost use Rattle.pb_semantics.specs.Admission.{admission, changed_fields, ended, failed_of};
 ghost use Rattle.pb_sig.specs.AdmissionView.{admission_view};
 
 use crate::signature::Module;

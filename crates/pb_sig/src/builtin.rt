@@ -1,7 +1,7 @@
 // The modules that are there in every run.
 ghost use Rattle.std.specs.Prelude.{◌≡◌, true, IfOk, string_bytes};
 ghost use Rattle.pb_value.specs.KindView.{kind_view};
-ghost use Rattle.pb_sig.specs.Signature.{is_shape, is_failure_shape};
+ghost use Rattle.pb_semantics.specs.Signature.{is_shape, is_failure_shape};
 
 use crate::rows::{lines, may, must, parameters_of, shape_of};
 use crate::signature::{Module, Parameter};

@@ -1,7 +1,7 @@
 // What is known of a module before it is called.
 ghost use Rattle.std.specs.Prelude.{◌≡◌, true, map};
 ghost use Rattle.pb_value.specs.KindView.{kind_view};
-ghost use Rattle.pb_sig.specs.Signature.{ModuleData, is_shape, is_failure_shape};
+ghost use Rattle.pb_semantics.specs.Signature.{ModuleData, is_shape, is_failure_shape};
 
 use pb_value::kind::Kind;
 

@@ -3,7 +3,7 @@ use Rattle.pb_semantics.specs.Data.{field_value}
 use Rattle.pb_value.specs.View.{fields_view}
 use Rattle.pb_value.specs.declared.value.Value.{Value}
 use Rattle.pb_value.proofs.Views.{view-Rec}
-use Rattle.pb_sig.specs.Admission.{failed_of}
+use Rattle.pb_semantics.specs.Admission.{failed_of}
 use Rattle.pb_sig.proofs.admission.admit.Goals as goal
 
 pub returns-in-None : goal.returns-in-None

@@ -1,0 +1,9 @@
+pub mod Expression
+pub mod World
+pub mod Evaluation
+pub mod Same
+pub mod Scope
+pub mod Kinds
+pub mod Narrow
+pub mod Fit
+pub mod Knows

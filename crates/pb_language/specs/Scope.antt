@@ -1,0 +1,180 @@
+-- What is known at a Start: of the host's own variables, of those of each host, and what tests have taught.
+use Rattle.std.specs.Prelude.{ℕ, List, [], ◌∷◌, Bool, true, false, ◌&&◌, ◌||◌, cond, nat_le, Option, Some, None, unwrap_or, codes}
+use Rattle.std.specs.Str.{bytes_eq}
+use Rattle.pb_semantics.specs.Kind.{KindData, Slots, Cases, Shape, Spot, never, texts, hosts, recs, results, anything, no_slots, slot, no_cases, one, nowhere, spot, slot_at, is_listed, put_slot}
+use Rattle.pb_semantics.specs.Keeps.{is_among}
+use Rattle.pb_semantics.specs.Join.{join, join_slots, join_spot}
+use Rattle.pb_language.specs.Expression.{Name, Expression, Term, named_host, this_host, item_host, group_member}
+use Rattle.pb_language.specs.Same.{same_expression}
+use Rattle.pb_language.specs.World.{Group, member_of}
+
+abbrev pub spot_kind : Spot → KindData
+spot_kind nowhere = never
+spot_kind (spot a k) = k
+
+abbrev pub is_certain : Spot → Bool
+is_certain nowhere = false
+is_certain (spot a k) = a
+
+abbrev pub without_slot : Name → Slots → Slots
+without_slot n no_slots = no_slots
+without_slot n (slot m a k ss) = cond (bytes_eq n m) (without_slot n ss) (slot m a k (without_slot n ss))
+
+-- the slots with this one in place of any other of that name
+abbrev pub with_slot : Name → Bool → KindData → Slots → Slots
+with_slot n a k ss = put_slot n a k (without_slot n ss)
+
+abbrev pub with_spot : Name → Spot → Slots → Slots
+with_spot n nowhere ss = ss
+with_spot n (spot a k) ss = with_slot n a k ss
+
+-- a name that is certainly there
+abbrev pub sure : Spot → Spot
+sure nowhere = spot true never
+sure (spot a k) = spot true k
+
+-- names that a host certainly has, each at its places from one on, and the place from which on it has every name
+pub data Since : Type 0 where
+  no_since : Since
+  since : Name → ℕ → Since → Since
+  every_name : ℕ → Since → Since
+
+abbrev pub is_later : Since → ℕ → Name → Bool
+is_later no_since p x = false
+is_later (since n q l) p x = (bytes_eq x n && nat_le q p) || is_later l p x
+is_later (every_name q l) p x = nat_le q p || is_later l p x
+
+-- what is known of each host's variables
+pub record View : Type 0 where
+  pub host : Name
+  pub slots : Slots
+
+abbrev pub view_of : Name → List View → Slots
+view_of g [] = no_slots
+view_of g (v ∷ vs) = cond (bytes_eq g v.host) v.slots (view_of g vs)
+
+abbrev pub put_view : Name → Slots → List View → List View
+put_view g ss [] = []
+put_view g ss (v ∷ vs) = cond (bytes_eq g v.host) (record { host = v.host; slots = ss } ∷ vs) (v ∷ put_view g ss vs)
+
+-- what each host has at its later places
+pub record Later : Type 0 where
+  pub host : Name
+  pub names : Since
+
+abbrev pub later_of : Name → List Later → Since
+later_of g [] = no_since
+later_of g (l ∷ ls) = cond (bytes_eq g l.host) l.names (later_of g ls)
+
+-- what tests taught of the values of `vars`
+pub data Learned : Type 0 where
+  nothing : Learned
+  taught : Name → Expression → KindData → Learned → Learned
+
+abbrev pub learned_kind : Name → Expression → Learned → Option KindData
+learned_kind n e nothing = None
+learned_kind n e (taught m f k l) = cond (bytes_eq n m && same_expression e f) (Some k) (learned_kind n e l)
+
+pub record Scope : Type 0 where
+  pub own : Slots
+  pub this : Name
+  pub learned : Learned
+  pub views : List View
+  -- the hosts that are known to be active in the batch
+  pub active : List Name
+  -- what tests taught of the variables of the host that the item names, and that it is active
+  pub item_slots : Slots
+  pub item_active : Bool
+  pub groups : List Group
+  -- what active hosts have from the place of the task on; nothing under `free`
+  pub laters : List Later
+  pub place : ℕ
+
+-- the hosts that a term may name
+pub data Hosts : Type 0 where
+  these : List Name → Hosts
+  any_host : Hosts
+  no_hosts : Hosts
+  nobody : Hosts
+
+abbrev pub hosts_of_kind : KindData → Hosts
+hosts_of_kind never = these []
+hosts_of_kind (hosts ns) = these ns
+hosts_of_kind texts = any_host
+hosts_of_kind anything = any_host
+hosts_of_kind k = no_hosts
+
+abbrev pub hosts_at : Spot → Hosts
+hosts_at nowhere = nobody
+hosts_at (spot a k) = hosts_of_kind k
+
+abbrev pub only : Option Name → Hosts
+only None = nobody
+only (Some h) = these (h ∷ [])
+
+abbrev pub hosts_of : Scope → Term → Hosts
+hosts_of c (named_host n) = these (n ∷ [])
+hosts_of c this_host = these (c.this ∷ [])
+hosts_of c item_host = hosts_at (slot_at (codes "item") c.own)
+hosts_of c (group_member g n) = only (member_of g n c.groups)
+
+-- what is known of a variable of that host; the flag says that it is known to be active
+abbrev pub host_spot : Scope → Bool → Name → Name → Spot
+host_spot c on x g = cond ((on || is_among g c.active) && is_later (later_of g c.laters) c.place x) (sure (slot_at x (view_of g c.views))) (slot_at x (view_of g c.views))
+
+-- what is known of a variable of whichever of these hosts is meant
+abbrev pub each_spot : Scope → Bool → Name → List Name → Spot
+each_spot c on x [] = spot true never
+each_spot c on x (g ∷ gs) = join_spot (host_spot c on x g) (each_spot c on x gs)
+
+abbrev pub spot_among : Scope → Bool → Name → Hosts → Spot
+spot_among c on x (these gs) = each_spot c on x gs
+spot_among c on x any_host = spot false anything
+spot_among c on x no_hosts = nowhere
+spot_among c on x nobody = nowhere
+
+-- what a test taught, else what is known
+abbrev pub taught_spot : Spot → Spot → Spot
+taught_spot nowhere s = s
+taught_spot (spot a k) s = spot a k
+
+abbrev pub other_spot : Scope → Term → Name → Spot
+other_spot c (named_host n) x = spot_among c false x (hosts_of c (named_host n))
+other_spot c this_host x = spot_among c false x (hosts_of c this_host)
+other_spot c item_host x = taught_spot (slot_at x c.item_slots) (spot_among c c.item_active x (hosts_of c item_host))
+other_spot c (group_member g n) x = spot_among c false x (hosts_of c (group_member g n))
+
+abbrev pub with_both_kinds : Name → Expression → KindData → Option KindData → Learned → Learned
+with_both_kinds n e k None l = l
+with_both_kinds n e k (Some m) l = taught n e (join k m) l
+
+-- what both ways teach
+abbrev pub both_learned : Learned → Learned → Learned
+both_learned nothing m = nothing
+both_learned (taught n e k l) m = with_both_kinds n e k (learned_kind n e m) (both_learned l m)
+
+abbrev pub both_names : List Name → List Name → List Name
+both_names [] ms = []
+both_names (n ∷ ns) ms = cond (is_among n ms) (n ∷ both_names ns ms) (both_names ns ms)
+
+abbrev pub with_both_spots : Name → Bool → KindData → Spot → Slots → Slots
+with_both_spots n a k nowhere ss = ss
+with_both_spots n a k (spot b m) ss = with_slot n (a && b) (join k m) ss
+
+abbrev pub both_slots : Slots → Slots → Slots
+both_slots no_slots ts = no_slots
+both_slots (slot n a k ss) ts = with_both_spots n a k (slot_at n ts) (both_slots ss ts)
+
+abbrev pub both_views : List View → List View → List View
+both_views [] ws = []
+both_views (v ∷ vs) ws = record { host = v.host; slots = join_slots v.slots (view_of v.host ws) } ∷ both_views vs ws
+
+abbrev pub both_scopes : Scope → Scope → Scope
+both_scopes c d = record c {
+  own = join_slots c.own d.own;
+  learned = both_learned c.learned d.learned;
+  views = both_views c.views d.views;
+  active = both_names c.active d.active;
+  item_slots = both_slots c.item_slots d.item_slots;
+  item_active = c.item_active && d.item_active;
+}

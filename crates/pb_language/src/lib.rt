@@ -1,0 +1,2 @@
+// The definitions of the language: books, runs and verdicts, and what holds of them.
+#![tactic(auto)]

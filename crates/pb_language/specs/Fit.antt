@@ -15,6 +15,8 @@ pub data Fault : Type 0 where
   perhaps_missing : Fault
   wrong_kind : Fault
   unknown_name : Fault
+  unknown_handler : Fault
+  malformed : Fault
 
 -- the first of two faults
 abbrev pub first : Option Fault → Option Fault → Option Fault

@@ -7,3 +7,14 @@ pub mod Kinds
 pub mod Narrow
 pub mod Fit
 pub mod Knows
+pub mod Notify
+pub mod Task
+pub mod Rest
+pub mod Cases
+pub mod Setting
+pub mod Judgement
+pub mod Walk
+pub mod Start
+pub mod Give
+pub mod Program
+pub mod Machine

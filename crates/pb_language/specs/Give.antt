@@ -1,0 +1,203 @@
+-- What is made of the answers to a task's calls.
+use Rattle.std.specs.Prelude.{ℕ, List, [], ◌∷◌, ◌++◌, Bool, true, false, not, ◌&&◌, ◌||◌, cond, Option, Some, None, codes}
+use Rattle.std.specs.Str.{bytes_eq}
+use Rattle.pb_semantics.specs.Data.{Data, Items, Fields, boolean, text, list, rec, no_items, item, no_fields, field, field_value, put_field}
+use Rattle.pb_semantics.specs.Kind.{Shape, ok_shape, failure_shape, skipped_shape, is_skipped}
+use Rattle.pb_semantics.specs.Keeps.{flag_is}
+use Rattle.pb_semantics.specs.Admission.{AdmissionData, taken, failed, breach, admission}
+use Rattle.pb_semantics.specs.Signature.{ModuleData}
+use Rattle.pb_language.specs.Expression.{Name, Expression, Expressions}
+use Rattle.pb_language.specs.World.{World}
+use Rattle.pb_language.specs.Evaluation.{Stuck, wrong_sort, no_handler, Outcome, value, stuck, eval_all}
+use Rattle.pb_language.specs.Task.{Action, call_of, debug, set_fact, assertion, failure_of, Task}
+use Rattle.pb_language.specs.Cases.{after_prefix, fact_prefix, is_setup}
+use Rattle.pb_language.specs.Setting.{with_local}
+use Rattle.pb_language.specs.Start.{Entry, skips, calls, acts, Pass}
+
+pub data Answer : Type 0 where
+  object : Data → Answer
+  unreachable : Answer
+  broken : Answer
+
+-- the result of an item that wasn't skipped, as it was admitted, and what it sets
+pub record Own : Type 0 where
+  pub item : Option Data
+  pub shape : Shape
+  pub fields : Fields
+  pub sets : Fields
+
+pub data Admitted : Type 0 where
+  admitted : List Own → Admitted
+  breached : Admitted
+  unreached : Admitted
+
+abbrev pub with_own : Own → Admitted → Admitted
+with_own o (admitted os) = admitted (o ∷ os)
+with_own o breached = breached
+with_own o unreached = unreached
+
+abbrev pub stripped_with : Option Name → Data → Fields → Fields
+stripped_with None d fs = fs
+stripped_with (Some n) d fs = field n d fs
+
+-- the facts by their names without the prefix
+abbrev pub stripped : Fields → Fields
+stripped no_fields = no_fields
+stripped (field n d fs) = stripped_with (after_prefix fact_prefix n) d (stripped fs)
+
+abbrev pub facts_of : Option Data → Fields
+facts_of (Some (rec fs)) = field (codes "ansible_facts") (rec (stripped fs)) fs
+facts_of o = no_fields
+
+-- what an ok answer of `setup` sets
+abbrev pub set_by_answer : ModuleData → Fields → Fields
+set_by_answer m fs = cond (is_setup m) (facts_of (field_value (codes "ansible_facts") fs)) no_fields
+
+abbrev pub own_of : Option Data → ModuleData → AdmissionData → (Own → Admitted) → Admitted
+own_of o m (taken (rec fs)) go = go (record { item = o; shape = ok_shape; fields = fs; sets = set_by_answer m fs })
+own_of o m (failed (rec fs)) go = go (record { item = o; shape = failure_shape; fields = fs; sets = no_fields })
+own_of o m a go = breached
+
+-- the first breach or unreachable answer decides; a missing answer is a breach
+abbrev pub admit_answer : Option Data → Action → List Answer → (Own → List Answer → Admitted) → Admitted
+admit_answer o a [] go = breached
+admit_answer o (call_of m ps) (object d ∷ xs) go = own_of o m (admission m.ok m.failure d) (λ own. go own xs)
+admit_answer o a (unreachable ∷ xs) go = unreached
+admit_answer o a (x ∷ xs) go = breached
+
+abbrev pub skip_fields : Fields
+skip_fields = field (codes "changed") (boolean false) (field (codes "failed") (boolean false) (field (codes "skip_reason") (text (codes "Conditional result was False")) (field (codes "skipped") (boolean true) no_fields)))
+
+abbrev pub is_failure : Shape → Bool
+is_failure ok_shape = false
+is_failure failure_shape = true
+is_failure skipped_shape = false
+
+abbrev pub acted : Option Data → Shape → Fields → Fields → Own
+acted o sh fs gs = record { item = o; shape = sh; fields = put_field (codes "failed") (boolean (is_failure sh)) fs; sets = gs }
+
+abbrev pub skipped_own : Option Data → Own
+skipped_own o = record { item = o; shape = skipped_shape; fields = skip_fields; sets = no_fields }
+
+abbrev pub admit_entry : Action → Option Data → Entry → (List Answer → Admitted) → List Answer → Admitted
+admit_entry a o skips go xs = with_own (skipped_own o) (go xs)
+admit_entry a o (acts sh fs gs) go xs = with_own (acted o sh fs gs) (go xs)
+admit_entry a o (calls d) go xs = admit_answer o a xs (λ own ys. with_own own (go ys))
+
+-- the answers in the order of the calls; those past the calls are never looked at
+abbrev pub admit_passes : Action → List Pass → List Answer → Admitted
+admit_passes a [] xs = admitted []
+admit_passes a (p ∷ ps) xs = admit_entry a p.item p.entry (admit_passes a ps) xs
+
+-- the result of an item with its final statuses
+pub record Ended : Type 0 where
+  pub shape : Shape
+  pub fields : Fields
+  pub sets : Fields
+  pub changed : Bool
+  pub failed : Bool
+
+pub data Results : Type 0 where
+  results_are : List Ended → Results
+  no_results : Stuck → Results
+
+abbrev pub ended_with : Own → Bool → Bool → Ended
+ended_with o c f = record {
+  shape = o.shape;
+  fields = put_field (codes "failed") (boolean f) (put_field (codes "changed") (boolean c) o.fields);
+  sets = o.sets;
+  changed = c;
+  failed = f;
+}
+
+-- what a keyword says, or without it the field
+abbrev pub keyword_of : World → Option Expressions → Bool → Outcome
+keyword_of w None b = value (boolean b)
+keyword_of w (Some es) b = eval_all w es
+
+abbrev pub with_own_field : Option Name → Data → Fields → Fields
+with_own_field None d fs = fs
+with_own_field (Some n) d fs = field n d fs
+
+abbrev pub own_world : World → Task → Own → World
+own_world w t o = record w { mine = with_own_field t.register (rec o.fields) (with_local (codes "item") o.item w.mine) }
+
+abbrev pub with_status : Outcome → (Bool → Results) → Results
+with_status (value (boolean b)) go = go b
+with_status (value d) go = no_results wrong_sort
+with_status (stuck s) go = no_results s
+
+abbrev pub with_ended : Ended → Results → Results
+with_ended e (results_are es) = results_are (e ∷ es)
+with_ended e (no_results s) = no_results s
+
+-- `changed_when` and `failed_when` are evaluated for each item that wasn't skipped
+abbrev pub end_own : World → Task → Own → Results → Results
+end_own w t o rs =
+    cond (is_skipped o.shape) (with_ended (ended_with o false false) rs)
+    (with_status (keyword_of (own_world w t o) t.changed_when (flag_is true (field_value (codes "changed") o.fields))) (λ c.
+    with_status (keyword_of (own_world w t o) t.failed_when (flag_is true (field_value (codes "failed") o.fields))) (λ f.
+    with_ended (ended_with o c f) rs)))
+
+abbrev pub end_all : World → Task → List Own → Results
+end_all w t [] = results_are []
+end_all w t (o ∷ os) = end_own w t o (end_all w t os)
+
+abbrev pub any_changed : List Ended → Bool
+any_changed [] = false
+any_changed (e ∷ es) = e.changed || any_changed es
+
+abbrev pub any_failed : List Ended → Bool
+any_failed [] = false
+any_failed (e ∷ es) = e.failed || any_failed es
+
+abbrev pub all_skipped : List Ended → Bool
+all_skipped [] = true
+all_skipped (e ∷ es) = is_skipped e.shape && all_skipped es
+
+abbrev pub result_items : List Ended → Items
+result_items [] = no_items
+result_items (e ∷ es) = item (rec e.fields) (result_items es)
+
+abbrev pub looped_fields : List Ended → Fields
+looped_fields es =
+    field (codes "changed") (boolean (any_changed es))
+    (field (codes "failed") (boolean (any_failed es))
+    (field (codes "results") (list (result_items es))
+    (field (codes "skipped") (boolean (all_skipped es)) no_fields)))
+
+abbrev pub first_fields : List Ended → Fields
+first_fields [] = no_fields
+first_fields (e ∷ es) = e.fields
+
+-- what the task registers
+abbrev pub registered_fields : Option Expression → List Ended → Fields
+registered_fields None es = first_fields es
+registered_fields (Some l) es = looped_fields es
+
+abbrev pub failure_text : Option Data → List ℕ
+failure_text (Some (text s)) = s
+failure_text o = codes "failed_when condition was true"
+
+-- the text of the failure
+abbrev pub message_of : Option Expression → List Ended → List ℕ
+message_of None es = failure_text (field_value (codes "msg") (first_fields es))
+message_of (Some l) es = codes "One or more items failed"
+
+-- the variables with these put in one after the other
+abbrev pub with_fields : Fields → Fields → Fields
+with_fields no_fields vars = vars
+with_fields (field n d fs) vars = with_fields fs (put_field n d vars)
+
+abbrev pub with_all_sets : List Ended → Fields → Fields
+with_all_sets [] vars = vars
+with_all_sets (e ∷ es) vars = with_all_sets es (with_fields e.sets vars)
+
+abbrev pub register_field : Option Name → Data → Fields → Fields
+register_field None d vars = vars
+register_field (Some n) d vars = put_field n d vars
+
+-- the result is registered; what is set is set where the task isn't failed, or is ignored
+abbrev pub written_variables : Task → List Ended → Fields → Fields
+written_variables t es vars =
+    cond (any_failed es && not t.ignores) (register_field t.register (rec (registered_fields t.loop es)) vars) (with_all_sets es (register_field t.register (rec (registered_fields t.loop es)) vars))

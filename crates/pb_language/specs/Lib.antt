@@ -18,3 +18,14 @@ pub mod Start
 pub mod Give
 pub mod Program
 pub mod Machine
+pub mod Tables
+pub mod Book
+pub mod Expansion
+pub mod Plays
+pub mod Verdict
+pub mod Sites
+pub mod Rules
+pub mod Judged
+pub mod Drive
+pub mod Builtins
+pub mod Theorem

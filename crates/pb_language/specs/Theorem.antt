@@ -1,0 +1,43 @@
+-- What holds of every accepted book, whatever happens.
+use Rattle.std.specs.Prelude.{◌≡◌, ◌≤◌, ◌⊎◌, ℕ, ◌+◌, ◌*◌, List, [], ◌∷◌, Bool, true, false, not, ◌&&◌, length}
+use Rattle.pb_semantics.specs.Keeps.{is_among}
+use Rattle.pb_language.specs.Expression.{Name}
+use Rattle.pb_language.specs.World.{HostVariables}
+use Rattle.pb_language.specs.Book.{Book, Registry}
+use Rattle.pb_language.specs.Plays.{program_of}
+use Rattle.pb_language.specs.Program.{Inventory, Batch, all_batches}
+use Rattle.pb_language.specs.Verdict.{accepted}
+use Rattle.pb_language.specs.Judged.{judged}
+use Rattle.pb_language.specs.Machine.{Event, start, turn, Host, State, is_out, enabled, history, opening, run}
+
+-- no host stands twice in the inventory
+abbrev pub host_names : List HostVariables → List Name
+host_names [] = []
+host_names (x ∷ xs) = x.name ∷ host_names xs
+
+abbrev pub are_distinct : List Name → Bool
+are_distinct [] = true
+are_distinct (n ∷ ns) = not (is_among n ns) && are_distinct ns
+
+-- the run of a book after these events
+abbrev pub run_of : Registry → Inventory → Book → ℕ → List Event → State
+run_of ms inventory b forks es = run (program_of ms inventory b) inventory forks es
+
+-- whatever the events, no step of an accepted book is stuck: it meets no undefined variable, no missing field, no value of the wrong kind and no unknown handler
+abbrev pub NeverStuck : Type 0
+NeverStuck = (ms : Registry) (inventory : Inventory) (b : Book) (n forks : ℕ) (es : List Event) → are_distinct (host_names inventory.hosts) ≡ true → judged ms inventory b ≡ accepted n → (run_of ms inventory b forks es).is_stuck ≡ false
+
+-- and the calls that were handed out are at most the budget
+abbrev pub WithinBudget : Type 0
+WithinBudget = (ms : Registry) (inventory : Inventory) (b : Book) (n forks : ℕ) (es : List Event) → are_distinct (host_names inventory.hosts) ≡ true → judged ms inventory b ≡ accepted n → (run_of ms inventory b forks es).handed ≤ n
+
+abbrev pub none_out : List Host → Bool
+none_out [] = true
+none_out (h ∷ hs) = not (is_out h.stage) && none_out hs
+
+abbrev pub CanGoOn : State → Type 0
+CanGoOn s = ((k : ℕ) × (enabled s (start k) ≡ true)) ⊎ (enabled s turn ≡ true)
+
+-- a run that hasn't ended, isn't stopped and has no job out can start a task or turn to the next batch
+abbrev pub Progress : Type 0
+Progress = (ms : Registry) (inventory : Inventory) (b : Book) (forks : ℕ) (es : List Event) → 1 ≤ forks → (s : State) → s ≡ run_of ms inventory b forks es → s.is_stopped ≡ false → (s.batches ≡ [] → false ≡ true) → none_out s.hosts ≡ true → CanGoOn s

@@ -5,7 +5,7 @@ use Rattle.pb_semantics.specs.Data.{Data, Items, Fields, null, boolean, int, tex
 use Rattle.pb_semantics.specs.Equal.{data_eq, has_opaque, any_opaque, is_item, is_part}
 use Rattle.pb_semantics.specs.Keeps.{is_among, flag_is}
 use Rattle.pb_semantics.specs.Render.{is_plain, rendered}
-use Rattle.pb_language.specs.Expression.{Name, Comparison, equal, less, at_most, more, at_least, Status, is_failed, is_changed, is_skipped, Term, named_host, this_host, item_host, group_member, Expression, literal, path, group_host, hostvars_alone, negation, conjunction, disjunction, comparison, membership, in_batch, defined, undefinable, path_status, value_status, path_or, value_or, length_of, joined_by, concatenation, list_of, record_of, Root, variable, alias, other, Expressions, no_expressions, expression, Parts, no_parts, part}
+use Rattle.pb_language.specs.Expression.{Name, Comparison, equal, less, at_most, more, at_least, Status, is_failed, is_changed, is_skipped, Term, named_host, this_host, item_host, group_member, Expression, literal, path, hostvars_alone, negation, conjunction, disjunction, comparison, membership, in_batch, defined, undefinable, path_status, value_status, path_or, value_or, length_of, joined_by, concatenation, list_of, record_of, Root, variable, alias, other, member, Expressions, no_expressions, expression, Parts, no_parts, part}
 use Rattle.pb_language.specs.World.{World, variables_of, member_of}
 
 -- why a step can't be made
@@ -224,8 +224,7 @@ abbrev mutual
   pub eval : World → Expression → Outcome
   eval w (literal d) = value d
   eval w (path r ns) = read ns (look w r)
-  eval w (group_host g n) = or_stuck undefined (λ d. value d) (member_text (member_of g n w.groups))
-  eval w hostvars_alone = stuck wrong_sort
+  eval w (hostvars_alone o) = stuck wrong_sort
   eval w (negation e) = then_go (eval w e) negated
   eval w (conjunction es) = eval_all w es
   eval w (disjunction es) = eval_any w es
@@ -248,6 +247,7 @@ abbrev mutual
   look w (variable n) = found (field_value n w.mine)
   look w (alias n e) = readable (eval w e)
   look w (other t x) = look_there w x (host_of w t)
+  look w (member g n) = found (member_text (member_of g n w.groups))
 
   pub eval_all : World → Expressions → Outcome
   eval_all w no_expressions = value (boolean true)

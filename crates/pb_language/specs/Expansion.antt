@@ -1,7 +1,7 @@
 -- The values of `vars` in the expressions that read them.
 use Rattle.std.specs.Prelude.{ℕ, zero, suc, max, List, Bool, cond, Option, Some, None, option_map}
 use Rattle.std.specs.Str.{bytes_eq}
-use Rattle.pb_language.specs.Expression.{Name, Expression, literal, path, group_host, hostvars_alone, negation, conjunction, disjunction, comparison, membership, in_batch, defined, undefinable, path_status, value_status, path_or, value_or, length_of, joined_by, concatenation, list_of, record_of, Root, variable, alias, other, Expressions, no_expressions, expression, Parts, no_parts, part}
+use Rattle.pb_language.specs.Expression.{Name, Expression, literal, path, hostvars_alone, negation, conjunction, disjunction, comparison, membership, in_batch, defined, undefinable, path_status, value_status, path_or, value_or, length_of, joined_by, concatenation, list_of, record_of, Root, variable, alias, other, member, Expressions, no_expressions, expression, Parts, no_parts, part}
 
 -- the value of a name, the innermost first
 abbrev pub part_named : Name → Parts → Option Expression
@@ -17,8 +17,7 @@ abbrev mutual
   pub expanded : (Name → Option Expression) → Expression → Expression
   expanded f (literal d) = literal d
   expanded f (path r ns) = path (expanded_root f r) ns
-  expanded f (group_host g n) = group_host g n
-  expanded f hostvars_alone = hostvars_alone
+  expanded f (hostvars_alone o) = hostvars_alone o
   expanded f (negation e) = negation (expanded f e)
   expanded f (conjunction es) = conjunction (all_expanded f es)
   expanded f (disjunction es) = disjunction (all_expanded f es)
@@ -41,6 +40,7 @@ abbrev mutual
   expanded_root f (variable n) = root_named n (f n)
   expanded_root f (alias n e) = alias n (expanded f e)
   expanded_root f (other t x) = other t x
+  expanded_root f (member g n) = member g n
 
   pub all_expanded : (Name → Option Expression) → Expressions → Expressions
   all_expanded f no_expressions = no_expressions
@@ -64,8 +64,7 @@ abbrev mutual
   pub depth_in : (Name → ℕ) → Expression → ℕ
   depth_in f (literal d) = 0
   depth_in f (path r ns) = root_depth f r
-  depth_in f (group_host g n) = 0
-  depth_in f hostvars_alone = 0
+  depth_in f (hostvars_alone o) = 0
   depth_in f (negation e) = depth_in f e
   depth_in f (conjunction es) = depth_in_all f es
   depth_in f (disjunction es) = depth_in_all f es
@@ -88,6 +87,7 @@ abbrev mutual
   root_depth f (variable n) = f n
   root_depth f (alias n e) = depth_in f e
   root_depth f (other t x) = 0
+  root_depth f (member g n) = 0
 
   pub depth_in_all : (Name → ℕ) → Expressions → ℕ
   depth_in_all f no_expressions = 0

@@ -1,5 +1,5 @@
 -- The trees of expressions and templates.
-use Rattle.std.specs.Prelude.{ℕ, List}
+use Rattle.std.specs.Prelude.{ℕ, List, Option}
 use Rattle.pb_semantics.specs.Data.{Data}
 
 abbrev pub Name : Type 0
@@ -31,10 +31,8 @@ mutual
     literal : Data → Expression
     -- where a value stands, and the fields that are read below it
     path : Root → List Name → Expression
-    -- the name of a host of a group
-    group_host : Name → ℕ → Expression
-    -- `hostvars` without a variable, which is no value
-    hostvars_alone : Expression
+    -- `hostvars` without a variable, which is no value; with the host that it names
+    hostvars_alone : Option Term → Expression
     negation : Expression → Expression
     conjunction : Expressions → Expression
     disjunction : Expressions → Expression
@@ -57,11 +55,12 @@ mutual
     list_of : Expressions → Expression
     record_of : Parts → Expression
 
-  -- a variable of the host, a value of `vars` with its tree, a variable of another host
+  -- a variable of the host, a value of `vars` with its tree, a variable of another host, the name of a host of a group
   pub data Root : Type 0 where
     variable : Name → Root
     alias : Name → Expression → Root
     other : Term → Name → Root
+    member : Name → ℕ → Root
 
   pub data Expressions : Type 0 where
     no_expressions : Expressions

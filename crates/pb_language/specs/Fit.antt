@@ -2,9 +2,9 @@
 use Rattle.std.specs.Prelude.{ℕ, List, [], ◌∷◌, Bool, true, false, not, ◌&&◌, ◌||◌, cond, Option, Some, None, is_some, codes}
 use Rattle.pb_semantics.specs.Kind.{KindData, Slots, Spot, never, booleans, ints, texts, hosts, lists, recs, results, anything, nowhere, spot, slot_at}
 use Rattle.pb_semantics.specs.Fit.{holds_any}
-use Rattle.pb_language.specs.Expression.{Name, Comparison, equal, less, at_most, more, at_least, Term, named_host, this_host, item_host, group_member, Expression, literal, path, group_host, hostvars_alone, negation, conjunction, disjunction, comparison, membership, in_batch, defined, undefinable, path_status, value_status, path_or, value_or, length_of, joined_by, concatenation, list_of, record_of, Root, variable, alias, other, Expressions, no_expressions, expression, Parts, no_parts, part}
+use Rattle.pb_language.specs.Expression.{Name, Comparison, equal, less, at_most, more, at_least, Term, named_host, this_host, item_host, group_member, Expression, literal, path, hostvars_alone, negation, conjunction, disjunction, comparison, membership, in_batch, defined, undefinable, path_status, value_status, path_or, value_or, length_of, joined_by, concatenation, list_of, record_of, Root, variable, alias, other, member, Expressions, no_expressions, expression, Parts, no_parts, part}
 use Rattle.pb_language.specs.World.{member_of}
-use Rattle.pb_language.specs.Scope.{Scope, Hosts, these, any_host, no_hosts, nobody, spot_kind, is_certain, hosts_of, other_spot}
+use Rattle.pb_language.specs.Scope.{Scope, Hosts, these, any_host, no_hosts, nobody, is_present, spot_kind, is_certain, hosts_of, other_spot}
 use Rattle.pb_language.specs.Kinds.{kind_of, root_spot, step_spot, path_spot}
 use Rattle.pb_language.specs.Narrow.{narrow}
 
@@ -135,12 +135,16 @@ active_fault c this_host = None
 active_fault c item_host = asks wrong_kind (not (holds_any (spot_kind (slot_at (codes "item") c.own))))
 active_fault c (group_member g n) = None
 
+-- nothing is asked of what a test showed to be there, but what is asked under the test
+abbrev pub path_fault : Bool → Option Fault → Option Fault → Option Fault → Option Fault
+path_fault true tested root steps = tested
+path_fault false tested root steps = first root steps
+
 abbrev mutual
   pub fault : Scope → Expression → Option Fault
   fault c (literal d) = None
-  fault c (path r ns) = first (read_fault c r) (steps_fault ns (spot_kind (root_spot c r)))
-  fault c (group_host g n) = asks unknown_name (is_some (member_of g n c.groups))
-  fault c hostvars_alone = Some wrong_kind
+  fault c (path r ns) = path_fault (is_present c r ns) (tested_fault c r) (read_fault c r) (steps_fault ns (spot_kind (root_spot c r)))
+  fault c (hostvars_alone o) = Some wrong_kind
   fault c (negation e) = first (fault c e) (asks wrong_kind (is_boolean (kind_of c e)))
   fault c (conjunction es) = first (chain_fault c es true) (asks wrong_kind (are_booleans c es true))
   fault c (disjunction es) = first (chain_fault c es false) (asks wrong_kind (are_booleans c es false))
@@ -149,7 +153,7 @@ abbrev mutual
   fault c (in_batch t) = first (term_fault c t) (active_fault c t)
   fault c (defined r ns) = tested_fault c r
   fault c (undefinable e) = first (fault c e) (Some wrong_kind)
-  fault c (path_status s r ns) = first (first (read_fault c r) (steps_fault ns (spot_kind (root_spot c r)))) (asks wrong_kind (is_result (spot_kind (path_spot ns (root_spot c r)))))
+  fault c (path_status s r ns) = first (path_fault (is_present c r ns) (tested_fault c r) (read_fault c r) (steps_fault ns (spot_kind (root_spot c r)))) (asks wrong_kind (is_result (spot_kind (path_spot ns (root_spot c r)))))
   fault c (value_status s e) = first (fault c e) (asks wrong_kind (is_result (kind_of c e)))
   fault c (path_or r ns e) = first (tested_fault c r) (first (fault c e) (asks wrong_kind (not (is_any (kind_of c e)))))
   fault c (value_or a e) = first (fault c a) (first (fault c e) (asks wrong_kind (not (is_any (kind_of c a) || is_any (kind_of c e)))))
@@ -165,11 +169,14 @@ abbrev mutual
   read_fault c (alias n e) = first (fault c e) (asks wrong_kind (not (is_any (kind_of c e))))
   read_fault c (other t x) = first (term_fault c t) (first (hosts_fault (hosts_of c t)) (asks perhaps_undefined_there (is_certain (other_spot c t x))))
 
+  read_fault c (member g n) = asks unknown_name (is_some (member_of g n c.groups))
+
   -- a value that is tested: a value of `vars` is asked for all the same
   pub tested_fault : Scope → Root → Option Fault
   tested_fault c (variable n) = None
   tested_fault c (alias n e) = first (fault c e) (asks wrong_kind (not (is_any (kind_of c e))))
   tested_fault c (other t x) = hosts_fault (hosts_of c t)
+  tested_fault c (member g n) = None
 
   -- each operand where those before it had that answer
   pub chain_fault : Scope → Expressions → Bool → Option Fault

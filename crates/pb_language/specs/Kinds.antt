@@ -3,9 +3,9 @@ use Rattle.std.specs.Prelude.{ℕ, suc, List, [], ◌∷◌, Bool, true, false, 
 use Rattle.pb_semantics.specs.Data.{Data, Items, Fields, null, boolean, int, text, list, rec, opaque, no_items, item, no_fields, field, count_of}
 use Rattle.pb_semantics.specs.Kind.{KindData, Slots, Spot, never, nulls, booleans, ints, texts, hosts, lists, recs, results, anything, no_slots, slot, nowhere, spot, slot_at}
 use Rattle.pb_semantics.specs.Join.{join}
-use Rattle.pb_language.specs.Expression.{Name, Expression, literal, path, group_host, hostvars_alone, negation, conjunction, disjunction, comparison, membership, in_batch, defined, undefinable, path_status, value_status, path_or, value_or, length_of, joined_by, concatenation, list_of, record_of, Root, variable, alias, other, Expressions, no_expressions, expression, Parts, no_parts, part}
+use Rattle.pb_language.specs.Expression.{Name, Expression, literal, path, hostvars_alone, negation, conjunction, disjunction, comparison, membership, in_batch, defined, undefinable, path_status, value_status, path_or, value_or, length_of, joined_by, concatenation, list_of, record_of, Root, variable, alias, other, member, Expressions, no_expressions, expression, Parts, no_parts, part}
 use Rattle.pb_language.specs.World.{member_of}
-use Rattle.pb_language.specs.Scope.{Scope, Learned, learned_kind, spot_kind, with_slot, other_spot}
+use Rattle.pb_language.specs.Scope.{Scope, learned_kind, is_present, spot_kind, sure, with_slot, other_spot}
 
 -- the kind of a value that is known
 abbrev mutual
@@ -45,9 +45,14 @@ path_spot [] s = s
 path_spot (n ∷ ns) nowhere = nowhere
 path_spot (n ∷ ns) (spot a k) = path_spot ns (below_spot a (step_spot n k))
 
-abbrev pub member_kind : Option Name → KindData
-member_kind None = never
-member_kind (Some h) = hosts (h ∷ [])
+abbrev pub member_spot : Option Name → Spot
+member_spot None = nowhere
+member_spot (Some h) = spot true (hosts (h ∷ []))
+
+-- what a test showed to be there is there
+abbrev pub shown_spot : Bool → Spot → Spot
+shown_spot true s = sure s
+shown_spot false s = s
 
 -- the kind of a value where it is certainly there, of its default where it never is, else of either
 abbrev pub default_kind : Spot → KindData → KindData
@@ -63,8 +68,7 @@ abbrev mutual
   pub kind_of : Scope → Expression → KindData
   kind_of c (literal d) = known_kind d
   kind_of c (path r ns) = spot_kind (path_spot ns (root_spot c r))
-  kind_of c (group_host g n) = member_kind (member_of g n c.groups)
-  kind_of c hostvars_alone = never
+  kind_of c (hostvars_alone o) = never
   kind_of c (negation e) = booleans
   kind_of c (conjunction es) = booleans
   kind_of c (disjunction es) = booleans
@@ -75,7 +79,7 @@ abbrev mutual
   kind_of c (undefinable e) = booleans
   kind_of c (path_status s r ns) = booleans
   kind_of c (value_status s e) = booleans
-  kind_of c (path_or r ns e) = default_kind (path_spot ns (root_spot c r)) (kind_of c e)
+  kind_of c (path_or r ns e) = default_kind (shown_spot (is_present c r ns) (path_spot ns (root_spot c r))) (kind_of c e)
   kind_of c (value_or a e) = kind_of c a
   kind_of c (length_of e) = ints
   kind_of c (joined_by e s) = texts
@@ -88,6 +92,7 @@ abbrev mutual
   root_spot c (variable n) = slot_at n c.own
   root_spot c (alias n e) = spot true (unwrap_or (learned_kind n e c.learned) (kind_of c e))
   root_spot c (other t x) = other_spot c t x
+  root_spot c (member g n) = member_spot (member_of g n c.groups)
 
   pub items_kind : Scope → Expressions → KindData
   items_kind c no_expressions = never

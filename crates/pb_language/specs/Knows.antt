@@ -4,10 +4,10 @@ use Rattle.pb_semantics.specs.Data.{Data, text, boolean, field_value}
 use Rattle.pb_semantics.specs.Kind.{KindData, Spot, recs, spot, slot_at}
 use Rattle.pb_semantics.specs.Keeps.{keeps, is_among, spot_ok, Models}
 use Rattle.pb_semantics.specs.Well.{Well}
-use Rattle.pb_language.specs.Expression.{Name, Expression}
+use Rattle.pb_language.specs.Expression.{Name, Expression, Root}
 use Rattle.pb_language.specs.World.{World, variables_of}
-use Rattle.pb_language.specs.Evaluation.{value, eval}
-use Rattle.pb_language.specs.Scope.{Scope, view_of, later_of, is_later, learned_kind}
+use Rattle.pb_language.specs.Evaluation.{value, eval, look, is_there}
+use Rattle.pb_language.specs.Scope.{Scope, is_present_path, view_of, later_of, is_later, learned_kind}
 use Rattle.pb_language.specs.Kinds.{kind_of}
 use Rattle.pb_language.specs.Narrow.{narrow}
 use Rattle.pb_language.specs.Fit.{fault}
@@ -28,6 +28,7 @@ pub record Knows (w : World) (c : Scope) : Type 0 where
   pub views : (g : Name) → Models (variables_of g w.hosts) (view_of g c.views)
   -- what tests taught is so
   pub learned : (n : Name) (e : Expression) (k : KindData) (d : Data) → learned_kind n e c.learned ≡ Some k → eval w e ≡ value d → keeps d k ≡ true
+  pub present : (r : Root) (ns : List Name) → is_present_path r ns c.present ≡ true → is_there ns (look w r) ≡ value (boolean true)
   pub active : (g : Name) → is_among g c.active ≡ true → is_among g w.batch ≡ true
   pub item_slots : (g : Name) → field_value (codes "item") w.mine ≡ Some (text g) → (x : Name) (a : Bool) (k : KindData) → slot_at x c.item_slots ≡ spot a k → spot_ok (field_value x (variables_of g w.hosts)) (spot a k) ≡ true
   pub item_active : c.item_active ≡ true → (g : Name) → field_value (codes "item") w.mine ≡ Some (text g) → is_among g w.batch ≡ true

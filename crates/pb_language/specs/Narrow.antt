@@ -3,9 +3,9 @@ use Rattle.std.specs.Prelude.{ℕ, List, [], ◌∷◌, Bool, true, false, not, 
 use Rattle.pb_semantics.specs.Data.{bool_eq}
 use Rattle.pb_semantics.specs.Kind.{KindData, Slots, Cases, Shape, Spot, never, recs, results, anything, no_slots, slot, no_cases, one, nowhere, spot, slot_at, is_skipped as is_skip}
 use Rattle.pb_semantics.specs.Join.{join}
-use Rattle.pb_language.specs.Expression.{Name, Status, is_failed, is_changed, is_skipped, Term, named_host, this_host, item_host, group_member, Expression, literal, path, group_host, hostvars_alone, negation, conjunction, disjunction, comparison, membership, in_batch, defined, undefinable, path_status, value_status, path_or, value_or, length_of, joined_by, concatenation, list_of, record_of, Root, variable, alias, other, Expressions, no_expressions, expression}
+use Rattle.pb_language.specs.Expression.{Name, Status, is_failed, is_changed, is_skipped, Term, named_host, this_host, item_host, group_member, Expression, literal, path, hostvars_alone, negation, conjunction, disjunction, comparison, membership, in_batch, defined, undefinable, path_status, value_status, path_or, value_or, length_of, joined_by, concatenation, list_of, record_of, Root, variable, alias, other, member, Expressions, no_expressions, expression}
 use Rattle.pb_language.specs.World.{member_of}
-use Rattle.pb_language.specs.Scope.{Scope, spot_kind, with_spot, taught, view_of, put_view, host_spot, other_spot, both_scopes}
+use Rattle.pb_language.specs.Scope.{Scope, resolved, spot_kind, with_spot, taught, view_of, put_view, host_spot, other_spot, both_scopes}
 use Rattle.pb_language.specs.Kinds.{root_spot}
 
 -- the least record above the cases
@@ -92,6 +92,11 @@ teach c f (other (named_host g) x) = teach_host c f x g
 teach c f (other this_host x) = teach_host c f x c.this
 teach c f (other item_host x) = record c { item_slots = with_spot x (f (other_spot c item_host x)) c.item_slots }
 teach c f (other (group_member g n) x) = teach_member c f x (member_of g n c.groups)
+teach c f (member g n) = c
+
+-- each step of the path is there
+abbrev pub teach_present : Scope → Root → List Name → Scope
+teach_present c r ns = record (teach c (there_spot (defined_at ns)) r) { present = record { root = resolved c r; steps = ns } ∷ c.present }
 
 abbrev pub active_member : Scope → Option Name → Scope
 active_member c None = c
@@ -113,7 +118,7 @@ abbrev mutual
   narrow c (disjunction es) true = narrow_some c es true
   narrow c (disjunction es) false = narrow_each c es false
   narrow c (in_batch t) true = teach_active c t
-  narrow c (defined r ns) true = teach c (there_spot (defined_at ns)) r
+  narrow c (defined r ns) true = teach_present c r ns
   narrow c (path_status s r ns) b = teach c (changed_spot (changed_at ns (on_results (cases_with (answers s b))))) r
   narrow c e b = c
 

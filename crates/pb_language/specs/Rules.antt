@@ -3,7 +3,7 @@ use Rattle.std.specs.Prelude.{ℕ, zero, suc, ◌+◌, List, [], ◌∷◌, ◌+
 use Rattle.std.specs.Str.{bytes_eq}
 use Rattle.pb_semantics.specs.Keeps.{is_among}
 use Rattle.pb_semantics.specs.Signature.{ParameterData, ModuleData}
-use Rattle.pb_language.specs.Expression.{Name, Term, named_host, this_host, item_host, group_member, Expression, literal, path, group_host, hostvars_alone, negation, conjunction, disjunction, comparison, membership, in_batch, defined, undefinable, path_status, value_status, path_or, value_or, length_of, joined_by, concatenation, list_of, record_of, Root, variable, alias, other, Expressions, no_expressions, expression, Parts, no_parts, part}
+use Rattle.pb_language.specs.Expression.{Name, Term, named_host, this_host, item_host, group_member, Expression, literal, path, hostvars_alone, negation, conjunction, disjunction, comparison, membership, in_batch, defined, undefinable, path_status, value_status, path_or, value_or, length_of, joined_by, concatenation, list_of, record_of, Root, variable, alias, other, member, Expressions, no_expressions, expression, Parts, no_parts, part}
 use Rattle.pb_language.specs.Expansion.{expanded, part_named, trees, chain_length}
 use Rattle.pb_language.specs.World.{Group, member_of}
 use Rattle.pb_language.specs.Notify.{HandlerNames, notified, all_notified, names_something}
@@ -173,6 +173,10 @@ is_known_term v this_host = true
 is_known_term v item_host = true
 is_known_term v (group_member g n) = is_some (member_of g n v.groups)
 
+abbrev pub is_known_option : Inventory → Option Term → Bool
+is_known_option v None = true
+is_known_option v (Some t) = is_known_term v t
+
 -- a literal that is only looked for names nothing
 abbrev pub is_known_member : Inventory → Term → Bool
 is_known_member v (named_host n) = true
@@ -190,8 +194,7 @@ abbrev mutual
   pub names_known : Inventory → Expression → Bool
   names_known v (literal d) = true
   names_known v (path r ns) = root_known v r ns
-  names_known v (group_host g n) = is_some (member_of g n v.groups)
-  names_known v hostvars_alone = true
+  names_known v (hostvars_alone o) = is_known_option v o
   names_known v (negation e) = names_known v e
   names_known v (conjunction es) = all_names_known v es
   names_known v (disjunction es) = all_names_known v es
@@ -214,11 +217,13 @@ abbrev mutual
   root_known v (variable n) ns = is_known_variable v n ns
   root_known v (alias n e) ns = names_known v e
   root_known v (other t x) ns = is_known_term v t
+  root_known v (member g n) ns = is_some (member_of g n v.groups)
 
   pub tested_known : Inventory → Root → Bool
   tested_known v (variable n) = true
   tested_known v (alias n e) = names_known v e
   tested_known v (other t x) = true
+  tested_known v (member g n) = true
 
   pub all_names_known : Inventory → Expressions → Bool
   all_names_known v no_expressions = true
@@ -267,8 +272,7 @@ abbrev mutual
   pub reads_others : Expression → Bool
   reads_others (literal d) = false
   reads_others (path r ns) = root_reads_others r
-  reads_others (group_host g n) = false
-  reads_others hostvars_alone = true
+  reads_others (hostvars_alone o) = true
   reads_others (negation e) = reads_others e
   reads_others (conjunction es) = any_reads_others es
   reads_others (disjunction es) = any_reads_others es
@@ -291,6 +295,7 @@ abbrev mutual
   root_reads_others (variable n) = bytes_eq n (codes "ansible_play_batch")
   root_reads_others (alias n e) = reads_others e
   root_reads_others (other t x) = true
+  root_reads_others (member g n) = false
 
   pub any_reads_others : Expressions → Bool
   any_reads_others no_expressions = false

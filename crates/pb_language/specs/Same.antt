@@ -1,8 +1,8 @@
 -- Whether two trees are the same.
-use Rattle.std.specs.Prelude.{ℕ, List, [], ◌∷◌, Bool, true, false, ◌&&◌, nat_eq}
+use Rattle.std.specs.Prelude.{ℕ, List, [], ◌∷◌, Bool, true, false, ◌&&◌, nat_eq, Option, Some, None}
 use Rattle.std.specs.Str.{bytes_eq}
 use Rattle.pb_semantics.specs.Equal.{data_eq}
-use Rattle.pb_language.specs.Expression.{Name, Comparison, equal, less, at_most, more, at_least, Status, is_failed, is_changed, is_skipped, Term, named_host, this_host, item_host, group_member, Expression, literal, path, group_host, hostvars_alone, negation, conjunction, disjunction, comparison, membership, in_batch, defined, undefinable, path_status, value_status, path_or, value_or, length_of, joined_by, concatenation, list_of, record_of, Root, variable, alias, other, Expressions, no_expressions, expression, Parts, no_parts, part}
+use Rattle.pb_language.specs.Expression.{Name, Comparison, equal, less, at_most, more, at_least, Status, is_failed, is_changed, is_skipped, Term, named_host, this_host, item_host, group_member, Expression, literal, path, hostvars_alone, negation, conjunction, disjunction, comparison, membership, in_batch, defined, undefinable, path_status, value_status, path_or, value_or, length_of, joined_by, concatenation, list_of, record_of, Root, variable, alias, other, member, Expressions, no_expressions, expression, Parts, no_parts, part}
 
 abbrev pub same_names : List Name → List Name → Bool
 same_names [] [] = true
@@ -30,12 +30,16 @@ same_term item_host item_host = true
 same_term (group_member g n) (group_member h m) = bytes_eq g h && nat_eq n m
 same_term t u = false
 
+abbrev pub same_option : Option Term → Option Term → Bool
+same_option None None = true
+same_option (Some t) (Some u) = same_term t u
+same_option o p = false
+
 abbrev mutual
   pub same_expression : Expression → Expression → Bool
   same_expression (literal d) (literal e) = data_eq d e
   same_expression (path r ns) (path q ms) = same_root r q && same_names ns ms
-  same_expression (group_host g n) (group_host h m) = bytes_eq g h && nat_eq n m
-  same_expression hostvars_alone hostvars_alone = true
+  same_expression (hostvars_alone o) (hostvars_alone p) = same_option o p
   same_expression (negation e) (negation f) = same_expression e f
   same_expression (conjunction es) (conjunction fs) = same_expressions es fs
   same_expression (disjunction es) (disjunction fs) = same_expressions es fs
@@ -59,6 +63,7 @@ abbrev mutual
   same_root (variable n) (variable m) = bytes_eq n m
   same_root (alias n e) (alias m f) = bytes_eq n m && same_expression e f
   same_root (other t x) (other u y) = same_term t u && bytes_eq x y
+  same_root (member g n) (member h m) = bytes_eq g h && nat_eq n m
   same_root r q = false
 
   pub same_expressions : Expressions → Expressions → Bool

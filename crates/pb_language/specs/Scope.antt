@@ -4,8 +4,8 @@ use Rattle.std.specs.Str.{bytes_eq}
 use Rattle.pb_semantics.specs.Kind.{KindData, Slots, Cases, Shape, Spot, never, texts, hosts, recs, results, anything, no_slots, slot, no_cases, one, nowhere, spot, slot_at, is_listed, put_slot}
 use Rattle.pb_semantics.specs.Keeps.{is_among}
 use Rattle.pb_semantics.specs.Join.{join, join_slots, join_spot}
-use Rattle.pb_language.specs.Expression.{Name, Expression, Term, named_host, this_host, item_host, group_member}
-use Rattle.pb_language.specs.Same.{same_expression}
+use Rattle.pb_language.specs.Expression.{Name, Expression, Root, variable, alias, other, member, Term, named_host, this_host, item_host, group_member}
+use Rattle.pb_language.specs.Same.{same_expression, same_root}
 use Rattle.pb_language.specs.World.{Group, member_of}
 
 abbrev pub spot_kind : Spot → KindData
@@ -75,10 +75,26 @@ abbrev pub learned_kind : Name → Expression → Learned → Option KindData
 learned_kind n e nothing = None
 learned_kind n e (taught m f k l) = cond (bytes_eq n m && same_expression e f) (Some k) (learned_kind n e l)
 
+-- a path of which each step is there
+pub record Present : Type 0 where
+  pub root : Root
+  pub steps : List Name
+
+abbrev pub begins_with : List Name → List Name → Bool
+begins_with [] ms = true
+begins_with (n ∷ ns) [] = false
+begins_with (n ∷ ns) (m ∷ ms) = bytes_eq n m && begins_with ns ms
+
+abbrev pub is_present_path : Root → List Name → List Present → Bool
+is_present_path r ns [] = false
+is_present_path r ns (p ∷ ps) = (same_root r p.root && begins_with ns p.steps) || is_present_path r ns ps
+
 pub record Scope : Type 0 where
   pub own : Slots
   pub this : Name
   pub learned : Learned
+  -- the paths that were tested to be there
+  pub present : List Present
   pub views : List View
   -- the hosts that are known to be active in the batch
   pub active : List Name
@@ -89,6 +105,27 @@ pub record Scope : Type 0 where
   -- what active hosts have from the place of the task on; nothing under `free`
   pub laters : List Later
   pub place : ℕ
+
+abbrev pub named_term : Term → Option Name → Term
+named_term t None = t
+named_term t (Some h) = named_host h
+
+-- a host by its name, where that is known
+abbrev pub resolved_term : Scope → Term → Term
+resolved_term c (named_host n) = named_host n
+resolved_term c this_host = named_host c.this
+resolved_term c item_host = item_host
+resolved_term c (group_member g n) = named_term (group_member g n) (member_of g n c.groups)
+
+abbrev pub resolved : Scope → Root → Root
+resolved c (variable n) = variable n
+resolved c (alias n e) = alias n e
+resolved c (other t x) = other (resolved_term c t) x
+resolved c (member g n) = member g n
+
+-- a test showed that the path is there
+abbrev pub is_present : Scope → Root → List Name → Bool
+is_present c r ns = is_present_path (resolved c r) ns c.present
 
 -- the hosts that a term may name
 pub data Hosts : Type 0 where
@@ -153,6 +190,10 @@ abbrev pub both_learned : Learned → Learned → Learned
 both_learned nothing m = nothing
 both_learned (taught n e k l) m = with_both_kinds n e k (learned_kind n e m) (both_learned l m)
 
+abbrev pub both_present : List Present → List Present → List Present
+both_present [] qs = []
+both_present (p ∷ ps) qs = cond (is_present_path p.root p.steps qs) (p ∷ both_present ps qs) (both_present ps qs)
+
 abbrev pub both_names : List Name → List Name → List Name
 both_names [] ms = []
 both_names (n ∷ ns) ms = cond (is_among n ms) (n ∷ both_names ns ms) (both_names ns ms)
@@ -173,6 +214,7 @@ abbrev pub both_scopes : Scope → Scope → Scope
 both_scopes c d = record c {
   own = join_slots c.own d.own;
   learned = both_learned c.learned d.learned;
+  present = both_present c.present d.present;
   views = both_views c.views d.views;
   active = both_names c.active d.active;
   item_slots = both_slots c.item_slots d.item_slots;

@@ -45,6 +45,7 @@ scope_at st laters place own = record {
   own = own;
   this = st.this;
   learned = nothing;
+  present = [];
   views = st.views;
   active = [];
   item_slots = no_slots;

@@ -1,0 +1,92 @@
+#!/usr/bin/env python3
+"""Writes the rows of crates/pb_rows: cases as closed terms that the definitions compute.
+
+Usage: make_rows.py CASES_FOLDER IDS_FILE OUTPUT_FOLDER
+
+A case says what is printed for a book; its row says that `judged`, or the run of an accepted book, gives just that.
+"""
+
+import json
+import re
+import sys
+from pathlib import Path
+
+from books import answers_term, book_term, inventory_term, registry_term
+from expressions import codes
+
+PER_FILE = 12
+HEADER = Path(__file__).with_name("header.antt")
+
+
+def read_text(source):
+    if isinstance(source, str):
+        return source
+    raise ValueError("made of pieces")
+
+
+def verdict_term(line):
+    accepted = re.fullmatch(r"accepted budget (\d+)", line)
+    if accepted:
+        return f"accepted {accepted.group(1)}"
+    refused = re.fullmatch(r"refused V(\d\d) line (\d+) host (\S+)", line)
+    host = "None" if refused.group(3) == "-" else f"(Some {codes(refused.group(3))})"
+    return f"refused (record {{ code = {int(refused.group(1))}; line = {refused.group(2)}; host = {host} }})"
+
+
+def recap_term(line):
+    counts = re.findall(r"(\w+)=(\d+)", line)
+    return "record { " + "; ".join(f"{name} = {count}" for name, count in counts) + " }"
+
+
+def row(case):
+    name = case["id"].replace("-", "_")
+    book = json.loads(read_text(case["book"]))
+    hosts, inventory = inventory_term(json.loads(read_text(case["inventory"])))
+    signatures = json.loads(read_text(case["signatures"])) if case["signatures"] else None
+    lines = case["expected_stdout"].splitlines()
+    note = " ".join((case.get("note") or "").split())
+    given = (
+        f"{name}_book : Book\n{name}_book = {book_term(book)}\n\n"
+        f"{name}_inventory : Inventory\n{name}_inventory = {inventory}\n\n"
+        f"{name}_registry : Registry\n{name}_registry = {registry_term(signatures)}\n\n"
+    ).replace(f"{name}_book :", f"abbrev {name}_book :").replace(f"{name}_inventory :", f"abbrev {name}_inventory :")
+    given = given.replace(f"{name}_registry :", f"abbrev {name}_registry :")
+    judged = f"judged {name}_registry {name}_inventory {name}_book"
+    if lines and re.match("accepted|refused V", lines[0]):
+        return f"-- {name}: {note}\n{given}{name} : {judged} ≡ {verdict_term(lines[0])}\n{name} = refl\n"
+    answers = answers_term(json.loads(read_text(case["answers"])), hosts)
+    recaps = "(" + "".join(f"{recap_term(line)} ∷ " for line in lines) + "[])"
+    program = f"{name}_registry {name}_inventory {name}_book {case['forks']} {answers}"
+    return f"-- {name}: {note}\n{given}{name} : recaps_of {program} ≡ {recaps}\nunfolding digits\n{name} = refl\n"
+
+
+def is_judged(case):
+    """Whether the definitions speak of the case: of its verdict or its run, and not of how its bytes are read."""
+    lines = case["expected_stdout"].splitlines()
+    if "before_until" in case or not lines or not all(isinstance(case[k], str) for k in ("book", "inventory")):
+        return False
+    return re.match(r"accepted|refused V|\S+ : ok=", lines[0]) is not None
+
+
+def cases_in(folder):
+    for path in sorted(Path(folder).glob("*.jsonl")):
+        for line in path.read_text().splitlines():
+            yield json.loads(line)
+
+
+def main():
+    folder, ids, output = sys.argv[1:]
+    chosen = Path(ids).read_text().split()
+    found = {case["id"]: case for case in cases_in(folder)}
+    header = HEADER.read_text()
+    files = {}
+    for name in chosen:
+        files.setdefault(name.split("-")[0], []).append(row(found[name]))
+    for kind, rows in files.items():
+        for number, start in enumerate(range(0, len(rows), PER_FILE)):
+            text = f"-- Cases of {kind}, computed.\n" + header + "\n" + "\n".join(rows[start : start + PER_FILE])
+            Path(output, f"{kind.capitalize()}{number + 1:02}.antt").write_text(text)
+
+
+if __name__ == "__main__":
+    main()

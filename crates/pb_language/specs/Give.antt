@@ -2,7 +2,7 @@
 use Rattle.std.specs.Prelude.{ℕ, List, [], ◌∷◌, ◌++◌, Bool, true, false, not, ◌&&◌, ◌||◌, cond, Option, Some, None, codes}
 use Rattle.std.specs.Str.{bytes_eq}
 use Rattle.pb_semantics.specs.Data.{Data, Items, Fields, boolean, text, list, rec, no_items, item, no_fields, field, field_value, put_field}
-use Rattle.pb_semantics.specs.Kind.{Shape, ok_shape, failure_shape, skipped_shape, is_skipped}
+use Rattle.pb_semantics.specs.Kind.{Slots, Spot, recs, no_slots, slot, spot, slot_at, Shape, ok_shape, failure_shape, skipped_shape, is_skipped}
 use Rattle.pb_semantics.specs.Keeps.{flag_is}
 use Rattle.pb_semantics.specs.Admission.{AdmissionData, taken, failed, breach, admission}
 use Rattle.pb_semantics.specs.Signature.{ModuleData}
@@ -10,9 +10,9 @@ use Rattle.pb_language.specs.Expression.{Name, Expression, Expressions}
 use Rattle.pb_language.specs.World.{World}
 use Rattle.pb_language.specs.Evaluation.{Stuck, wrong_sort, no_handler, Outcome, value, stuck, eval_all}
 use Rattle.pb_language.specs.Task.{Action, call_of, debug, set_fact, assertion, failure_of, Task}
-use Rattle.pb_language.specs.Cases.{after_prefix, fact_prefix, is_setup}
+use Rattle.pb_language.specs.Cases.{after_prefix, fact_prefix, is_setup, slots_of}
 use Rattle.pb_language.specs.Setting.{with_local}
-use Rattle.pb_language.specs.Start.{Entry, skips, calls, acts, Pass}
+use Rattle.pb_language.specs.Start.{Changes, no_changes, change, Entry, skips, calls, acts, Pass}
 
 pub data Answer : Type 0 where
   object : Data → Answer
@@ -24,7 +24,7 @@ pub record Own : Type 0 where
   pub item : Option Data
   pub shape : Shape
   pub fields : Fields
-  pub sets : Fields
+  pub sets : Changes
 
 pub data Admitted : Type 0 where
   admitted : List Own → Admitted
@@ -36,26 +36,31 @@ with_own o (admitted os) = admitted (o ∷ os)
 with_own o breached = breached
 with_own o unreached = unreached
 
-abbrev pub stripped_with : Option Name → Data → Fields → Fields
-stripped_with None d fs = fs
-stripped_with (Some n) d fs = field n d fs
+abbrev pub stripped_with : Option Name → Option Data → Fields → Fields
+stripped_with (Some n) (Some d) fs = field n d fs
+stripped_with o p fs = fs
 
--- the facts by their names without the prefix
-abbrev pub stripped : Fields → Fields
-stripped no_fields = no_fields
-stripped (field n d fs) = stripped_with (after_prefix fact_prefix n) d (stripped fs)
+-- the facts that the shape names, by their names without the prefix
+abbrev pub stripped : Slots → Fields → Fields
+stripped no_slots fs = no_fields
+stripped (slot n a k ss) fs = stripped_with (after_prefix fact_prefix n) (field_value n fs) (stripped ss fs)
 
-abbrev pub facts_of : Option Data → Fields
-facts_of (Some (rec fs)) = field (codes "ansible_facts") (rec (stripped fs)) fs
-facts_of o = no_fields
+-- the facts that the shape names; one that the answer doesn't have stays as it was
+abbrev pub facts_changed : Slots → Fields → Changes
+facts_changed no_slots fs = no_changes
+facts_changed (slot n a k ss) fs = change n (field_value n fs) (facts_changed ss fs)
+
+abbrev pub facts_of : Spot → Option Data → Changes
+facts_of (spot a (recs ss)) (Some (rec fs)) = change (codes "ansible_facts") (Some (rec (stripped ss fs))) (facts_changed ss fs)
+facts_of s o = no_changes
 
 -- what an ok answer of `setup` sets
-abbrev pub set_by_answer : ModuleData → Fields → Fields
-set_by_answer m fs = cond (is_setup m) (facts_of (field_value (codes "ansible_facts") fs)) no_fields
+abbrev pub set_by_answer : ModuleData → Fields → Changes
+set_by_answer m fs = cond (is_setup m) (facts_of (slot_at (codes "ansible_facts") (slots_of m.ok)) (field_value (codes "ansible_facts") fs)) no_changes
 
 abbrev pub own_of : Option Data → ModuleData → AdmissionData → (Own → Admitted) → Admitted
 own_of o m (taken (rec fs)) go = go (record { item = o; shape = ok_shape; fields = fs; sets = set_by_answer m fs })
-own_of o m (failed (rec fs)) go = go (record { item = o; shape = failure_shape; fields = fs; sets = no_fields })
+own_of o m (failed (rec fs)) go = go (record { item = o; shape = failure_shape; fields = fs; sets = no_changes })
 own_of o m a go = breached
 
 -- the first breach or unreachable answer decides; a missing answer is a breach
@@ -73,11 +78,11 @@ is_failure ok_shape = false
 is_failure failure_shape = true
 is_failure skipped_shape = false
 
-abbrev pub acted : Option Data → Shape → Fields → Fields → Own
+abbrev pub acted : Option Data → Shape → Fields → Changes → Own
 acted o sh fs gs = record { item = o; shape = sh; fields = put_field (codes "failed") (boolean (is_failure sh)) fs; sets = gs }
 
 abbrev pub skipped_own : Option Data → Own
-skipped_own o = record { item = o; shape = skipped_shape; fields = skip_fields; sets = no_fields }
+skipped_own o = record { item = o; shape = skipped_shape; fields = skip_fields; sets = no_changes }
 
 abbrev pub admit_entry : Action → Option Data → Entry → (List Answer → Admitted) → List Answer → Admitted
 admit_entry a o skips go xs = with_own (skipped_own o) (go xs)
@@ -93,7 +98,7 @@ admit_passes a (p ∷ ps) xs = admit_entry a p.item p.entry (admit_passes a ps) 
 pub record Ended : Type 0 where
   pub shape : Shape
   pub fields : Fields
-  pub sets : Fields
+  pub sets : Changes
   pub changed : Bool
   pub failed : Bool
 
@@ -184,14 +189,18 @@ abbrev pub message_of : Option Expression → List Ended → List ℕ
 message_of None es = failure_text (field_value (codes "msg") (first_fields es))
 message_of (Some l) es = codes "One or more items failed"
 
--- the variables with these put in one after the other
-abbrev pub with_fields : Fields → Fields → Fields
-with_fields no_fields vars = vars
-with_fields (field n d fs) vars = with_fields fs (put_field n d vars)
+abbrev pub with_change : Name → Option Data → Fields → Fields
+with_change n None vars = vars
+with_change n (Some d) vars = put_field n d vars
+
+-- the variables with these changes one after the other
+abbrev pub with_changes : Changes → Fields → Fields
+with_changes no_changes vars = vars
+with_changes (change n o r) vars = with_changes r (with_change n o vars)
 
 abbrev pub with_all_sets : List Ended → Fields → Fields
 with_all_sets [] vars = vars
-with_all_sets (e ∷ es) vars = with_all_sets es (with_fields e.sets vars)
+with_all_sets (e ∷ es) vars = with_all_sets es (with_changes e.sets vars)
 
 abbrev pub register_field : Option Name → Data → Fields → Fields
 register_field None d vars = vars

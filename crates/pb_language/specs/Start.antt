@@ -11,11 +11,16 @@ use Rattle.pb_language.specs.Task.{Action, call_of, debug, set_fact, assertion, 
 use Rattle.pb_language.specs.Setting.{with_local}
 use Rattle.pb_language.specs.Judgement.{parameter_kind}
 
+-- what is set, name by name; a name with no value stays as it was
+pub data Changes : Type 0 where
+  no_changes : Changes
+  change : Name → Option Data → Changes → Changes
+
 pub data Entry : Type 0 where
   skips : Entry
   calls : Data → Entry
   -- the shape and the fields of its result, and what it sets
-  acts : Shape → Fields → Fields → Entry
+  acts : Shape → Fields → Changes → Entry
 
 -- one item of a task, or the task itself
 pub record Pass : Type 0 where
@@ -59,20 +64,24 @@ made_with (value d) go = go d
 made_with (stuck s) go = unmade s
 
 abbrev pub asserted : Data → Data → Made
-asserted m (boolean true) = made (acts ok_shape (unchanged_with (text (codes "All assertions passed"))) no_fields)
-asserted m (boolean false) = made (acts failure_shape (unchanged_with m) no_fields)
+asserted m (boolean true) = made (acts ok_shape (unchanged_with (text (codes "All assertions passed"))) no_changes)
+asserted m (boolean false) = made (acts failure_shape (unchanged_with m) no_changes)
 asserted m d = unmade wrong_sort
 
+abbrev pub all_changes : Fields → Changes
+all_changes no_fields = no_changes
+all_changes (field n d fs) = change n (Some d) (all_changes fs)
+
 abbrev pub set_by : Data → Made
-set_by (rec fs) = made (acts ok_shape unchanged fs)
+set_by (rec fs) = made (acts ok_shape unchanged (all_changes fs))
 set_by d = unmade wrong_sort
 
 abbrev pub eval_action : World → Action → Made
 eval_action w (call_of m ps) = made_with (eval_arguments w m.params ps) (λ d. made (calls d))
-eval_action w (debug e) = made_with (then_go (eval w e) given) (λ d. made (acts ok_shape unchanged no_fields))
+eval_action w (debug e) = made_with (then_go (eval w e) given) (λ d. made (acts ok_shape unchanged no_changes))
 eval_action w (set_fact ps) = made_with (eval_parts w ps) set_by
 eval_action w (assertion es o) = made_with (eval_text_or w (codes "Assertion failed") o) (λ m. made_with (eval_all w es) (asserted m))
-eval_action w (failure_of o) = made_with (eval_text_or w (codes "Failed as requested from task") o) (λ m. made (acts failure_shape (unchanged_with m) no_fields))
+eval_action w (failure_of o) = made_with (eval_text_or w (codes "Failed as requested from task") o) (λ m. made (acts failure_shape (unchanged_with m) no_changes))
 
 abbrev pub on_condition : Made → Data → Made
 on_condition m (boolean true) = m

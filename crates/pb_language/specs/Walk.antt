@@ -53,7 +53,7 @@ flush_walk st (handler n t hs) e = after_visits (visits_at st t e) (failing_from
 -- of the body, the rescue, the always in each mode, and what follows
 abbrev pub whole_block : Walked → Walked → Walked → Walked → Walked → Walked
 whole_block w s g h k = record {
-  visits = w.visits ++ s.visits ++ g.visits ++ h.visits ++ k.visits;
+  visits = w.visits ++ (s.visits ++ (g.visits ++ (h.visits ++ k.visits)));
   well = k.well;
   hurt = meet k.hurt (meet g.hurt (meet h.well h.hurt));
 }

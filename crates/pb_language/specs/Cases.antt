@@ -73,10 +73,10 @@ all_results t = append_cases (skipped_cases t) (ended_cases t.action t.failed_wh
 
 -- those with which it goes on, and those with which it fails
 abbrev pub going_cases : Task → Cases
-going_cases t = cond t.ignores (all_results t) (cases_with (λ sh fl. not fl) (all_results t))
+going_cases t = cond t.ignores (all_results t) (cases_with (λ sh fl k. not fl) (all_results t))
 
 abbrev pub failing_cases : Task → Cases
-failing_cases t = cond t.ignores no_cases (cases_with (λ sh fl. fl) (all_results t))
+failing_cases t = cond t.ignores no_cases (cases_with (λ sh fl k. fl) (all_results t))
 
 -- what a task with a `loop` registers
 abbrev pub looped_kind : Task → ℕ → KindData

@@ -2,7 +2,7 @@
 use Rattle.std.specs.Prelude.{ℕ, ℤ, zero, suc, pos, List, [], ◌∷◌, ◌++◌, Bool, true, false, not, ◌&&◌, ◌||◌, cond, Option, Some, None, is_some, nat_le, nat_lt, int_le, int_lt, codes}
 use Rattle.std.specs.Str.{bytes_eq}
 use Rattle.pb_semantics.specs.Data.{Data, Items, Fields, null, boolean, int, text, list, rec, opaque, no_items, item, no_fields, field, field_value, count_of, bool_eq}
-use Rattle.pb_semantics.specs.Equal.{data_eq, has_opaque, any_opaque, is_item, is_part}
+use Rattle.pb_semantics.specs.Equal.{data_eq, is_item, is_part}
 use Rattle.pb_semantics.specs.Keeps.{is_among, flag_is}
 use Rattle.pb_semantics.specs.Render.{is_plain, rendered}
 use Rattle.pb_language.specs.Expression.{Name, Comparison, equal, less, at_most, more, at_least, Status, is_failed, is_changed, is_skipped, Term, named_host, this_host, item_host, group_member, Expression, literal, path, hostvars_alone, negation, conjunction, disjunction, comparison, membership, in_batch, defined, undefinable, path_status, value_status, path_or, value_or, length_of, joined_by, concatenation, list_of, record_of, Root, variable, alias, other, member, Expressions, no_expressions, expression, Parts, no_parts, part}
@@ -123,9 +123,25 @@ or_then (boolean false) o = then_go o only_boolean
 or_then (boolean true) o = value (boolean true)
 or_then d o = stuck wrong_sort
 
+-- what may not be read lies in it, at any depth; of a name that stands twice the first counts
+abbrev mutual
+  pub holds_opaque : Data → Bool
+  holds_opaque opaque = true
+  holds_opaque (list ds) = any_item_opaque ds
+  holds_opaque (rec fs) = any_field_opaque [] fs
+  holds_opaque d = false
+
+  pub any_item_opaque : Items → Bool
+  any_item_opaque no_items = false
+  any_item_opaque (item d ds) = holds_opaque d || any_item_opaque ds
+
+  pub any_field_opaque : List Name → Fields → Bool
+  any_field_opaque seen no_fields = false
+  any_field_opaque seen (field n d fs) = (not (is_among n seen) && holds_opaque d) || any_field_opaque (n ∷ seen) fs
+
 -- neither holds what may not be read
 abbrev pub equal_values : Data → Data → Outcome
-equal_values d e = cond (has_opaque d || has_opaque e) (stuck wrong_sort) (value (boolean (data_eq d e)))
+equal_values d e = cond (holds_opaque d || holds_opaque e) (stuck wrong_sort) (value (boolean (data_eq d e)))
 
 abbrev pub ordered : (ℤ → ℤ → Bool) → Data → Data → Outcome
 ordered f (int y) (int z) = value (boolean (f y z))
@@ -140,14 +156,14 @@ compared at_least d e = ordered (λ y z. int_le z y) d e
 
 -- an equal item, a part of a text, or a field of a record
 abbrev pub found_in : Data → Data → Outcome
-found_in d (list es) = cond (has_opaque d || any_opaque es) (stuck wrong_sort) (value (boolean (is_item d es)))
+found_in d (list es) = cond (holds_opaque d || any_item_opaque es) (stuck wrong_sort) (value (boolean (is_item d es)))
 found_in (text s) (text t) = value (boolean (is_part s t))
 found_in (text s) (rec fs) = value (boolean (is_some (field_value s fs)))
 found_in d e = stuck wrong_sort
 
 abbrev pub is_text_among : Data → List Name → Outcome
 is_text_among (text s) ns = value (boolean (is_among s ns))
-is_text_among d ns = cond (has_opaque d) (stuck wrong_sort) (value (boolean false))
+is_text_among d ns = cond (holds_opaque d) (stuck wrong_sort) (value (boolean false))
 
 abbrev pub member_among : Option Name → List Name → Outcome
 member_among None ns = stuck undefined

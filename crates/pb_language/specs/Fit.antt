@@ -94,12 +94,15 @@ abbrev pub may_be_flag : Spot → Bool
 may_be_flag nowhere = true
 may_be_flag (spot a k) = is_boolean k
 
+abbrev pub is_status_record : KindData → Bool
+is_status_record never = true
+is_status_record (recs ss) = is_flag (slot_at (codes "changed") ss) && (is_flag (slot_at (codes "failed") ss) && may_be_flag (slot_at (codes "skipped") ss))
+is_status_record k = false
+
 -- a result, or a record that can be asked like one
 abbrev pub is_result : KindData → Bool
-is_result never = true
-is_result (results cs r) = true
-is_result (recs ss) = is_flag (slot_at (codes "changed") ss) && (is_flag (slot_at (codes "failed") ss) && may_be_flag (slot_at (codes "skipped") ss))
-is_result k = false
+is_result (results cs r) = is_status_record r
+is_result k = is_status_record k
 
 -- a field that is certainly there
 abbrev pub field_fault : Spot → (KindData → Option Fault) → Option Fault

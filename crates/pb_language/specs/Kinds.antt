@@ -5,7 +5,7 @@ use Rattle.pb_semantics.specs.Kind.{KindData, Slots, Spot, never, nulls, boolean
 use Rattle.pb_semantics.specs.Join.{join}
 use Rattle.pb_language.specs.Expression.{Name, Expression, literal, path, hostvars_alone, negation, conjunction, disjunction, comparison, membership, in_batch, defined, undefinable, path_status, value_status, path_or, value_or, length_of, joined_by, concatenation, list_of, record_of, Root, variable, alias, other, member, Expressions, no_expressions, expression, Parts, no_parts, part}
 use Rattle.pb_language.specs.World.{member_of}
-use Rattle.pb_language.specs.Scope.{Scope, learned_kind, is_present, spot_kind, sure, with_slot, other_spot}
+use Rattle.pb_language.specs.Scope.{Scope, learned_kind, is_present, spot_kind, sure, with_slot, below_spot, other_spot}
 
 -- the kind of a value that is known
 abbrev mutual
@@ -34,10 +34,6 @@ step_spot n (results cs never) = spot true never
 step_spot n (results cs (recs ss)) = slot_at n ss
 step_spot n anything = spot false anything
 step_spot n k = nowhere
-
-abbrev pub below_spot : Bool → Spot → Spot
-below_spot a nowhere = nowhere
-below_spot a (spot b k) = spot (a && b) k
 
 -- what is known of the value at the end of a path
 abbrev pub path_spot : List Name → Spot → Spot

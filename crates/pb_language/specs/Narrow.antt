@@ -1,7 +1,7 @@
 -- What a test teaches.
 use Rattle.std.specs.Prelude.{ℕ, List, [], ◌∷◌, Bool, true, false, not, ◌&&◌, ◌||◌, cond, Option, Some, None, codes}
 use Rattle.pb_semantics.specs.Data.{bool_eq}
-use Rattle.pb_semantics.specs.Kind.{KindData, Slots, Cases, Shape, Spot, never, recs, results, anything, no_slots, slot, no_cases, one, nowhere, spot, slot_at, is_skipped as is_skip}
+use Rattle.pb_semantics.specs.Kind.{KindData, Slots, Cases, Shape, Spot, never, recs, results, anything, no_slots, slot, no_cases, one, nowhere, spot, slot_at, is_listed, is_skipped as is_skip}
 use Rattle.pb_semantics.specs.Join.{join}
 use Rattle.pb_language.specs.Expression.{Name, Status, is_failed, is_changed, is_skipped, Term, named_host, this_host, item_host, group_member, Expression, literal, path, hostvars_alone, negation, conjunction, disjunction, comparison, membership, in_batch, defined, undefinable, path_status, value_status, path_or, value_or, length_of, joined_by, concatenation, list_of, record_of, Root, variable, alias, other, member, Expressions, no_expressions, expression}
 use Rattle.pb_language.specs.World.{member_of}
@@ -16,17 +16,22 @@ least_record (one m sh fl k cs) = join k (least_record cs)
 abbrev pub results_of : Cases → KindData
 results_of cs = results cs (least_record cs)
 
--- the cases with that shape and failed status
-abbrev pub cases_with : (Shape → Bool → Bool) → Cases → Cases
+-- the cases with that shape, failed status and record
+abbrev pub cases_with : (Shape → Bool → KindData → Bool) → Cases → Cases
 cases_with f no_cases = no_cases
-cases_with f (one m sh fl k cs) = cond (f sh fl) (one m sh fl k (cases_with f cs)) (cases_with f cs)
+cases_with f (one m sh fl k cs) = cond (f sh fl k) (one m sh fl k (cases_with f cs)) (cases_with f cs)
+
+abbrev pub has_slot : Name → KindData → Bool
+has_slot n (recs ss) = is_listed n ss
+has_slot n k = false
 
 -- the cases in which the test may have that answer
-abbrev pub answers : Status → Bool → Shape → Bool → Bool
-answers is_failed b sh fl = bool_eq b fl
-answers is_skipped b sh fl = bool_eq b (is_skip sh)
-answers is_changed true sh fl = not (is_skip sh)
-answers is_changed false sh fl = true
+abbrev pub answers : Status → Bool → Shape → Bool → KindData → Bool
+answers is_failed b sh fl k = bool_eq b fl
+answers is_skipped true sh fl k = is_skip sh || has_slot (codes "skipped") k
+answers is_skipped false sh fl k = not (is_skip sh)
+answers is_changed true sh fl k = not (is_skip sh)
+answers is_changed false sh fl k = true
 
 abbrev pub on_results : (Cases → Cases) → KindData → KindData
 on_results f (results cs r) = results_of (f cs)

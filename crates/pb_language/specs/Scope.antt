@@ -175,10 +175,15 @@ abbrev pub taught_spot : Spot → Spot → Spot
 taught_spot nowhere s = s
 taught_spot (spot a k) s = spot a k
 
+abbrev pub below_spot : Bool → Spot → Spot
+below_spot a nowhere = nowhere
+below_spot a (spot b k) = spot (a && b) k
+
+-- a variable of the item's host is certain only where the item is
 abbrev pub other_spot : Scope → Term → Name → Spot
 other_spot c (named_host n) x = spot_among c false x (hosts_of c (named_host n))
 other_spot c this_host x = spot_among c false x (hosts_of c this_host)
-other_spot c item_host x = taught_spot (slot_at x c.item_slots) (spot_among c c.item_active x (hosts_of c item_host))
+other_spot c item_host x = below_spot (is_certain (slot_at (codes "item") c.own)) (taught_spot (slot_at x c.item_slots) (spot_among c c.item_active x (hosts_of c item_host)))
 other_spot c (group_member g n) x = spot_among c false x (hosts_of c (group_member g n))
 
 abbrev pub with_both_kinds : Name → Expression → KindData → Option KindData → Learned → Learned

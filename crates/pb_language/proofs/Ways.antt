@@ -62,78 +62,12 @@ pub record WellAfter (st : Setting) : Type 0 where
   pub going : (t : Task) (env : Slots) → WellEnv env → task_fault st t env ≡ None → WellEnv (going_slots st t env)
   pub failing : (t : Task) (env : Slots) → WellEnv env → task_fault st t env ≡ None → WellEnv (failing_slots st t env)
 
-module _ (st : Setting) (view : Slots) (later : Since) (bound : Task → ℕ) (after : WellAfter st) where
+module _ (st : Setting) (view : Slots) (later : Since) (bound : Task → ℕ) where
   abbrev pub Fine : Visit → Type 0
   Fine v = VisitFine view later bound v
 
   abbrev pub at : Task → Slots → Visit
   at t env = record { setting = st; visited = t; env = env }
-
-  going_well : (q : Bool) (t : Task) (env : Slots) → WellEnv env → Fine (at t env) → WellExit (live_if q (going_slots st t env))
-  going_well true t env w f = after.going t env w f.fit
-  going_well false t env w f = tt
-
-  failing_well : (q : Bool) (t : Task) (env : Slots) → WellEnv env → Fine (at t env) → WellExit (live_if q (failing_slots st t env))
-  failing_well true t env w f = after.failing t env w f.fit
-  failing_well false t env w f = tt
-
-  pub going_from_well : (t : Task) (e : Exit) → WellExit e → AllVisits Fine (visits_at st t e) → WellExit (going_from st t e)
-  going_from_well t dead w a = tt
-  going_from_well t (live env) w a = going_well (has_going t t.loop) t env w a.0
-
-  pub failing_from_well : (t : Task) (e : Exit) → WellExit e → AllVisits Fine (visits_at st t e) → WellExit (failing_from st t e)
-  failing_from_well t dead w a = tt
-  failing_from_well t (live env) w a = failing_well (has_case (failing_cases t)) t env w a.0
-
-  pub flush_well : (hs : Handlers) (e : Exit) → WellExit e → AllVisits Fine (flush_walk st hs e).visits → WellExit (flush_walk st hs e).well × WellExit (flush_walk st hs e).hurt
-  flush_well no_handlers e w a = (w, tt)
-  flush_well (handler n t hs) e w a =
-      let k = flush_walk st hs (meet e (going_from st t e)) in
-      let here = all_first Fine (visits_at st t e) k.visits a in
-      let rest = flush_well hs (meet e (going_from st t e)) (meet_well e (going_from st t e) w (going_from_well t e w here)) (all_second Fine (visits_at st t e) k.visits a) in
-      (rest.0, meet_well (failing_from st t e) k.hurt (failing_from_well t e w here) rest.1)
-
-  -- the exits of a walk are well formed
-  pub walk_well : (row : Row) (e : Exit) → WellExit e → AllVisits Fine (walk st row e).visits → WellExit (walk st row e).well × WellExit (walk st row e).hurt
-  walk_well end e w a = (w, tt)
-  walk_well (task t row) e w a =
-      let k = walk st row (going_from st t e) in
-      let here = all_first Fine (visits_at st t e) k.visits a in
-      let rest = walk_well row (going_from st t e) (going_from_well t e w here) (all_second Fine (visits_at st t e) k.visits a) in
-      (rest.0, meet_well (failing_from st t e) k.hurt (failing_from_well t e w here) rest.1)
-  walk_well (flush hs row) e w a =
-      let f = flush_walk st hs e in
-      let k = walk st row f.well in
-      let here = flush_well hs e w (all_first Fine f.visits k.visits a) in
-      let rest = walk_well row f.well here.0 (all_second Fine f.visits k.visits a) in
-      (rest.0, meet_well f.hurt k.hurt here.1 rest.1)
-  walk_well (block d body true rescued always row) e w a =
-      let x = walk st body e in
-      let s = walk st rescued x.hurt in
-      let g = walk st always (meet x.well s.well) in
-      let h = walk st always s.hurt in
-      let k = walk st row g.well in
-      let a1 = all_second Fine x.visits (s.visits ++ (g.visits ++ (h.visits ++ k.visits))) a in
-      let a2 = all_second Fine s.visits (g.visits ++ (h.visits ++ k.visits)) a1 in
-      let a3 = all_second Fine g.visits (h.visits ++ k.visits) a2 in
-      let wx = walk_well body e w (all_first Fine x.visits (s.visits ++ (g.visits ++ (h.visits ++ k.visits))) a) in
-      let ws = walk_well rescued x.hurt wx.1 (all_first Fine s.visits (g.visits ++ (h.visits ++ k.visits)) a1) in
-      let wg = walk_well always (meet x.well s.well) (meet_well x.well s.well wx.0 ws.0) (all_first Fine g.visits (h.visits ++ k.visits) a2) in
-      let wh = walk_well always s.hurt ws.1 (all_first Fine h.visits k.visits a3) in
-      let wk = walk_well row g.well wg.0 (all_second Fine h.visits k.visits a3) in
-      (wk.0, meet_well k.hurt (meet g.hurt (meet h.well h.hurt)) wk.1 (meet_well g.hurt (meet h.well h.hurt) wg.1 (meet_well h.well h.hurt wh.0 wh.1)))
-  walk_well (block d body false rescued always row) e w a =
-      let x = walk st body e in
-      let g = walk st always (meet x.well dead) in
-      let h = walk st always x.hurt in
-      let k = walk st row g.well in
-      let a1 = all_second Fine x.visits (g.visits ++ (h.visits ++ k.visits)) a in
-      let a3 = all_second Fine g.visits (h.visits ++ k.visits) a1 in
-      let wx = walk_well body e w (all_first Fine x.visits (g.visits ++ (h.visits ++ k.visits)) a) in
-      let wg = walk_well always (meet x.well dead) (meet_well x.well dead wx.0 tt) (all_first Fine g.visits (h.visits ++ k.visits) a1) in
-      let wh = walk_well always x.hurt wx.1 (all_first Fine h.visits k.visits a3) in
-      let wk = walk_well row g.well wg.0 (all_second Fine h.visits k.visits a3) in
-      (wk.0, meet_well k.hurt (meet g.hurt (meet h.well h.hurt)) wk.1 (meet_well g.hurt (meet h.well h.hurt) wg.1 (meet_well h.well h.hurt wh.0 wh.1)))
 
   module _ (End : Slots → Type 0) where
     -- each task on the way is fit in an environment above the one in which the host comes there; at the play's end there is one above with what follows it
@@ -186,97 +120,165 @@ module _ (st : Setting) (view : Slots) (later : Since) (bound : Task → ℕ) (a
     typed_release dead d r y = tt
     typed_release (live env) d r y = y
 
-    typed_flush : (hs : Handlers) (e : Exit) (a b : Rest) → WellExit e → AllVisits Fine (flush_walk st hs e).visits → Typed (flush_walk st hs e).well a → Typed (flush_walk st hs e).hurt b → Typed e (flush_rest hs a b)
-    typed_flush no_handlers e a b w f ya yb = ya
-    typed_flush (handler n t hs) e a b w f ya yb =
-        let g = going_from st t e in
-        let k = flush_walk st hs (meet e g) in
-        let here = all_first Fine (visits_at st t e) k.visits f in
-        let rest = all_second Fine (visits_at st t e) k.visits f in
-        let wg = going_from_well t e w here in
-        let wf = failing_from_well t e w here in
-        let wk = flush_well hs (meet e g) (meet_well e g w wg) rest in
-        let after_all = flush_rest hs a b in
-        let y = typed_flush hs (meet e g) a b (meet_well e g w wg) rest ya (typed_second (failing_from st t e) k.hurt b wf wk.1 yb) in
-        typed_ask e n (next t after_all b) after_all
-        (typed_next e t after_all b w here (typed_second e g after_all w wg y) (typed_first (failing_from st t e) k.hurt b wf wk.1 yb))
-        (typed_first e g after_all w wg y)
+  module _ (after : WellAfter st) where
+    going_well : (q : Bool) (t : Task) (env : Slots) → WellEnv env → Fine (at t env) → WellExit (live_if q (going_slots st t env))
+    going_well true t env w f = after.going t env w f.fit
+    going_well false t env w f = tt
 
-    -- the walk types the ways through a row
-    pub typed_row : (row : Row) (m : ℕ) (e : Exit) (a b : Rest) → WellExit e → AllVisits Fine (walk st row e).visits → Typed (walk st row e).well a → Typed (walk st row e).hurt b → Typed e (rest_of row m a b)
-    typed_row end m e a b w f ya yb = ya
-    typed_row (task t row) m e a b w f ya yb =
-        let g = going_from st t e in
-        let k = walk st row g in
-        let here = all_first Fine (visits_at st t e) k.visits f in
-        let rest = all_second Fine (visits_at st t e) k.visits f in
-        let wg = going_from_well t e w here in
-        let wf = failing_from_well t e w here in
-        let wk = walk_well row g wg rest in
-        typed_next e t (rest_of row m a b) b w here
-        (typed_row row m g a b wg rest ya (typed_second (failing_from st t e) k.hurt b wf wk.1 yb))
-        (typed_first (failing_from st t e) k.hurt b wf wk.1 yb)
-    typed_row (flush hs row) m e a b w f ya yb =
-        let x = flush_walk st hs e in
-        let k = walk st row x.well in
-        let fx = all_first Fine x.visits k.visits f in
-        let fk = all_second Fine x.visits k.visits f in
-        let wx = flush_well hs e w fx in
-        let wk = walk_well row x.well wx.0 fk in
-        typed_flush hs e (rest_of row m a b) b w fx (typed_row row m x.well a b wx.0 fk ya (typed_second x.hurt k.hurt b wx.1 wk.1 yb)) (typed_first x.hurt k.hurt b wx.1 wk.1 yb)
-    typed_row (block d body true rescued always row) m e a b w f ya yb =
+    failing_well : (q : Bool) (t : Task) (env : Slots) → WellEnv env → Fine (at t env) → WellExit (live_if q (failing_slots st t env))
+    failing_well true t env w f = after.failing t env w f.fit
+    failing_well false t env w f = tt
+
+    pub going_from_well : (t : Task) (e : Exit) → WellExit e → AllVisits Fine (visits_at st t e) → WellExit (going_from st t e)
+    going_from_well t dead w a = tt
+    going_from_well t (live env) w a = going_well (has_going t t.loop) t env w a.0
+
+    pub failing_from_well : (t : Task) (e : Exit) → WellExit e → AllVisits Fine (visits_at st t e) → WellExit (failing_from st t e)
+    failing_from_well t dead w a = tt
+    failing_from_well t (live env) w a = failing_well (has_case (failing_cases t)) t env w a.0
+
+    pub flush_well : (hs : Handlers) (e : Exit) → WellExit e → AllVisits Fine (flush_walk st hs e).visits → WellExit (flush_walk st hs e).well × WellExit (flush_walk st hs e).hurt
+    flush_well no_handlers e w a = (w, tt)
+    flush_well (handler n t hs) e w a =
+        let k = flush_walk st hs (meet e (going_from st t e)) in
+        let here = all_first Fine (visits_at st t e) k.visits a in
+        let rest = flush_well hs (meet e (going_from st t e)) (meet_well e (going_from st t e) w (going_from_well t e w here)) (all_second Fine (visits_at st t e) k.visits a) in
+        (rest.0, meet_well (failing_from st t e) k.hurt (failing_from_well t e w here) rest.1)
+
+    -- the exits of a walk are well formed
+    pub walk_well : (row : Row) (e : Exit) → WellExit e → AllVisits Fine (walk st row e).visits → WellExit (walk st row e).well × WellExit (walk st row e).hurt
+    walk_well end e w a = (w, tt)
+    walk_well (task t row) e w a =
+        let k = walk st row (going_from st t e) in
+        let here = all_first Fine (visits_at st t e) k.visits a in
+        let rest = walk_well row (going_from st t e) (going_from_well t e w here) (all_second Fine (visits_at st t e) k.visits a) in
+        (rest.0, meet_well (failing_from st t e) k.hurt (failing_from_well t e w here) rest.1)
+    walk_well (flush hs row) e w a =
+        let f = flush_walk st hs e in
+        let k = walk st row f.well in
+        let here = flush_well hs e w (all_first Fine f.visits k.visits a) in
+        let rest = walk_well row f.well here.0 (all_second Fine f.visits k.visits a) in
+        (rest.0, meet_well f.hurt k.hurt here.1 rest.1)
+    walk_well (block d body true rescued always row) e w a =
         let x = walk st body e in
         let s = walk st rescued x.hurt in
         let g = walk st always (meet x.well s.well) in
         let h = walk st always s.hurt in
         let k = walk st row g.well in
-        let f1 = all_second Fine x.visits (s.visits ++ (g.visits ++ (h.visits ++ k.visits))) f in
-        let f2 = all_second Fine s.visits (g.visits ++ (h.visits ++ k.visits)) f1 in
-        let f3 = all_second Fine g.visits (h.visits ++ k.visits) f2 in
-        let fx = all_first Fine x.visits (s.visits ++ (g.visits ++ (h.visits ++ k.visits))) f in
-        let fs = all_first Fine s.visits (g.visits ++ (h.visits ++ k.visits)) f1 in
-        let fg = all_first Fine g.visits (h.visits ++ k.visits) f2 in
-        let fh = all_first Fine h.visits k.visits f3 in
-        let fk = all_second Fine h.visits k.visits f3 in
-        let wx = walk_well body e w fx in
-        let ws = walk_well rescued x.hurt wx.1 fs in
-        let wm = meet_well x.well s.well wx.0 ws.0 in
-        let wg = walk_well always (meet x.well s.well) wm fg in
-        let wh = walk_well always s.hurt ws.1 fh in
-        let wk = walk_well row g.well wg.0 fk in
-        let wt = meet_well h.well h.hurt wh.0 wh.1 in
-        let y1 = typed_second k.hurt (meet g.hurt (meet h.well h.hurt)) b wk.1 (meet_well g.hurt (meet h.well h.hurt) wg.1 wt) yb in
-        let y2 = typed_second g.hurt (meet h.well h.hurt) b wg.1 wt y1 in
-        let after_all = rest_of row m a b in
-        let ends = rest_of always m after_all b in
-        let fails = hold m (rest_of always (suc m) (release m b) b) in
-        let yk = typed_row row m g.well a b wg.0 fk ya (typed_first k.hurt (meet g.hurt (meet h.well h.hurt)) b wk.1 (meet_well g.hurt (meet h.well h.hurt) wg.1 wt) yb) in
-        let yg = typed_row always m (meet x.well s.well) after_all b wm fg yk (typed_first g.hurt (meet h.well h.hurt) b wg.1 wt y1) in
-        let yh = typed_hold s.hurt m (rest_of always (suc m) (release m b) b) (typed_row always (suc m) s.hurt (release m b) b ws.1 fh (typed_release h.well m b (typed_first h.well h.hurt b wh.0 wh.1 y2)) (typed_second h.well h.hurt b wh.0 wh.1 y2)) in
-        let ys = typed_row rescued m x.hurt ends fails wx.1 fs (typed_second x.well s.well ends wx.0 ws.0 yg) yh in
-        typed_row body m e ends (rescue d (rest_of rescued m ends fails)) w fx (typed_first x.well s.well ends wx.0 ws.0 yg) (typed_rescue x.hurt d (rest_of rescued m ends fails) ys)
-    typed_row (block d body false rescued always row) m e a b w f ya yb =
+        let a1 = all_second Fine x.visits (s.visits ++ (g.visits ++ (h.visits ++ k.visits))) a in
+        let a2 = all_second Fine s.visits (g.visits ++ (h.visits ++ k.visits)) a1 in
+        let a3 = all_second Fine g.visits (h.visits ++ k.visits) a2 in
+        let wx = walk_well body e w (all_first Fine x.visits (s.visits ++ (g.visits ++ (h.visits ++ k.visits))) a) in
+        let ws = walk_well rescued x.hurt wx.1 (all_first Fine s.visits (g.visits ++ (h.visits ++ k.visits)) a1) in
+        let wg = walk_well always (meet x.well s.well) (meet_well x.well s.well wx.0 ws.0) (all_first Fine g.visits (h.visits ++ k.visits) a2) in
+        let wh = walk_well always s.hurt ws.1 (all_first Fine h.visits k.visits a3) in
+        let wk = walk_well row g.well wg.0 (all_second Fine h.visits k.visits a3) in
+        (wk.0, meet_well k.hurt (meet g.hurt (meet h.well h.hurt)) wk.1 (meet_well g.hurt (meet h.well h.hurt) wg.1 (meet_well h.well h.hurt wh.0 wh.1)))
+    walk_well (block d body false rescued always row) e w a =
         let x = walk st body e in
         let g = walk st always (meet x.well dead) in
         let h = walk st always x.hurt in
         let k = walk st row g.well in
-        let f1 = all_second Fine x.visits (g.visits ++ (h.visits ++ k.visits)) f in
-        let f3 = all_second Fine g.visits (h.visits ++ k.visits) f1 in
-        let fx = all_first Fine x.visits (g.visits ++ (h.visits ++ k.visits)) f in
-        let fg = all_first Fine g.visits (h.visits ++ k.visits) f1 in
-        let fh = all_first Fine h.visits k.visits f3 in
-        let fk = all_second Fine h.visits k.visits f3 in
-        let wx = walk_well body e w fx in
-        let wm = meet_well x.well dead wx.0 tt in
-        let wg = walk_well always (meet x.well dead) wm fg in
-        let wh = walk_well always x.hurt wx.1 fh in
-        let wk = walk_well row g.well wg.0 fk in
-        let wt = meet_well h.well h.hurt wh.0 wh.1 in
-        let y1 = typed_second k.hurt (meet g.hurt (meet h.well h.hurt)) b wk.1 (meet_well g.hurt (meet h.well h.hurt) wg.1 wt) yb in
-        let y2 = typed_second g.hurt (meet h.well h.hurt) b wg.1 wt y1 in
-        let after_all = rest_of row m a b in
-        let ends = rest_of always m after_all b in
-        let yk = typed_row row m g.well a b wg.0 fk ya (typed_first k.hurt (meet g.hurt (meet h.well h.hurt)) b wk.1 (meet_well g.hurt (meet h.well h.hurt) wg.1 wt) yb) in
-        let yg = typed_row always m (meet x.well dead) after_all b wm fg yk (typed_first g.hurt (meet h.well h.hurt) b wg.1 wt y1) in
-        let yh = typed_hold x.hurt m (rest_of always (suc m) (release m b) b) (typed_row always (suc m) x.hurt (release m b) b wx.1 fh (typed_release h.well m b (typed_first h.well h.hurt b wh.0 wh.1 y2)) (typed_second h.well h.hurt b wh.0 wh.1 y2)) in
-        typed_row body m e ends (hold m (rest_of always (suc m) (release m b) b)) w fx (typed_first x.well dead ends wx.0 tt yg) yh
+        let a1 = all_second Fine x.visits (g.visits ++ (h.visits ++ k.visits)) a in
+        let a3 = all_second Fine g.visits (h.visits ++ k.visits) a1 in
+        let wx = walk_well body e w (all_first Fine x.visits (g.visits ++ (h.visits ++ k.visits)) a) in
+        let wg = walk_well always (meet x.well dead) (meet_well x.well dead wx.0 tt) (all_first Fine g.visits (h.visits ++ k.visits) a1) in
+        let wh = walk_well always x.hurt wx.1 (all_first Fine h.visits k.visits a3) in
+        let wk = walk_well row g.well wg.0 (all_second Fine h.visits k.visits a3) in
+        (wk.0, meet_well k.hurt (meet g.hurt (meet h.well h.hurt)) wk.1 (meet_well g.hurt (meet h.well h.hurt) wg.1 (meet_well h.well h.hurt wh.0 wh.1)))
+
+    module _ (End : Slots → Type 0) where
+      typed_flush : (hs : Handlers) (e : Exit) (a b : Rest) → WellExit e → AllVisits Fine (flush_walk st hs e).visits → Typed End (flush_walk st hs e).well a → Typed End (flush_walk st hs e).hurt b → Typed End e (flush_rest hs a b)
+      typed_flush no_handlers e a b w f ya yb = ya
+      typed_flush (handler n t hs) e a b w f ya yb =
+          let g = going_from st t e in
+          let k = flush_walk st hs (meet e g) in
+          let here = all_first Fine (visits_at st t e) k.visits f in
+          let rest = all_second Fine (visits_at st t e) k.visits f in
+          let wg = going_from_well t e w here in
+          let wf = failing_from_well t e w here in
+          let wk = flush_well hs (meet e g) (meet_well e g w wg) rest in
+          let after_all = flush_rest hs a b in
+          let y = typed_flush hs (meet e g) a b (meet_well e g w wg) rest ya (typed_second End (failing_from st t e) k.hurt b wf wk.1 yb) in
+          typed_ask End e n (next t after_all b) after_all
+          (typed_next End e t after_all b w here (typed_second End e g after_all w wg y) (typed_first End (failing_from st t e) k.hurt b wf wk.1 yb))
+          (typed_first End e g after_all w wg y)
+
+      -- the walk types the ways through a row
+      pub typed_row : (row : Row) (m : ℕ) (e : Exit) (a b : Rest) → WellExit e → AllVisits Fine (walk st row e).visits → Typed End (walk st row e).well a → Typed End (walk st row e).hurt b → Typed End e (rest_of row m a b)
+      typed_row end m e a b w f ya yb = ya
+      typed_row (task t row) m e a b w f ya yb =
+          let g = going_from st t e in
+          let k = walk st row g in
+          let here = all_first Fine (visits_at st t e) k.visits f in
+          let rest = all_second Fine (visits_at st t e) k.visits f in
+          let wg = going_from_well t e w here in
+          let wf = failing_from_well t e w here in
+          let wk = walk_well row g wg rest in
+          typed_next End e t (rest_of row m a b) b w here
+          (typed_row row m g a b wg rest ya (typed_second End (failing_from st t e) k.hurt b wf wk.1 yb))
+          (typed_first End (failing_from st t e) k.hurt b wf wk.1 yb)
+      typed_row (flush hs row) m e a b w f ya yb =
+          let x = flush_walk st hs e in
+          let k = walk st row x.well in
+          let fx = all_first Fine x.visits k.visits f in
+          let fk = all_second Fine x.visits k.visits f in
+          let wx = flush_well hs e w fx in
+          let wk = walk_well row x.well wx.0 fk in
+          typed_flush hs e (rest_of row m a b) b w fx (typed_row row m x.well a b wx.0 fk ya (typed_second End x.hurt k.hurt b wx.1 wk.1 yb)) (typed_first End x.hurt k.hurt b wx.1 wk.1 yb)
+      typed_row (block d body true rescued always row) m e a b w f ya yb =
+          let x = walk st body e in
+          let s = walk st rescued x.hurt in
+          let g = walk st always (meet x.well s.well) in
+          let h = walk st always s.hurt in
+          let k = walk st row g.well in
+          let f1 = all_second Fine x.visits (s.visits ++ (g.visits ++ (h.visits ++ k.visits))) f in
+          let f2 = all_second Fine s.visits (g.visits ++ (h.visits ++ k.visits)) f1 in
+          let f3 = all_second Fine g.visits (h.visits ++ k.visits) f2 in
+          let fx = all_first Fine x.visits (s.visits ++ (g.visits ++ (h.visits ++ k.visits))) f in
+          let fs = all_first Fine s.visits (g.visits ++ (h.visits ++ k.visits)) f1 in
+          let fg = all_first Fine g.visits (h.visits ++ k.visits) f2 in
+          let fh = all_first Fine h.visits k.visits f3 in
+          let fk = all_second Fine h.visits k.visits f3 in
+          let wx = walk_well body e w fx in
+          let ws = walk_well rescued x.hurt wx.1 fs in
+          let wm = meet_well x.well s.well wx.0 ws.0 in
+          let wg = walk_well always (meet x.well s.well) wm fg in
+          let wh = walk_well always s.hurt ws.1 fh in
+          let wk = walk_well row g.well wg.0 fk in
+          let wt = meet_well h.well h.hurt wh.0 wh.1 in
+          let y1 = typed_second End k.hurt (meet g.hurt (meet h.well h.hurt)) b wk.1 (meet_well g.hurt (meet h.well h.hurt) wg.1 wt) yb in
+          let y2 = typed_second End g.hurt (meet h.well h.hurt) b wg.1 wt y1 in
+          let after_all = rest_of row m a b in
+          let ends = rest_of always m after_all b in
+          let fails = hold m (rest_of always (suc m) (release m b) b) in
+          let yk = typed_row row m g.well a b wg.0 fk ya (typed_first End k.hurt (meet g.hurt (meet h.well h.hurt)) b wk.1 (meet_well g.hurt (meet h.well h.hurt) wg.1 wt) yb) in
+          let yg = typed_row always m (meet x.well s.well) after_all b wm fg yk (typed_first End g.hurt (meet h.well h.hurt) b wg.1 wt y1) in
+          let yh = typed_hold End s.hurt m (rest_of always (suc m) (release m b) b) (typed_row always (suc m) s.hurt (release m b) b ws.1 fh (typed_release End h.well m b (typed_first End h.well h.hurt b wh.0 wh.1 y2)) (typed_second End h.well h.hurt b wh.0 wh.1 y2)) in
+          let ys = typed_row rescued m x.hurt ends fails wx.1 fs (typed_second End x.well s.well ends wx.0 ws.0 yg) yh in
+          typed_row body m e ends (rescue d (rest_of rescued m ends fails)) w fx (typed_first End x.well s.well ends wx.0 ws.0 yg) (typed_rescue End x.hurt d (rest_of rescued m ends fails) ys)
+      typed_row (block d body false rescued always row) m e a b w f ya yb =
+          let x = walk st body e in
+          let g = walk st always (meet x.well dead) in
+          let h = walk st always x.hurt in
+          let k = walk st row g.well in
+          let f1 = all_second Fine x.visits (g.visits ++ (h.visits ++ k.visits)) f in
+          let f3 = all_second Fine g.visits (h.visits ++ k.visits) f1 in
+          let fx = all_first Fine x.visits (g.visits ++ (h.visits ++ k.visits)) f in
+          let fg = all_first Fine g.visits (h.visits ++ k.visits) f1 in
+          let fh = all_first Fine h.visits k.visits f3 in
+          let fk = all_second Fine h.visits k.visits f3 in
+          let wx = walk_well body e w fx in
+          let wm = meet_well x.well dead wx.0 tt in
+          let wg = walk_well always (meet x.well dead) wm fg in
+          let wh = walk_well always x.hurt wx.1 fh in
+          let wk = walk_well row g.well wg.0 fk in
+          let wt = meet_well h.well h.hurt wh.0 wh.1 in
+          let y1 = typed_second End k.hurt (meet g.hurt (meet h.well h.hurt)) b wk.1 (meet_well g.hurt (meet h.well h.hurt) wg.1 wt) yb in
+          let y2 = typed_second End g.hurt (meet h.well h.hurt) b wg.1 wt y1 in
+          let after_all = rest_of row m a b in
+          let ends = rest_of always m after_all b in
+          let yk = typed_row row m g.well a b wg.0 fk ya (typed_first End k.hurt (meet g.hurt (meet h.well h.hurt)) b wk.1 (meet_well g.hurt (meet h.well h.hurt) wg.1 wt) yb) in
+          let yg = typed_row always m (meet x.well dead) after_all b wm fg yk (typed_first End g.hurt (meet h.well h.hurt) b wg.1 wt y1) in
+          let yh = typed_hold End x.hurt m (rest_of always (suc m) (release m b) b) (typed_row always (suc m) x.hurt (release m b) b wx.1 fh (typed_release End h.well m b (typed_first End h.well h.hurt b wh.0 wh.1 y2)) (typed_second End h.well h.hurt b wh.0 wh.1 y2)) in
+          typed_row body m e ends (hold m (rest_of always (suc m) (release m b) b)) w fx (typed_first End x.well dead ends wx.0 tt yg) yh

@@ -1,0 +1,169 @@
+-- Cases of flow, computed.
+use Rattle.std.specs.Prelude.{◌≡◌, refl, ℕ, zero, suc, pos, negsuc, List, [], ◌∷◌, ◌++◌, true, false, Option, Some, None, codes}
+use Rattle.std.specs.Fmt.{digits}
+use Rattle.pb_semantics.specs.Data.{Data, null, boolean, int, text, list, rec, opaque, no_items, item, no_fields, field}
+use Rattle.pb_semantics.specs.Kind.{booleans, ints, texts, lists, recs, no_slots, slot}
+use Rattle.pb_language.specs.Expression.{equal, less, at_most, more, at_least, is_failed, is_changed, is_skipped, named_host, this_host, item_host, group_member, literal, path, hostvars_alone, negation, conjunction, disjunction, comparison, membership, in_batch, defined, undefinable, path_status, value_status, path_or, value_or, length_of, joined_by, concatenation, list_of, record_of, variable, other, member, no_expressions, expression, no_parts, part}
+use Rattle.pb_language.specs.Book.{not_given, not_well_formed, conditions_are, module_work, debug_work, set_fact_work, assert_work, fail_work, no_steps, task_step, block_step, flush_step, host_count, percentage, Book, Registry}
+use Rattle.pb_language.specs.Builtins.{builtins}
+use Rattle.pb_language.specs.Give.{object, unreachable}
+use Rattle.pb_language.specs.Judged.{judged}
+use Rattle.pb_language.specs.Program.{Inventory}
+use Rattle.pb_language.specs.Verdict.{accepted, refused}
+use Rattle.pb_rows.specs.Recaps.{recaps_of}
+
+-- flow_069: set_fact with when only perhaps sets
+abbrev flow_069_book : Book
+flow_069_book = (record { line = 1; pattern = ((codes "all") ∷ []); gathering = None; vars = (no_parts); is_linear = true; serial = ([]); pre_tasks = (no_steps); tasks = (task_step (record { line = 2; work = (set_fact_work (part (codes "a") (literal (int (pos 1))) (no_parts))); condition = (expression (literal (boolean true)) (no_expressions)); loop = None; register = None; vars = (no_parts); notify = ([]); changed_when = None; failed_when = None; ignore_errors = None }) (task_step (record { line = 3; work = (debug_work (part (codes "msg") (path (variable (codes "a")) ([])) (no_parts))); condition = (no_expressions); loop = None; register = None; vars = (no_parts); notify = ([]); changed_when = None; failed_when = None; ignore_errors = None }) (no_steps))); post_tasks = (no_steps); handlers = ([]) } ∷ [])
+
+abbrev flow_069_inventory : Inventory
+flow_069_inventory = record { hosts = (record { name = (codes "h1"); variables = (no_fields) } ∷ []); groups = (record { name = (codes "all"); hosts = ((codes "h1") ∷ []) } ∷ record { name = (codes "ungrouped"); hosts = ((codes "h1") ∷ []) } ∷ []) }
+
+abbrev flow_069_registry : Registry
+flow_069_registry = (builtins ++ ([]))
+
+flow_069 : judged flow_069_registry flow_069_inventory flow_069_book ≡ refused (record { code = 1; line = 3; host = (Some (codes "h1")) })
+flow_069 = refl
+
+-- flow_078: setup with failed_when may go on with the failure shape
+abbrev flow_078_book : Book
+flow_078_book = (record { line = 1; pattern = ((codes "all") ∷ []); gathering = None; vars = (no_parts); is_linear = true; serial = ([]); pre_tasks = (no_steps); tasks = (task_step (record { line = 2; work = (module_work (codes "setup") (no_parts)); condition = (no_expressions); loop = None; register = None; vars = (no_parts); notify = ([]); changed_when = None; failed_when = (Some (expression (literal (boolean false)) (no_expressions))); ignore_errors = None }) (task_step (record { line = 3; work = (debug_work (part (codes "msg") (path (variable (codes "ansible_hostname")) ([])) (no_parts))); condition = (no_expressions); loop = None; register = None; vars = (no_parts); notify = ([]); changed_when = None; failed_when = None; ignore_errors = None }) (no_steps))); post_tasks = (no_steps); handlers = ([]) } ∷ [])
+
+abbrev flow_078_inventory : Inventory
+flow_078_inventory = record { hosts = (record { name = (codes "h1"); variables = (no_fields) } ∷ []); groups = (record { name = (codes "all"); hosts = ((codes "h1") ∷ []) } ∷ record { name = (codes "ungrouped"); hosts = ((codes "h1") ∷ []) } ∷ []) }
+
+abbrev flow_078_registry : Registry
+flow_078_registry = (builtins ++ ([]))
+
+flow_078 : judged flow_078_registry flow_078_inventory flow_078_book ≡ refused (record { code = 1; line = 3; host = (Some (codes "h1")) })
+flow_078 = refl
+
+-- flow_079: setup with changed_when is sure
+abbrev flow_079_book : Book
+flow_079_book = (record { line = 1; pattern = ((codes "all") ∷ []); gathering = None; vars = (no_parts); is_linear = true; serial = ([]); pre_tasks = (no_steps); tasks = (task_step (record { line = 2; work = (module_work (codes "setup") (no_parts)); condition = (no_expressions); loop = None; register = None; vars = (no_parts); notify = ([]); changed_when = (Some (expression (literal (boolean false)) (no_expressions))); failed_when = None; ignore_errors = None }) (task_step (record { line = 3; work = (debug_work (part (codes "msg") (path (variable (codes "ansible_hostname")) ([])) (no_parts))); condition = (no_expressions); loop = None; register = None; vars = (no_parts); notify = ([]); changed_when = None; failed_when = None; ignore_errors = None }) (no_steps))); post_tasks = (no_steps); handlers = ([]) } ∷ [])
+
+abbrev flow_079_inventory : Inventory
+flow_079_inventory = record { hosts = (record { name = (codes "h1"); variables = (no_fields) } ∷ []); groups = (record { name = (codes "all"); hosts = ((codes "h1") ∷ []) } ∷ record { name = (codes "ungrouped"); hosts = ((codes "h1") ∷ []) } ∷ []) }
+
+abbrev flow_079_registry : Registry
+flow_079_registry = (builtins ++ ([]))
+
+flow_079 : judged flow_079_registry flow_079_inventory flow_079_book ≡ accepted 1
+flow_079 = refl
+
+-- flow_080: setup in a loop
+abbrev flow_080_book : Book
+flow_080_book = (record { line = 1; pattern = ((codes "all") ∷ []); gathering = None; vars = (no_parts); is_linear = true; serial = ([]); pre_tasks = (no_steps); tasks = (task_step (record { line = 2; work = (module_work (codes "setup") (no_parts)); condition = (no_expressions); loop = (Some (list_of (expression (literal (int (pos 1))) (no_expressions)))); register = None; vars = (no_parts); notify = ([]); changed_when = None; failed_when = None; ignore_errors = None }) (task_step (record { line = 3; work = (debug_work (part (codes "msg") (path (variable (codes "ansible_hostname")) ([])) (no_parts))); condition = (no_expressions); loop = None; register = None; vars = (no_parts); notify = ([]); changed_when = None; failed_when = None; ignore_errors = None }) (no_steps))); post_tasks = (no_steps); handlers = ([]) } ∷ [])
+
+abbrev flow_080_inventory : Inventory
+flow_080_inventory = record { hosts = (record { name = (codes "h1"); variables = (no_fields) } ∷ []); groups = (record { name = (codes "all"); hosts = ((codes "h1") ∷ []) } ∷ record { name = (codes "ungrouped"); hosts = ((codes "h1") ∷ []) } ∷ []) }
+
+abbrev flow_080_registry : Registry
+flow_080_registry = (builtins ++ ([]))
+
+flow_080 : judged flow_080_registry flow_080_inventory flow_080_book ≡ refused (record { code = 1; line = 3; host = (Some (codes "h1")) })
+flow_080 = refl
+
+-- flow_081: os_family where it is defined
+abbrev flow_081_book : Book
+flow_081_book = (record { line = 1; pattern = ((codes "all") ∷ []); gathering = (Some 2); vars = (no_parts); is_linear = true; serial = ([]); pre_tasks = (no_steps); tasks = (task_step (record { line = 3; work = (debug_work (part (codes "msg") (path (variable (codes "ansible_os_family")) ([])) (no_parts))); condition = (expression (defined (variable (codes "ansible_os_family")) ([])) (no_expressions)); loop = None; register = None; vars = (no_parts); notify = ([]); changed_when = None; failed_when = None; ignore_errors = None }) (no_steps)); post_tasks = (no_steps); handlers = ([]) } ∷ [])
+
+abbrev flow_081_inventory : Inventory
+flow_081_inventory = record { hosts = (record { name = (codes "h1"); variables = (no_fields) } ∷ []); groups = (record { name = (codes "all"); hosts = ((codes "h1") ∷ []) } ∷ record { name = (codes "ungrouped"); hosts = ((codes "h1") ∷ []) } ∷ []) }
+
+abbrev flow_081_registry : Registry
+flow_081_registry = (builtins ++ ([]))
+
+flow_081 : judged flow_081_registry flow_081_inventory flow_081_book ≡ accepted 1
+flow_081 = refl
+
+-- flow_085: the second handler after the first, guarded
+abbrev flow_085_book : Book
+flow_085_book = (record { line = 1; pattern = ((codes "all") ∷ []); gathering = None; vars = (no_parts); is_linear = true; serial = ([]); pre_tasks = (no_steps); tasks = (task_step (record { line = 2; work = (module_work (codes "ping") (no_parts)); condition = (no_expressions); loop = None; register = None; vars = (no_parts); notify = ([]); changed_when = None; failed_when = None; ignore_errors = None }) (no_steps)); post_tasks = (no_steps); handlers = (record { work = (record { line = 3; work = (module_work (codes "command") (part (codes "cmd") (literal (text (codes "x"))) (no_parts))); condition = (no_expressions); loop = None; register = (Some (codes "out")); vars = (no_parts); notify = ([]); changed_when = None; failed_when = None; ignore_errors = None }); name = (Some (codes "a")); topics = ([]) } ∷ record { work = (record { line = 4; work = (debug_work (part (codes "msg") (path (variable (codes "out")) ((codes "rc") ∷ [])) (no_parts))); condition = (expression (defined (variable (codes "out")) ([])) (no_expressions)); loop = None; register = None; vars = (no_parts); notify = ([]); changed_when = None; failed_when = None; ignore_errors = None }); name = (Some (codes "b")); topics = ([]) } ∷ []) } ∷ [])
+
+abbrev flow_085_inventory : Inventory
+flow_085_inventory = record { hosts = (record { name = (codes "h1"); variables = (no_fields) } ∷ []); groups = (record { name = (codes "all"); hosts = ((codes "h1") ∷ []) } ∷ record { name = (codes "ungrouped"); hosts = ((codes "h1") ∷ []) } ∷ []) }
+
+abbrev flow_085_registry : Registry
+flow_085_registry = (builtins ++ ([]))
+
+flow_085 : judged flow_085_registry flow_085_inventory flow_085_book ≡ accepted 2
+flow_085 = refl
+
+-- flow_088: with no section no flush
+abbrev flow_088_book : Book
+flow_088_book = (record { line = 1; pattern = ((codes "all") ∷ []); gathering = None; vars = (no_parts); is_linear = true; serial = ([]); pre_tasks = (no_steps); tasks = (no_steps); post_tasks = (no_steps); handlers = (record { work = (record { line = 2; work = (debug_work (part (codes "msg") (path (variable (codes "zz")) ([])) (no_parts))); condition = (no_expressions); loop = None; register = None; vars = (no_parts); notify = ([]); changed_when = None; failed_when = None; ignore_errors = None }); name = (Some (codes "x")); topics = ([]) } ∷ []) } ∷ record { line = 3; pattern = ((codes "all") ∷ []); gathering = None; vars = (no_parts); is_linear = true; serial = ([]); pre_tasks = (no_steps); tasks = (task_step (record { line = 4; work = (module_work (codes "ping") (no_parts)); condition = (no_expressions); loop = None; register = None; vars = (no_parts); notify = ([]); changed_when = None; failed_when = None; ignore_errors = None }) (task_step (record { line = 5; work = (module_work (codes "ping") (no_parts)); condition = (no_expressions); loop = None; register = None; vars = (no_parts); notify = ([]); changed_when = None; failed_when = None; ignore_errors = None }) (task_step (record { line = 6; work = (module_work (codes "ping") (no_parts)); condition = (no_expressions); loop = None; register = None; vars = (no_parts); notify = ([]); changed_when = None; failed_when = None; ignore_errors = None }) (no_steps)))); post_tasks = (no_steps); handlers = ([]) } ∷ [])
+
+abbrev flow_088_inventory : Inventory
+flow_088_inventory = record { hosts = (record { name = (codes "h1"); variables = (no_fields) } ∷ []); groups = (record { name = (codes "all"); hosts = ((codes "h1") ∷ []) } ∷ record { name = (codes "ungrouped"); hosts = ((codes "h1") ∷ []) } ∷ []) }
+
+abbrev flow_088_registry : Registry
+flow_088_registry = (builtins ++ ([]))
+
+flow_088 : judged flow_088_registry flow_088_inventory flow_088_book ≡ accepted 3
+flow_088 = refl
+
+-- flow_092: what a rescued play may have registered
+abbrev flow_092_book : Book
+flow_092_book = (record { line = 1; pattern = ((codes "all") ∷ []); gathering = None; vars = (no_parts); is_linear = true; serial = ([]); pre_tasks = (no_steps); tasks = (block_step (record { line = 2; condition = (no_expressions); vars = (no_parts); ignore_errors = None }) (task_step (record { line = 3; work = (module_work (codes "command") (part (codes "cmd") (literal (text (codes "x"))) (no_parts))); condition = (no_expressions); loop = None; register = (Some (codes "out")); vars = (no_parts); notify = ([]); changed_when = None; failed_when = None; ignore_errors = None }) (no_steps)) (task_step (record { line = 4; work = (debug_work (part (codes "msg") (literal (int (pos 1))) (no_parts))); condition = (no_expressions); loop = None; register = None; vars = (no_parts); notify = ([]); changed_when = None; failed_when = None; ignore_errors = None }) (no_steps)) (no_steps) (no_steps)); post_tasks = (no_steps); handlers = ([]) } ∷ record { line = 5; pattern = ((codes "all") ∷ []); gathering = None; vars = (no_parts); is_linear = true; serial = ([]); pre_tasks = (no_steps); tasks = (task_step (record { line = 6; work = (debug_work (part (codes "msg") (path (variable (codes "out")) ((codes "msg") ∷ [])) (no_parts))); condition = (no_expressions); loop = None; register = None; vars = (no_parts); notify = ([]); changed_when = None; failed_when = None; ignore_errors = None }) (no_steps)); post_tasks = (no_steps); handlers = ([]) } ∷ [])
+
+abbrev flow_092_inventory : Inventory
+flow_092_inventory = record { hosts = (record { name = (codes "h1"); variables = (no_fields) } ∷ []); groups = (record { name = (codes "all"); hosts = ((codes "h1") ∷ []) } ∷ record { name = (codes "ungrouped"); hosts = ((codes "h1") ∷ []) } ∷ []) }
+
+abbrev flow_092_registry : Registry
+flow_092_registry = (builtins ++ ([]))
+
+flow_092 : judged flow_092_registry flow_092_inventory flow_092_book ≡ refused (record { code = 3; line = 6; host = (Some (codes "h1")) })
+flow_092 = refl
+
+-- flow_093: a play that nobody leaves alive: the next isn't reached
+abbrev flow_093_book : Book
+flow_093_book = (record { line = 1; pattern = ((codes "all") ∷ []); gathering = None; vars = (no_parts); is_linear = true; serial = ([]); pre_tasks = (no_steps); tasks = (task_step (record { line = 2; work = (fail_work (no_parts)); condition = (no_expressions); loop = None; register = None; vars = (no_parts); notify = ([]); changed_when = None; failed_when = None; ignore_errors = None }) (no_steps)); post_tasks = (no_steps); handlers = ([]) } ∷ record { line = 3; pattern = ((codes "all") ∷ []); gathering = None; vars = (no_parts); is_linear = true; serial = ([]); pre_tasks = (no_steps); tasks = (task_step (record { line = 4; work = (debug_work (part (codes "msg") (path (variable (codes "zz")) ([])) (no_parts))); condition = (no_expressions); loop = None; register = None; vars = (no_parts); notify = ([]); changed_when = None; failed_when = None; ignore_errors = None }) (no_steps)); post_tasks = (no_steps); handlers = ([]) } ∷ [])
+
+abbrev flow_093_inventory : Inventory
+flow_093_inventory = record { hosts = (record { name = (codes "h1"); variables = (no_fields) } ∷ []); groups = (record { name = (codes "all"); hosts = ((codes "h1") ∷ []) } ∷ record { name = (codes "ungrouped"); hosts = ((codes "h1") ∷ []) } ∷ []) }
+
+abbrev flow_093_registry : Registry
+flow_093_registry = (builtins ++ ([]))
+
+flow_093 : judged flow_093_registry flow_093_inventory flow_093_book ≡ accepted 0
+flow_093 = refl
+
+-- flow_094: registered in an earlier play
+abbrev flow_094_book : Book
+flow_094_book = (record { line = 1; pattern = ((codes "all") ∷ []); gathering = None; vars = (no_parts); is_linear = true; serial = ([]); pre_tasks = (no_steps); tasks = (task_step (record { line = 2; work = (module_work (codes "command") (part (codes "cmd") (literal (text (codes "x"))) (no_parts))); condition = (no_expressions); loop = None; register = (Some (codes "out")); vars = (no_parts); notify = ([]); changed_when = None; failed_when = None; ignore_errors = None }) (no_steps)); post_tasks = (no_steps); handlers = ([]) } ∷ record { line = 3; pattern = ((codes "all") ∷ []); gathering = None; vars = (no_parts); is_linear = true; serial = ([]); pre_tasks = (no_steps); tasks = (task_step (record { line = 4; work = (debug_work (part (codes "msg") (path (variable (codes "out")) ((codes "rc") ∷ [])) (no_parts))); condition = (no_expressions); loop = None; register = None; vars = (no_parts); notify = ([]); changed_when = None; failed_when = None; ignore_errors = None }) (no_steps)); post_tasks = (no_steps); handlers = ([]) } ∷ [])
+
+abbrev flow_094_inventory : Inventory
+flow_094_inventory = record { hosts = (record { name = (codes "h1"); variables = (no_fields) } ∷ []); groups = (record { name = (codes "all"); hosts = ((codes "h1") ∷ []) } ∷ record { name = (codes "ungrouped"); hosts = ((codes "h1") ∷ []) } ∷ []) }
+
+abbrev flow_094_registry : Registry
+flow_094_registry = (builtins ++ ([]))
+
+flow_094 : judged flow_094_registry flow_094_inventory flow_094_book ≡ accepted 1
+flow_094 = refl
+
+-- flow_096: read before it is registered
+abbrev flow_096_book : Book
+flow_096_book = (record { line = 1; pattern = ((codes "all") ∷ []); gathering = None; vars = (no_parts); is_linear = true; serial = ([]); pre_tasks = (no_steps); tasks = (task_step (record { line = 2; work = (debug_work (part (codes "msg") (path (other (named_host (codes "db1")) (codes "out")) ((codes "rc") ∷ [])) (no_parts))); condition = (expression (in_batch (named_host (codes "db1"))) (no_expressions)); loop = None; register = None; vars = (no_parts); notify = ([]); changed_when = None; failed_when = None; ignore_errors = None }) (task_step (record { line = 3; work = (module_work (codes "command") (part (codes "cmd") (literal (text (codes "x"))) (no_parts))); condition = (no_expressions); loop = None; register = (Some (codes "out")); vars = (no_parts); notify = ([]); changed_when = None; failed_when = None; ignore_errors = None }) (no_steps))); post_tasks = (no_steps); handlers = ([]) } ∷ [])
+
+abbrev flow_096_inventory : Inventory
+flow_096_inventory = record { hosts = (record { name = (codes "db1"); variables = (no_fields) } ∷ record { name = (codes "web1"); variables = (no_fields) } ∷ []); groups = (record { name = (codes "all"); hosts = ((codes "db1") ∷ (codes "web1") ∷ []) } ∷ record { name = (codes "ungrouped"); hosts = ((codes "db1") ∷ (codes "web1") ∷ []) } ∷ []) }
+
+abbrev flow_096_registry : Registry
+flow_096_registry = (builtins ++ ([]))
+
+flow_096 : judged flow_096_registry flow_096_inventory flow_096_book ≡ refused (record { code = 2; line = 2; host = (Some (codes "db1")) })
+flow_096 = refl
+
+-- flow_097: read without the guard
+abbrev flow_097_book : Book
+flow_097_book = (record { line = 1; pattern = ((codes "all") ∷ []); gathering = None; vars = (no_parts); is_linear = true; serial = ([]); pre_tasks = (no_steps); tasks = (task_step (record { line = 2; work = (module_work (codes "command") (part (codes "cmd") (literal (text (codes "x"))) (no_parts))); condition = (no_expressions); loop = None; register = (Some (codes "out")); vars = (no_parts); notify = ([]); changed_when = None; failed_when = None; ignore_errors = None }) (task_step (record { line = 3; work = (debug_work (part (codes "msg") (path (other (named_host (codes "db1")) (codes "out")) ((codes "rc") ∷ [])) (no_parts))); condition = (no_expressions); loop = None; register = None; vars = (no_parts); notify = ([]); changed_when = None; failed_when = None; ignore_errors = None }) (no_steps))); post_tasks = (no_steps); handlers = ([]) } ∷ [])
+
+abbrev flow_097_inventory : Inventory
+flow_097_inventory = record { hosts = (record { name = (codes "db1"); variables = (no_fields) } ∷ record { name = (codes "web1"); variables = (no_fields) } ∷ []); groups = (record { name = (codes "all"); hosts = ((codes "db1") ∷ (codes "web1") ∷ []) } ∷ record { name = (codes "ungrouped"); hosts = ((codes "db1") ∷ (codes "web1") ∷ []) } ∷ []) }
+
+abbrev flow_097_registry : Registry
+flow_097_registry = (builtins ++ ([]))
+
+flow_097 : judged flow_097_registry flow_097_inventory flow_097_book ≡ refused (record { code = 2; line = 3; host = (Some (codes "db1")) })
+flow_097 = refl

@@ -1,0 +1,177 @@
+-- Cases of thin, computed.
+use Rattle.std.specs.Prelude.{◌≡◌, refl, ℕ, zero, suc, pos, negsuc, List, [], ◌∷◌, ◌++◌, true, false, Option, Some, None, codes}
+use Rattle.std.specs.Fmt.{digits}
+use Rattle.pb_semantics.specs.Data.{Data, null, boolean, int, text, list, rec, opaque, no_items, item, no_fields, field}
+use Rattle.pb_semantics.specs.Kind.{booleans, ints, texts, lists, recs, no_slots, slot}
+use Rattle.pb_language.specs.Expression.{equal, less, at_most, more, at_least, is_failed, is_changed, is_skipped, named_host, this_host, item_host, group_member, literal, path, hostvars_alone, negation, conjunction, disjunction, comparison, membership, in_batch, defined, undefinable, path_status, value_status, path_or, value_or, length_of, joined_by, concatenation, list_of, record_of, variable, other, member, no_expressions, expression, no_parts, part}
+use Rattle.pb_language.specs.Book.{not_given, not_well_formed, conditions_are, module_work, debug_work, set_fact_work, assert_work, fail_work, no_steps, task_step, block_step, flush_step, host_count, percentage, Book, Registry}
+use Rattle.pb_language.specs.Builtins.{builtins}
+use Rattle.pb_language.specs.Give.{object, unreachable}
+use Rattle.pb_language.specs.Judged.{judged}
+use Rattle.pb_language.specs.Program.{Inventory}
+use Rattle.pb_language.specs.Verdict.{accepted, refused}
+use Rattle.pb_rows.specs.Recaps.{recaps_of}
+
+-- thin_000090_run1: 
+abbrev thin_000090_run1_book : Book
+thin_000090_run1_book = (record { line = 1; pattern = ((codes "all") ∷ []); gathering = None; vars = (no_parts); is_linear = true; serial = ([]); pre_tasks = (no_steps); tasks = (task_step (record { line = 2; work = (debug_work (part (codes "msg") (literal (boolean false)) (no_parts))); condition = (no_expressions); loop = None; register = None; vars = (no_parts); notify = ([]); changed_when = None; failed_when = None; ignore_errors = None }) (task_step (record { line = 3; work = (module_work (codes "ping") (no_parts)); condition = (expression (literal (boolean false)) (no_expressions)); loop = None; register = None; vars = (no_parts); notify = ([]); changed_when = None; failed_when = None; ignore_errors = None }) (no_steps))); post_tasks = (no_steps); handlers = ([]) } ∷ [])
+
+abbrev thin_000090_run1_inventory : Inventory
+thin_000090_run1_inventory = record { hosts = (record { name = (codes "h1"); variables = (no_fields) } ∷ []); groups = (record { name = (codes "all"); hosts = ((codes "h1") ∷ []) } ∷ record { name = (codes "ungrouped"); hosts = ((codes "h1") ∷ []) } ∷ []) }
+
+abbrev thin_000090_run1_registry : Registry
+thin_000090_run1_registry = (builtins ++ ([]))
+
+thin_000090_run1 : recaps_of thin_000090_run1_registry thin_000090_run1_inventory thin_000090_run1_book 5 ((object (rec (field (codes "changed") (boolean true) (field (codes "rc") (int (pos 0)) (field (codes "stderr") (text ([])) (field (codes "stderr_lines") (list (no_items)) (field (codes "stdout") (text (codes "a")) (field (codes "stdout_lines") (list (item (text (codes "a")) (no_items))) (no_fields)))))))) ∷ []) ∷ []) ≡ (record { ok = 1; changed = 0; unreachable = 0; failed = 0; skipped = 1; rescued = 0; ignored = 0 } ∷ [])
+unfolding digits
+thin_000090_run1 = refl
+
+-- thin_000091: 
+abbrev thin_000091_book : Book
+thin_000091_book = (record { line = 1; pattern = ((codes "all") ∷ []); gathering = None; vars = (no_parts); is_linear = true; serial = ([]); pre_tasks = (no_steps); tasks = (task_step (record { line = 2; work = (set_fact_work (part (codes "s1") (literal (text (codes "web"))) (no_parts))); condition = (no_expressions); loop = None; register = None; vars = (no_parts); notify = ([]); changed_when = None; failed_when = None; ignore_errors = None }) (no_steps)); post_tasks = (no_steps); handlers = ([]) } ∷ [])
+
+abbrev thin_000091_inventory : Inventory
+thin_000091_inventory = record { hosts = (record { name = (codes "h1"); variables = (no_fields) } ∷ []); groups = (record { name = (codes "all"); hosts = ((codes "h1") ∷ []) } ∷ record { name = (codes "ungrouped"); hosts = ((codes "h1") ∷ []) } ∷ []) }
+
+abbrev thin_000091_registry : Registry
+thin_000091_registry = (builtins ++ ([]))
+
+thin_000091 : judged thin_000091_registry thin_000091_inventory thin_000091_book ≡ accepted 0
+thin_000091 = refl
+
+-- thin_000091_run0: 
+abbrev thin_000091_run0_book : Book
+thin_000091_run0_book = (record { line = 1; pattern = ((codes "all") ∷ []); gathering = None; vars = (no_parts); is_linear = true; serial = ([]); pre_tasks = (no_steps); tasks = (task_step (record { line = 2; work = (set_fact_work (part (codes "s1") (literal (text (codes "web"))) (no_parts))); condition = (no_expressions); loop = None; register = None; vars = (no_parts); notify = ([]); changed_when = None; failed_when = None; ignore_errors = None }) (no_steps)); post_tasks = (no_steps); handlers = ([]) } ∷ [])
+
+abbrev thin_000091_run0_inventory : Inventory
+thin_000091_run0_inventory = record { hosts = (record { name = (codes "h1"); variables = (no_fields) } ∷ []); groups = (record { name = (codes "all"); hosts = ((codes "h1") ∷ []) } ∷ record { name = (codes "ungrouped"); hosts = ((codes "h1") ∷ []) } ∷ []) }
+
+abbrev thin_000091_run0_registry : Registry
+thin_000091_run0_registry = (builtins ++ ([]))
+
+thin_000091_run0 : recaps_of thin_000091_run0_registry thin_000091_run0_inventory thin_000091_run0_book 5 (([]) ∷ []) ≡ (record { ok = 1; changed = 0; unreachable = 0; failed = 0; skipped = 0; rescued = 0; ignored = 0 } ∷ [])
+unfolding digits
+thin_000091_run0 = refl
+
+-- thin_000091_run1: 
+abbrev thin_000091_run1_book : Book
+thin_000091_run1_book = (record { line = 1; pattern = ((codes "all") ∷ []); gathering = None; vars = (no_parts); is_linear = true; serial = ([]); pre_tasks = (no_steps); tasks = (task_step (record { line = 2; work = (set_fact_work (part (codes "s1") (literal (text (codes "web"))) (no_parts))); condition = (no_expressions); loop = None; register = None; vars = (no_parts); notify = ([]); changed_when = None; failed_when = None; ignore_errors = None }) (no_steps)); post_tasks = (no_steps); handlers = ([]) } ∷ [])
+
+abbrev thin_000091_run1_inventory : Inventory
+thin_000091_run1_inventory = record { hosts = (record { name = (codes "h1"); variables = (no_fields) } ∷ []); groups = (record { name = (codes "all"); hosts = ((codes "h1") ∷ []) } ∷ record { name = (codes "ungrouped"); hosts = ((codes "h1") ∷ []) } ∷ []) }
+
+abbrev thin_000091_run1_registry : Registry
+thin_000091_run1_registry = (builtins ++ ([]))
+
+thin_000091_run1 : recaps_of thin_000091_run1_registry thin_000091_run1_inventory thin_000091_run1_book 5 ((object (rec (field (codes "changed") (boolean true) (field (codes "extra") (rec (field (codes "x") opaque (no_fields))) (field (codes "rc") (int (pos 0)) (field (codes "stderr") (text ([])) (field (codes "stderr_lines") (list (no_items)) (field (codes "stdout") (text (codes "a")) (field (codes "stdout_lines") (list (item (text (codes "a")) (no_items))) (no_fields))))))))) ∷ []) ∷ []) ≡ (record { ok = 1; changed = 0; unreachable = 0; failed = 0; skipped = 0; rescued = 0; ignored = 0 } ∷ [])
+unfolding digits
+thin_000091_run1 = refl
+
+-- thin_000092: 
+abbrev thin_000092_book : Book
+thin_000092_book = (record { line = 1; pattern = ((codes "all") ∷ []); gathering = None; vars = (no_parts); is_linear = true; serial = ([]); pre_tasks = (no_steps); tasks = (task_step (record { line = 2; work = (debug_work (part (codes "msg") (literal null) (no_parts))); condition = (no_expressions); loop = None; register = None; vars = (no_parts); notify = ([]); changed_when = None; failed_when = None; ignore_errors = None }) (task_step (record { line = 3; work = (module_work (codes "command") (part (codes "chdir") (literal (text (codes "/t"))) (part (codes "cmd") (literal (text (codes "x"))) (no_parts)))); condition = (no_expressions); loop = None; register = (Some (codes "r1")); vars = (no_parts); notify = ([]); changed_when = None; failed_when = None; ignore_errors = None }) (task_step (record { line = 4; work = (set_fact_work (part (codes "s2") (record_of (part (codes "f") (literal null) (no_parts))) (no_parts))); condition = (expression (conjunction (expression (path (variable (codes "r1")) ((codes "failed") ∷ [])) (expression (path (variable (codes "r1")) ((codes "changed") ∷ [])) (no_expressions)))) (no_expressions)); loop = None; register = (Some (codes "r3")); vars = (no_parts); notify = ([]); changed_when = None; failed_when = None; ignore_errors = None }) (task_step (record { line = 5; work = (set_fact_work (part (codes "s1") (literal (text (codes "b"))) (part (codes "s3") (list_of (no_expressions)) (no_parts)))); condition = (expression (conjunction (expression (path (variable (codes "r3")) ((codes "failed") ∷ [])) (expression (path (variable (codes "r1")) ((codes "changed") ∷ [])) (no_expressions)))) (no_expressions)); loop = None; register = (Some (codes "r3")); vars = (no_parts); notify = ([]); changed_when = None; failed_when = None; ignore_errors = None }) (no_steps))))); post_tasks = (no_steps); handlers = ([]) } ∷ [])
+
+abbrev thin_000092_inventory : Inventory
+thin_000092_inventory = record { hosts = (record { name = (codes "h1"); variables = (no_fields) } ∷ []); groups = (record { name = (codes "all"); hosts = ((codes "h1") ∷ []) } ∷ record { name = (codes "ungrouped"); hosts = ((codes "h1") ∷ []) } ∷ []) }
+
+abbrev thin_000092_registry : Registry
+thin_000092_registry = (builtins ++ ([]))
+
+thin_000092 : judged thin_000092_registry thin_000092_inventory thin_000092_book ≡ accepted 1
+thin_000092 = refl
+
+-- thin_000092_run0: 
+abbrev thin_000092_run0_book : Book
+thin_000092_run0_book = (record { line = 1; pattern = ((codes "all") ∷ []); gathering = None; vars = (no_parts); is_linear = true; serial = ([]); pre_tasks = (no_steps); tasks = (task_step (record { line = 2; work = (debug_work (part (codes "msg") (literal null) (no_parts))); condition = (no_expressions); loop = None; register = None; vars = (no_parts); notify = ([]); changed_when = None; failed_when = None; ignore_errors = None }) (task_step (record { line = 3; work = (module_work (codes "command") (part (codes "chdir") (literal (text (codes "/t"))) (part (codes "cmd") (literal (text (codes "x"))) (no_parts)))); condition = (no_expressions); loop = None; register = (Some (codes "r1")); vars = (no_parts); notify = ([]); changed_when = None; failed_when = None; ignore_errors = None }) (task_step (record { line = 4; work = (set_fact_work (part (codes "s2") (record_of (part (codes "f") (literal null) (no_parts))) (no_parts))); condition = (expression (conjunction (expression (path (variable (codes "r1")) ((codes "failed") ∷ [])) (expression (path (variable (codes "r1")) ((codes "changed") ∷ [])) (no_expressions)))) (no_expressions)); loop = None; register = (Some (codes "r3")); vars = (no_parts); notify = ([]); changed_when = None; failed_when = None; ignore_errors = None }) (task_step (record { line = 5; work = (set_fact_work (part (codes "s1") (literal (text (codes "b"))) (part (codes "s3") (list_of (no_expressions)) (no_parts)))); condition = (expression (conjunction (expression (path (variable (codes "r3")) ((codes "failed") ∷ [])) (expression (path (variable (codes "r1")) ((codes "changed") ∷ [])) (no_expressions)))) (no_expressions)); loop = None; register = (Some (codes "r3")); vars = (no_parts); notify = ([]); changed_when = None; failed_when = None; ignore_errors = None }) (no_steps))))); post_tasks = (no_steps); handlers = ([]) } ∷ [])
+
+abbrev thin_000092_run0_inventory : Inventory
+thin_000092_run0_inventory = record { hosts = (record { name = (codes "h1"); variables = (no_fields) } ∷ []); groups = (record { name = (codes "all"); hosts = ((codes "h1") ∷ []) } ∷ record { name = (codes "ungrouped"); hosts = ((codes "h1") ∷ []) } ∷ []) }
+
+abbrev thin_000092_run0_registry : Registry
+thin_000092_run0_registry = (builtins ++ ([]))
+
+thin_000092_run0 : recaps_of thin_000092_run0_registry thin_000092_run0_inventory thin_000092_run0_book 5 ((object (rec (field (codes "changed") (boolean false) (field (codes "failed") (boolean true) (field (codes "msg") (text (codes "no")) (field (codes "rc") (int (pos 0)) (field (codes "stderr") (text ([])) (field (codes "stderr_lines") (list (no_items)) (field (codes "stdout") (text (codes "a")) (field (codes "stdout_lines") (list (item (text (codes "a")) (no_items))) (no_fields)))))))))) ∷ object (rec (field (codes "ping") (text (codes "pong")) (no_fields))) ∷ []) ∷ []) ≡ (record { ok = 1; changed = 0; unreachable = 0; failed = 1; skipped = 0; rescued = 0; ignored = 0 } ∷ [])
+unfolding digits
+thin_000092_run0 = refl
+
+-- thin_000092_run1: 
+abbrev thin_000092_run1_book : Book
+thin_000092_run1_book = (record { line = 1; pattern = ((codes "all") ∷ []); gathering = None; vars = (no_parts); is_linear = true; serial = ([]); pre_tasks = (no_steps); tasks = (task_step (record { line = 2; work = (debug_work (part (codes "msg") (literal null) (no_parts))); condition = (no_expressions); loop = None; register = None; vars = (no_parts); notify = ([]); changed_when = None; failed_when = None; ignore_errors = None }) (task_step (record { line = 3; work = (module_work (codes "command") (part (codes "chdir") (literal (text (codes "/t"))) (part (codes "cmd") (literal (text (codes "x"))) (no_parts)))); condition = (no_expressions); loop = None; register = (Some (codes "r1")); vars = (no_parts); notify = ([]); changed_when = None; failed_when = None; ignore_errors = None }) (task_step (record { line = 4; work = (set_fact_work (part (codes "s2") (record_of (part (codes "f") (literal null) (no_parts))) (no_parts))); condition = (expression (conjunction (expression (path (variable (codes "r1")) ((codes "failed") ∷ [])) (expression (path (variable (codes "r1")) ((codes "changed") ∷ [])) (no_expressions)))) (no_expressions)); loop = None; register = (Some (codes "r3")); vars = (no_parts); notify = ([]); changed_when = None; failed_when = None; ignore_errors = None }) (task_step (record { line = 5; work = (set_fact_work (part (codes "s1") (literal (text (codes "b"))) (part (codes "s3") (list_of (no_expressions)) (no_parts)))); condition = (expression (conjunction (expression (path (variable (codes "r3")) ((codes "failed") ∷ [])) (expression (path (variable (codes "r1")) ((codes "changed") ∷ [])) (no_expressions)))) (no_expressions)); loop = None; register = (Some (codes "r3")); vars = (no_parts); notify = ([]); changed_when = None; failed_when = None; ignore_errors = None }) (no_steps))))); post_tasks = (no_steps); handlers = ([]) } ∷ [])
+
+abbrev thin_000092_run1_inventory : Inventory
+thin_000092_run1_inventory = record { hosts = (record { name = (codes "h1"); variables = (no_fields) } ∷ []); groups = (record { name = (codes "all"); hosts = ((codes "h1") ∷ []) } ∷ record { name = (codes "ungrouped"); hosts = ((codes "h1") ∷ []) } ∷ []) }
+
+abbrev thin_000092_run1_registry : Registry
+thin_000092_run1_registry = (builtins ++ ([]))
+
+thin_000092_run1 : recaps_of thin_000092_run1_registry thin_000092_run1_inventory thin_000092_run1_book 5 ((object (rec (field (codes "changed") (boolean true) (field (codes "rc") (int (pos 0)) (field (codes "stderr") (text ([])) (field (codes "stderr_lines") (list (no_items)) (field (codes "stdout") (text (codes "a")) (field (codes "stdout_lines") (list (item (text (codes "a")) (no_items))) (no_fields)))))))) ∷ []) ∷ []) ≡ (record { ok = 2; changed = 1; unreachable = 0; failed = 0; skipped = 2; rescued = 0; ignored = 0 } ∷ [])
+unfolding digits
+thin_000092_run1 = refl
+
+-- thin_000093: 
+abbrev thin_000093_book : Book
+thin_000093_book = (record { line = 1; pattern = ((codes "all") ∷ []); gathering = None; vars = (no_parts); is_linear = true; serial = ([]); pre_tasks = (no_steps); tasks = (task_step (record { line = 2; work = (set_fact_work (part (codes "s1") (comparison equal (path (variable (codes "inventory_hostname")) ([])) (literal (text (codes "h1")))) (part (codes "s3") (literal (text (codes "text"))) (no_parts)))); condition = (no_expressions); loop = None; register = None; vars = (no_parts); notify = ([]); changed_when = None; failed_when = None; ignore_errors = None }) (task_step (record { line = 3; work = (module_work (codes "command") (part (codes "cmd") (literal (text (codes "x"))) (no_parts))); condition = (expression (negation (literal (boolean false))) (no_expressions)); loop = None; register = None; vars = (no_parts); notify = ([]); changed_when = None; failed_when = None; ignore_errors = None }) (task_step (record { line = 4; work = (set_fact_work (part (codes "s1") (list_of (expression (literal (text (codes "web"))) (expression (literal (int (negsuc 0))) (no_expressions)))) (no_parts))); condition = (no_expressions); loop = None; register = (Some (codes "r1")); vars = (no_parts); notify = ([]); changed_when = None; failed_when = None; ignore_errors = None }) (task_step (record { line = 5; work = (module_work (codes "ping") (no_parts)); condition = (no_expressions); loop = None; register = (Some (codes "r2")); vars = (no_parts); notify = ([]); changed_when = None; failed_when = None; ignore_errors = None }) (no_steps))))); post_tasks = (no_steps); handlers = ([]) } ∷ [])
+
+abbrev thin_000093_inventory : Inventory
+thin_000093_inventory = record { hosts = (record { name = (codes "h1"); variables = (no_fields) } ∷ []); groups = (record { name = (codes "all"); hosts = ((codes "h1") ∷ []) } ∷ record { name = (codes "ungrouped"); hosts = ((codes "h1") ∷ []) } ∷ []) }
+
+abbrev thin_000093_registry : Registry
+thin_000093_registry = (builtins ++ ([]))
+
+thin_000093 : judged thin_000093_registry thin_000093_inventory thin_000093_book ≡ accepted 2
+thin_000093 = refl
+
+-- thin_000093_run0: 
+abbrev thin_000093_run0_book : Book
+thin_000093_run0_book = (record { line = 1; pattern = ((codes "all") ∷ []); gathering = None; vars = (no_parts); is_linear = true; serial = ([]); pre_tasks = (no_steps); tasks = (task_step (record { line = 2; work = (set_fact_work (part (codes "s1") (comparison equal (path (variable (codes "inventory_hostname")) ([])) (literal (text (codes "h1")))) (part (codes "s3") (literal (text (codes "text"))) (no_parts)))); condition = (no_expressions); loop = None; register = None; vars = (no_parts); notify = ([]); changed_when = None; failed_when = None; ignore_errors = None }) (task_step (record { line = 3; work = (module_work (codes "command") (part (codes "cmd") (literal (text (codes "x"))) (no_parts))); condition = (expression (negation (literal (boolean false))) (no_expressions)); loop = None; register = None; vars = (no_parts); notify = ([]); changed_when = None; failed_when = None; ignore_errors = None }) (task_step (record { line = 4; work = (set_fact_work (part (codes "s1") (list_of (expression (literal (text (codes "web"))) (expression (literal (int (negsuc 0))) (no_expressions)))) (no_parts))); condition = (no_expressions); loop = None; register = (Some (codes "r1")); vars = (no_parts); notify = ([]); changed_when = None; failed_when = None; ignore_errors = None }) (task_step (record { line = 5; work = (module_work (codes "ping") (no_parts)); condition = (no_expressions); loop = None; register = (Some (codes "r2")); vars = (no_parts); notify = ([]); changed_when = None; failed_when = None; ignore_errors = None }) (no_steps))))); post_tasks = (no_steps); handlers = ([]) } ∷ [])
+
+abbrev thin_000093_run0_inventory : Inventory
+thin_000093_run0_inventory = record { hosts = (record { name = (codes "h1"); variables = (no_fields) } ∷ []); groups = (record { name = (codes "all"); hosts = ((codes "h1") ∷ []) } ∷ record { name = (codes "ungrouped"); hosts = ((codes "h1") ∷ []) } ∷ []) }
+
+abbrev thin_000093_run0_registry : Registry
+thin_000093_run0_registry = (builtins ++ ([]))
+
+thin_000093_run0 : recaps_of thin_000093_run0_registry thin_000093_run0_inventory thin_000093_run0_book 5 ((unreachable ∷ object (rec (field (codes "changed") (boolean true) (field (codes "rc") (int (pos 0)) (field (codes "stderr") (text ([])) (field (codes "stderr_lines") (list (no_items)) (field (codes "stdout") (text (codes "a")) (field (codes "stdout_lines") (list (item (text (codes "a")) (no_items))) (no_fields)))))))) ∷ []) ∷ []) ≡ (record { ok = 1; changed = 0; unreachable = 1; failed = 0; skipped = 0; rescued = 0; ignored = 0 } ∷ [])
+unfolding digits
+thin_000093_run0 = refl
+
+-- thin_000093_run1: 
+abbrev thin_000093_run1_book : Book
+thin_000093_run1_book = (record { line = 1; pattern = ((codes "all") ∷ []); gathering = None; vars = (no_parts); is_linear = true; serial = ([]); pre_tasks = (no_steps); tasks = (task_step (record { line = 2; work = (set_fact_work (part (codes "s1") (comparison equal (path (variable (codes "inventory_hostname")) ([])) (literal (text (codes "h1")))) (part (codes "s3") (literal (text (codes "text"))) (no_parts)))); condition = (no_expressions); loop = None; register = None; vars = (no_parts); notify = ([]); changed_when = None; failed_when = None; ignore_errors = None }) (task_step (record { line = 3; work = (module_work (codes "command") (part (codes "cmd") (literal (text (codes "x"))) (no_parts))); condition = (expression (negation (literal (boolean false))) (no_expressions)); loop = None; register = None; vars = (no_parts); notify = ([]); changed_when = None; failed_when = None; ignore_errors = None }) (task_step (record { line = 4; work = (set_fact_work (part (codes "s1") (list_of (expression (literal (text (codes "web"))) (expression (literal (int (negsuc 0))) (no_expressions)))) (no_parts))); condition = (no_expressions); loop = None; register = (Some (codes "r1")); vars = (no_parts); notify = ([]); changed_when = None; failed_when = None; ignore_errors = None }) (task_step (record { line = 5; work = (module_work (codes "ping") (no_parts)); condition = (no_expressions); loop = None; register = (Some (codes "r2")); vars = (no_parts); notify = ([]); changed_when = None; failed_when = None; ignore_errors = None }) (no_steps))))); post_tasks = (no_steps); handlers = ([]) } ∷ [])
+
+abbrev thin_000093_run1_inventory : Inventory
+thin_000093_run1_inventory = record { hosts = (record { name = (codes "h1"); variables = (no_fields) } ∷ []); groups = (record { name = (codes "all"); hosts = ((codes "h1") ∷ []) } ∷ record { name = (codes "ungrouped"); hosts = ((codes "h1") ∷ []) } ∷ []) }
+
+abbrev thin_000093_run1_registry : Registry
+thin_000093_run1_registry = (builtins ++ ([]))
+
+thin_000093_run1 : recaps_of thin_000093_run1_registry thin_000093_run1_inventory thin_000093_run1_book 5 ((object (rec (field (codes "changed") (boolean false) (field (codes "failed") (boolean true) (field (codes "msg") (text (codes "no")) (field (codes "rc") (int (pos 0)) (field (codes "stderr") (text ([])) (field (codes "stderr_lines") (list (no_items)) (field (codes "stdout") (text (codes "a")) (field (codes "stdout_lines") (list (item (text (codes "a")) (no_items))) (no_fields)))))))))) ∷ object (rec (field (codes "changed") (boolean false) (field (codes "failed") (boolean true) (field (codes "msg") (text (codes "no")) (field (codes "rc") (int (pos 0)) (field (codes "stderr") (text ([])) (field (codes "stderr_lines") (list (no_items)) (field (codes "stdout") (text (codes "a")) (field (codes "stdout_lines") (list (item (text (codes "a")) (no_items))) (no_fields)))))))))) ∷ []) ∷ []) ≡ (record { ok = 1; changed = 0; unreachable = 0; failed = 1; skipped = 0; rescued = 0; ignored = 0 } ∷ [])
+unfolding digits
+thin_000093_run1 = refl
+
+-- thin_000094: 
+abbrev thin_000094_book : Book
+thin_000094_book = (record { line = 1; pattern = ((codes "all") ∷ []); gathering = None; vars = (no_parts); is_linear = true; serial = ([]); pre_tasks = (no_steps); tasks = (task_step (record { line = 2; work = (module_work (codes "command") (part (codes "cmd") (path (variable (codes "inventory_hostname")) ([])) (no_parts))); condition = (no_expressions); loop = None; register = None; vars = (no_parts); notify = ([]); changed_when = None; failed_when = None; ignore_errors = None }) (task_step (record { line = 3; work = (debug_work (part (codes "msg") (literal (text (97 ∷ 32 ∷ 123 ∷ 32 ∷ 98 ∷ 32 ∷ 125 ∷ 32 ∷ 99 ∷ []))) (no_parts))); condition = (no_expressions); loop = None; register = (Some (codes "s1")); vars = (no_parts); notify = ([]); changed_when = None; failed_when = None; ignore_errors = None }) (task_step (record { line = 4; work = (debug_work (part (codes "msg") (conjunction (expression (comparison equal (path (variable (codes "s1")) ([])) (literal (boolean true))) (expression (negation (literal (boolean false))) (no_expressions)))) (no_parts))); condition = (expression (membership (literal (text (codes "web"))) (path (variable (codes "group_names")) ([]))) (no_expressions)); loop = None; register = None; vars = (no_parts); notify = ([]); changed_when = None; failed_when = None; ignore_errors = None }) (task_step (record { line = 5; work = (module_work (codes "command") (part (codes "chdir") (literal (text (codes "/t"))) (part (codes "cmd") (literal (text (codes "x"))) (no_parts)))); condition = (no_expressions); loop = None; register = (Some (codes "r3")); vars = (no_parts); notify = ([]); changed_when = None; failed_when = None; ignore_errors = None }) (task_step (record { line = 6; work = (debug_work (part (codes "msg") (list_of (expression (literal (int (pos 5))) (no_expressions))) (no_parts))); condition = (no_expressions); loop = None; register = None; vars = (no_parts); notify = ([]); changed_when = None; failed_when = None; ignore_errors = None }) (task_step (record { line = 7; work = (set_fact_work (part (codes "s2") (path (variable (codes "r3")) ([])) (no_parts))); condition = (no_expressions); loop = None; register = None; vars = (no_parts); notify = ([]); changed_when = None; failed_when = None; ignore_errors = None }) (no_steps))))))); post_tasks = (no_steps); handlers = ([]) } ∷ [])
+
+abbrev thin_000094_inventory : Inventory
+thin_000094_inventory = record { hosts = (record { name = (codes "h1"); variables = (no_fields) } ∷ []); groups = (record { name = (codes "all"); hosts = ((codes "h1") ∷ []) } ∷ record { name = (codes "ungrouped"); hosts = ((codes "h1") ∷ []) } ∷ []) }
+
+abbrev thin_000094_registry : Registry
+thin_000094_registry = (builtins ++ ([]))
+
+thin_000094 : judged thin_000094_registry thin_000094_inventory thin_000094_book ≡ accepted 2
+thin_000094 = refl
+
+-- thin_000094_run0: 
+abbrev thin_000094_run0_book : Book
+thin_000094_run0_book = (record { line = 1; pattern = ((codes "all") ∷ []); gathering = None; vars = (no_parts); is_linear = true; serial = ([]); pre_tasks = (no_steps); tasks = (task_step (record { line = 2; work = (module_work (codes "command") (part (codes "cmd") (path (variable (codes "inventory_hostname")) ([])) (no_parts))); condition = (no_expressions); loop = None; register = None; vars = (no_parts); notify = ([]); changed_when = None; failed_when = None; ignore_errors = None }) (task_step (record { line = 3; work = (debug_work (part (codes "msg") (literal (text (97 ∷ 32 ∷ 123 ∷ 32 ∷ 98 ∷ 32 ∷ 125 ∷ 32 ∷ 99 ∷ []))) (no_parts))); condition = (no_expressions); loop = None; register = (Some (codes "s1")); vars = (no_parts); notify = ([]); changed_when = None; failed_when = None; ignore_errors = None }) (task_step (record { line = 4; work = (debug_work (part (codes "msg") (conjunction (expression (comparison equal (path (variable (codes "s1")) ([])) (literal (boolean true))) (expression (negation (literal (boolean false))) (no_expressions)))) (no_parts))); condition = (expression (membership (literal (text (codes "web"))) (path (variable (codes "group_names")) ([]))) (no_expressions)); loop = None; register = None; vars = (no_parts); notify = ([]); changed_when = None; failed_when = None; ignore_errors = None }) (task_step (record { line = 5; work = (module_work (codes "command") (part (codes "chdir") (literal (text (codes "/t"))) (part (codes "cmd") (literal (text (codes "x"))) (no_parts)))); condition = (no_expressions); loop = None; register = (Some (codes "r3")); vars = (no_parts); notify = ([]); changed_when = None; failed_when = None; ignore_errors = None }) (task_step (record { line = 6; work = (debug_work (part (codes "msg") (list_of (expression (literal (int (pos 5))) (no_expressions))) (no_parts))); condition = (no_expressions); loop = None; register = None; vars = (no_parts); notify = ([]); changed_when = None; failed_when = None; ignore_errors = None }) (task_step (record { line = 7; work = (set_fact_work (part (codes "s2") (path (variable (codes "r3")) ([])) (no_parts))); condition = (no_expressions); loop = None; register = None; vars = (no_parts); notify = ([]); changed_when = None; failed_when = None; ignore_errors = None }) (no_steps))))))); post_tasks = (no_steps); handlers = ([]) } ∷ [])
+
+abbrev thin_000094_run0_inventory : Inventory
+thin_000094_run0_inventory = record { hosts = (record { name = (codes "h1"); variables = (no_fields) } ∷ []); groups = (record { name = (codes "all"); hosts = ((codes "h1") ∷ []) } ∷ record { name = (codes "ungrouped"); hosts = ((codes "h1") ∷ []) } ∷ []) }
+
+abbrev thin_000094_run0_registry : Registry
+thin_000094_run0_registry = (builtins ++ ([]))
+
+thin_000094_run0 : recaps_of thin_000094_run0_registry thin_000094_run0_inventory thin_000094_run0_book 5 ((object (rec (field (codes "ping") (text (codes "pong")) (no_fields))) ∷ unreachable ∷ []) ∷ []) ≡ (record { ok = 0; changed = 0; unreachable = 0; failed = 1; skipped = 0; rescued = 0; ignored = 0 } ∷ [])
+unfolding digits
+thin_000094_run0 = refl

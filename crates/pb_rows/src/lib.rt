@@ -1,0 +1,2 @@
+// Books whose verdicts and runs the definitions compute.
+#![tactic(auto)]

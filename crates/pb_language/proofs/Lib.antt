@@ -1,3 +1,16 @@
+pub mod Same
+pub mod WithSlot
+pub mod WellKinds
+pub mod Paths
+pub mod Opaque
+pub mod Values
+pub mod Taught
+pub mod Scopes
+pub mod Known
+pub mod Tests
+pub mod Fits
+pub mod Named
+pub mod Seen
 pub mod Ways
 pub mod Claims
 pub mod Positions

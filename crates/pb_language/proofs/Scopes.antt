@@ -1,0 +1,224 @@
+-- What narrowing keeps of a scope, and two scopes of which one is so.
+use Rattle.std.proofs.Common.{◌≡◌, List, [], ◌∷◌, Bool, true, false, not, ◌&&◌, ◌||◌, cond, bytes_eq, Option, Some, None, ⊎_elim, refl, sym, ap, ◌∙◌}
+use Rattle.pb_semantics.specs.Kind.{KindData, Slots, Spot, recs, no_slots, slot, nowhere, spot, slot_at, is_listed}
+use Rattle.pb_semantics.specs.Keeps.{is_among}
+use Rattle.pb_semantics.specs.Join.{join, join_slots}
+use Rattle.pb_semantics.specs.Well.{Well, are_once}
+use Rattle.pb_semantics.proofs.Bools.{untrue, and-left, and-right, or-left, or-right, or-cases}
+use Rattle.pb_semantics.proofs.Names.{same_name}
+use Rattle.pb_semantics.proofs.JoinWell.{joins_well}
+use Rattle.pb_language.specs.Expression.{Name, Expression, negation, conjunction, disjunction, in_batch, defined, path_status, Root, variable, alias, other, member, Expressions, no_expressions, expression, Term, named_host, this_host, item_host, group_member}
+use Rattle.pb_language.specs.Same.{same_expression}
+use Rattle.pb_language.specs.World.{member_of}
+use Rattle.pb_language.specs.Scope.{Scope, View, Learned, nothing, taught, with_spot, view_of, put_view, learned_kind, host_spot, with_both_kinds, both_learned, both_names, with_both_spots, both_slots, both_views, both_scopes}
+use Rattle.pb_language.specs.Narrow.{cases_with, answers, on_results, changed_spot, changed_at, there_spot, defined_at, teach_host, teach_member, teach, teach_present, active_member, teach_active, narrow, narrow_each, narrow_some}
+use Rattle.pb_language.specs.Knows.{WellScope}
+use Rattle.pb_language.proofs.Same.{equal_expression}
+use Rattle.pb_language.proofs.WithSlot.{at_with, well_with}
+use Rattle.pb_language.proofs.WellKinds.{WellSpot, well_slot}
+
+-- the views of hosts
+abbrev pub has_view : Name → List View → Bool
+has_view g [] = false
+has_view g (v ∷ vs) = bytes_eq g v.host || has_view g vs
+
+put_view_step : (p q : Bool) (Q : Slots → Type 0) (g h : Name) (v : View) (ss : Slots) (vs us : List View) → bytes_eq g v.host ≡ p → bytes_eq h v.host ≡ q → Q (cond q v.slots (view_of h vs)) → (h ≡ g → Q ss)
+    → (Q (view_of h vs) → Q (view_of h us)) → Q (view_of h (cond p (record { host = v.host; slots = ss } ∷ vs) (v ∷ us)))
+put_view_step true true Q g h v ss vs us e i x f later = rw i (f (same_name h v.host i ∙ sym (same_name g v.host e)))
+put_view_step true false Q g h v ss vs us e i x f later = rw i x
+put_view_step false true Q g h v ss vs us e i x f later = rw i x
+put_view_step false false Q g h v ss vs us e i x f later = rw i (later x)
+
+-- what holds of a view holds of it where another is put
+pub put_view_at : (Q : Slots → Type 0) (g h : Name) (ss : Slots) (vs : List View) → Q (view_of h vs) → (h ≡ g → Q ss) → Q (view_of h (put_view g ss vs))
+put_view_at Q g h ss [] x f = x
+put_view_at Q g h ss (v ∷ vs) x f = put_view_step (bytes_eq g v.host) (bytes_eq h v.host) Q g h v ss vs (put_view g ss vs) refl refl x f (λ y. put_view_at Q g h ss vs y f)
+
+has_put_step : (p : Bool) (g h : Name) (v : View) (ss : Slots) (vs us : List View) → has_view h us ≡ has_view h vs
+    → has_view h (cond p (record { host = v.host; slots = ss } ∷ vs) (v ∷ us)) ≡ bytes_eq h v.host || has_view h vs
+has_put_step true g h v ss vs us e = refl
+has_put_step false g h v ss vs us e = ap (λ b. bytes_eq h v.host || b) e
+
+has_put : (g h : Name) (ss : Slots) (vs : List View) → has_view h (put_view g ss vs) ≡ has_view h vs
+has_put g h ss [] = refl
+has_put g h ss (v ∷ vs) = has_put_step (bytes_eq g v.host) g h v ss vs (put_view g ss vs) (has_put g h ss vs)
+
+has_both : (h : Name) (vs ws : List View) → has_view h (both_views vs ws) ≡ has_view h vs
+has_both h [] ws = refl
+has_both h (v ∷ vs) ws = ap (λ b. bytes_eq h v.host || b) (has_both h vs ws)
+
+pub no_view : (g : Name) (vs : List View) → has_view g vs ≡ false → view_of g vs ≡ no_slots
+no_view g [] h = refl
+no_view g (v ∷ vs) h = no_view_step (bytes_eq g v.host) (has_view g vs) v.slots (view_of g vs) h (no_view g vs) where
+  no_view_step : (q b : Bool) (ss ts : Slots) → q || b ≡ false → (b ≡ false → ts ≡ no_slots) → cond q ss ts ≡ no_slots
+  no_view_step true b ss ts h f = untrue (sym h)
+  no_view_step false b ss ts h f = f h
+
+both_view_step : (q : Bool) (Q : Slots → Type 0) (g : Name) (v : View) (vs ws : List View) (us : Slots) → bytes_eq g v.host ≡ q
+    → (q || has_view g vs ≡ true → Q (join_slots (cond q v.slots (view_of g vs)) (view_of g ws))) → (q || has_view g vs ≡ false → Q no_slots)
+    → ((has_view g vs ≡ true → Q (join_slots (view_of g vs) (view_of g ws))) → (has_view g vs ≡ false → Q no_slots) → Q us)
+    → Q (cond q (join_slots v.slots (view_of v.host ws)) us)
+both_view_step true Q g v vs ws us e x y later = rw (← same_name g v.host e) (x refl)
+both_view_step false Q g v vs ws us e x y later = later x y
+
+pub both_view_at : (Q : Slots → Type 0) (g : Name) (vs ws : List View) → (has_view g vs ≡ true → Q (join_slots (view_of g vs) (view_of g ws))) → (has_view g vs ≡ false → Q no_slots) → Q (view_of g (both_views vs ws))
+both_view_at Q g [] ws x y = y refl
+both_view_at Q g (v ∷ vs) ws x y = both_view_step (bytes_eq g v.host) Q g v vs ws (view_of g (both_views vs ws)) refl x y (λ z u. both_view_at Q g vs ws z u)
+
+-- what two scopes share
+pub record SameGround (c d : Scope) : Type 0 where
+  pub this : c.this ≡ d.this
+  pub groups : c.groups ≡ d.groups
+  pub laters : c.laters ≡ d.laters
+  pub place : c.place ≡ d.place
+  pub views : (g : Name) → has_view g c.views ≡ has_view g d.views
+
+pub own_ground : (c : Scope) → SameGround c c
+own_ground c = record { this = refl; groups = refl; laters = refl; place = refl; views = λ g. refl }
+
+pub turned_ground : (c d : Scope) → SameGround c d → SameGround d c
+turned_ground c d m = record { this = sym m.this; groups = sym m.groups; laters = sym m.laters; place = sym m.place; views = λ g. sym (m.views g) }
+
+pub ground_through : (c d e : Scope) → SameGround c d → SameGround d e → SameGround c e
+ground_through c d e m n = record { this = m.this ∙ n.this; groups = m.groups ∙ n.groups; laters = m.laters ∙ n.laters; place = m.place ∙ n.place; views = λ g. m.views g ∙ n.views g }
+
+ground_both : (c d : Scope) → SameGround c (both_scopes c d)
+ground_both c d = record { this = refl; groups = refl; laters = refl; place = refl; views = λ g. sym (has_both g c.views d.views) }
+
+ground_host : (c : Scope) (f : Spot → Spot) (x g : Name) → SameGround c (teach_host c f x g)
+ground_host c f x g = record { this = refl; groups = refl; laters = refl; place = refl; views = λ h. sym (has_put g h (with_spot x (f (host_spot c false x g)) (view_of g c.views)) c.views) }
+
+ground_member : (c : Scope) (f : Spot → Spot) (x : Name) (o : Option Name) → SameGround c (teach_member c f x o)
+ground_member c f x None = own_ground c
+ground_member c f x (Some g) = ground_host c f x g
+
+ground_teach : (c : Scope) (f : Spot → Spot) (r : Root) → SameGround c (teach c f r)
+ground_teach c f (variable n) = record { this = refl; groups = refl; laters = refl; place = refl; views = λ g. refl }
+ground_teach c f (alias n e) = record { this = refl; groups = refl; laters = refl; place = refl; views = λ g. refl }
+ground_teach c f (other (named_host g) x) = ground_host c f x g
+ground_teach c f (other this_host x) = ground_host c f x c.this
+ground_teach c f (other item_host x) = record { this = refl; groups = refl; laters = refl; place = refl; views = λ g. refl }
+ground_teach c f (other (group_member g n) x) = ground_member c f x (member_of g n c.groups)
+ground_teach c f (member g n) = own_ground c
+
+ground_present : (c : Scope) (r : Root) (ns : List Name) → SameGround c (teach_present c r ns)
+ground_present c r ns =
+    let m = ground_teach c (there_spot (defined_at ns)) r in
+    record { this = m.this; groups = m.groups; laters = m.laters; place = m.place; views = m.views }
+
+ground_active_member : (c : Scope) (o : Option Name) → SameGround c (active_member c o)
+ground_active_member c None = own_ground c
+ground_active_member c (Some g) = record { this = refl; groups = refl; laters = refl; place = refl; views = λ h. refl }
+
+ground_active : (c : Scope) (t : Term) → SameGround c (teach_active c t)
+ground_active c (named_host n) = record { this = refl; groups = refl; laters = refl; place = refl; views = λ g. refl }
+ground_active c this_host = record { this = refl; groups = refl; laters = refl; place = refl; views = λ g. refl }
+ground_active c item_host = record { this = refl; groups = refl; laters = refl; place = refl; views = λ g. refl }
+ground_active c (group_member g n) = ground_active_member c (member_of g n c.groups)
+
+mutual
+  pub ground_narrow : (e : Expression) (c : Scope) (b : Bool) → SameGround c (narrow c e b)
+  ground_narrow (negation e) c b = ground_narrow e c (not b)
+  ground_narrow (conjunction es) c true = ground_each es c true
+  ground_narrow (conjunction es) c false = ground_some es c false
+  ground_narrow (disjunction es) c true = ground_some es c true
+  ground_narrow (disjunction es) c false = ground_each es c false
+  ground_narrow (in_batch t) c true = ground_active c t
+  ground_narrow (defined r ns) c true = ground_present c r ns
+  ground_narrow (path_status s r ns) c b = ground_teach c (changed_spot (changed_at ns (on_results (cases_with (answers s b))))) r
+  ground_narrow e c b = own_ground c
+
+  ground_each : (es : Expressions) (c : Scope) (b : Bool) → SameGround c (narrow_each c es b)
+  ground_each no_expressions c b = own_ground c
+  ground_each (expression e es) c b = ground_through c (narrow c e b) (narrow_each (narrow c e b) es b) (ground_narrow e c b) (ground_each es (narrow c e b) b)
+
+  pub ground_some : (es : Expressions) (c : Scope) (b : Bool) → SameGround c (narrow_some c es b)
+  ground_some no_expressions c b = own_ground c
+  ground_some (expression e no_expressions) c b = ground_narrow e c b
+  ground_some (expression e (expression f es)) c b =
+      ground_through c (narrow c e b) (both_scopes (narrow c e b) (narrow_some (narrow c e (not b)) (expression f es) b)) (ground_narrow e c b) (ground_both (narrow c e b) (narrow_some (narrow c e (not b)) (expression f es) b))
+
+-- what both teach
+abbrev pub BothLearned : Name → Expression → Option KindData → Option KindData → KindData → Type 0
+BothLearned n e o p k = (i : KindData) × (j : KindData) × (o ≡ Some i) × (p ≡ Some j) × (k ≡ join i j)
+
+with_both_step : (q : Bool) (n m : Name) (e f : Expression) (i k : KindData) (o p : Option KindData) (u : Learned) (t : Learned) → bytes_eq n m && same_expression e f ≡ q → p ≡ learned_kind m f t
+    → (learned_kind n e u ≡ Some k → BothLearned n e o (learned_kind n e t) k) → learned_kind n e (with_both_kinds m f i p u) ≡ Some k → BothLearned n e (cond q (Some i) o) (learned_kind n e t) k
+with_both_step true n m e f i k o None u t h y later x =
+    let a : n ≡ m = same_name n m (and-left (bytes_eq n m) (same_expression e f) h) in
+    let b : e ≡ f = equal_expression e f (and-right (bytes_eq n m) (same_expression e f) h) in
+    let found = later x in
+    let z : learned_kind n e t ≡ None = rw (a, b) (sym y) in
+    let v : None ≡ Some found.1 = sym z ∙ found.3 in
+    absurd (cc)
+with_both_step false n m e f i k o None u t h y later x = later x
+with_both_step true n m e f i k o (Some j) u t h y later x =
+    let a : n ≡ m = same_name n m (and-left (bytes_eq n m) (same_expression e f) h) in
+    let b : e ≡ f = equal_expression e f (and-right (bytes_eq n m) (same_expression e f) h) in
+    let z : Some (join i j) ≡ Some k = rw h at x in
+    let v : join i j ≡ k = cc in
+    (i, j, refl, rw (a, b) (sym y), sym v)
+with_both_step false n m e f i k o (Some j) u t h y later x = later (rw h at x)
+
+pub both_learned_at : (n : Name) (e : Expression) (l t : Learned) (k : KindData) → learned_kind n e (both_learned l t) ≡ Some k → BothLearned n e (learned_kind n e l) (learned_kind n e t) k
+both_learned_at n e nothing t k x = let z : None ≡ Some k = x in absurd (cc)
+both_learned_at n e (taught m f i l) t k x =
+    with_both_step (bytes_eq n m && same_expression e f) n m e f i k (learned_kind n e l) (learned_kind m f t) (both_learned l t) t refl refl (λ y. both_learned_at n e l t k y) x
+
+abbrev pub both_spot : Spot → Spot → Spot
+both_spot nowhere t = nowhere
+both_spot (spot a k) nowhere = nowhere
+both_spot (spot a k) (spot b m) = spot (a && b) (join k m)
+
+none_of_both : (s : Spot) → both_spot s nowhere ≡ nowhere
+none_of_both nowhere = refl
+none_of_both (spot a k) = refl
+
+both_slot_step : (q : Bool) (x n : Name) (a : Bool) (k : KindData) (s t : Spot) (ts us : Slots) → bytes_eq x n ≡ q → t ≡ slot_at n ts → slot_at x us ≡ both_spot s (slot_at x ts)
+    → slot_at x (with_both_spots n a k t us) ≡ both_spot (cond q (spot a k) s) (slot_at x ts)
+both_slot_step true x n a k s nowhere ts us e h i =
+    let z : slot_at x ts ≡ nowhere = rw (same_name x n e) (sym h) in
+    i ∙ ap (λ u. both_spot s u) z ∙ none_of_both s ∙ sym (ap (λ u. both_spot (spot a k) u) z)
+both_slot_step false x n a k s nowhere ts us e h i = i
+both_slot_step true x n a k s (spot b m) ts us e h i =
+    let z : slot_at x ts ≡ spot b m = rw (same_name x n e) (sym h) in
+    at_with x n (a && b) (join k m) us ∙ ap (λ r. cond r (spot (a && b) (join k m)) (slot_at x us)) e ∙ sym (ap (λ u. both_spot (spot a k) u) z)
+both_slot_step false x n a k s (spot b m) ts us e h i = at_with x n (a && b) (join k m) us ∙ ap (λ r. cond r (spot (a && b) (join k m)) (slot_at x us)) e ∙ i
+
+pub at_both : (x : Name) (ss ts : Slots) → slot_at x (both_slots ss ts) ≡ both_spot (slot_at x ss) (slot_at x ts)
+at_both x no_slots ts = refl
+at_both x (slot n a k ss) ts = both_slot_step (bytes_eq x n) x n a k (slot_at x ss) (slot_at n ts) ts (both_slots ss ts) refl refl (at_both x ss ts)
+
+well_both_spots : (n : Name) (a : Bool) (k : KindData) (s : Spot) (us : Slots) → Well k → WellSpot s → Well (recs us) → Well (recs (with_both_spots n a k s us))
+well_both_spots n a k nowhere us w v u = u
+well_both_spots n a k (spot b m) us w v u = well_with n (a && b) (join k m) us (joins_well k m w v) u
+
+well_both_slots : (ss ts : Slots) → Well (recs ss) → Well (recs ts) → Well (recs (both_slots ss ts))
+well_both_slots no_slots ts w v = (refl, tt)
+well_both_slots (slot n a k ss) ts w v =
+    well_both_spots n a k (slot_at n ts) (both_slots ss ts) w.1.0 (well_slot n ts v.1) (well_both_slots ss ts (and-right (not (is_listed n ss)) (are_once ss) w.0, w.1.1) v)
+
+pub both_first : (n : Name) (ns ms : List Name) → is_among n (both_names ns ms) ≡ true → is_among n ns ≡ true
+both_first n [] ms h = h
+both_first n (m ∷ ns) ms h = first_step (is_among m ms) n m ns (both_names ns ms) (λ x. both_first n ns ms x) h where
+  first_step : (q : Bool) (n m : Name) (ns os : List Name) → (is_among n os ≡ true → is_among n ns ≡ true) → is_among n (cond q (m ∷ os) os) ≡ true → bytes_eq n m || is_among n ns ≡ true
+  first_step true n m ns os f h = ⊎_elim (λ x. or-left (bytes_eq n m) (is_among n ns) x) (λ y. or-right (bytes_eq n m) (is_among n ns) (f y)) (or-cases (bytes_eq n m) (is_among n os) h)
+  first_step false n m ns os f h = or-right (bytes_eq n m) (is_among n ns) (f h)
+
+pub both_second : (n : Name) (ns ms : List Name) → is_among n (both_names ns ms) ≡ true → is_among n ms ≡ true
+both_second n [] ms h = untrue h
+both_second n (m ∷ ns) ms h = second_step (is_among m ms) n m ms (both_names ns ms) refl (λ x. both_second n ns ms x) h where
+  second_step : (q : Bool) (n m : Name) (ms os : List Name) → is_among m ms ≡ q → (is_among n os ≡ true → is_among n ms ≡ true) → is_among n (cond q (m ∷ os) os) ≡ true → is_among n ms ≡ true
+  second_step true n m ms os e f h = ⊎_elim (λ x. rw (same_name n m x) e) (λ y. f y) (or-cases (bytes_eq n m) (is_among n os) h)
+  second_step false n m ms os e f h = f h
+
+pub well_both : (c d : Scope) → WellScope c → WellScope d → WellScope (both_scopes c d)
+well_both c d w v =
+    record {
+      own = joins_well (recs c.own) (recs d.own) w.own v.own;
+      views = λ g. both_view_at (λ ss. Well (recs ss)) g c.views d.views (λ h. joins_well (recs (view_of g c.views)) (recs (view_of g d.views)) (w.views g) (v.views g)) (λ h. (refl, tt));
+      learned = λ n e k i.
+          let both = both_learned_at n e c.learned d.learned k i in
+          rw both.4 (joins_well both.0 both.1 (w.learned n e both.0 both.2) (v.learned n e both.1 both.3));
+      item_slots = well_both_slots c.item_slots d.item_slots w.item_slots v.item_slots;
+    }

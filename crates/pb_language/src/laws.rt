@@ -1,0 +1,22 @@
+// The laws of the definitions, each on a function that does nothing.
+ghost use Rattle.pb_language.specs.Knows.{FitHasValue, ValueKeepsKind, TestTeaches, KindsAreWell};
+
+/// An expression that is fit has a value in each world that knows the scope, and the value is of the expression's kind.
+pub fn fit_has_value()
+    ensures { FitHasValue }
+{}
+
+/// A value of an expression is of the expression's kind, whether the expression is fit or not.
+pub fn value_keeps_kind()
+    ensures { ValueKeepsKind }
+{}
+
+/// What a test teaches is so in each world in which it has that answer.
+pub fn test_teaches()
+    ensures { TestTeaches }
+{}
+
+/// The kind of an expression is well formed where the kinds of the scope are.
+pub fn kinds_are_well()
+    ensures { KindsAreWell }
+{}

@@ -14,3 +14,4 @@ pub mod Seen
 pub mod Ways
 pub mod Claims
 pub mod Positions
+pub mod Runs

@@ -108,6 +108,10 @@ abbrev pub GiveClaim : Type 0
 GiveClaim = (w : World) (st : Setting) (t : Task) (env : Slots) (vars : Fields) (ps : List Pass) (xs : List Answer) → Around w st [] t.place → Well (recs env) → Models vars env → Models w.mine (named_slots st t.depth env) → task_fault st t env ≡ None → PassesFine st t env ps
     → AdmittedFine st t env w vars (admit_passes t.action ps xs)
 
--- the environments after a fit task are well formed
+abbrev pub WellSets : Sets → Type 0
+WellSets no_sets = Unit {0}
+WellSets (sets n a k r) = Well k × WellSets r
+
+-- the environments after a task are well formed, and so is what it writes
 abbrev pub AfterClaim : Type 0
-AfterClaim = (st : Setting) → ((g : Name) → Well (recs (view_of g st.views))) → (t : Task) (env : Slots) → Well (recs env) → task_fault st t env ≡ None → Well (recs (going_slots st t env)) × Well (recs (failing_slots st t env))
+AfterClaim = (st : Setting) → ((g : Name) → Well (recs (view_of g st.views))) → (t : Task) (env : Slots) → Well (recs env) → Well (recs (going_slots st t env)) × Well (recs (failing_slots st t env)) × WellSets (task_writes st t env)

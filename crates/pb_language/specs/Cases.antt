@@ -2,9 +2,9 @@
 use Rattle.std.specs.Prelude.{ℕ, List, [], ◌∷◌, Bool, true, false, not, ◌&&◌, ◌||◌, cond, Option, Some, None, is_some, codes}
 use Rattle.std.specs.Str.{bytes_eq}
 use Rattle.pb_semantics.specs.Data.{Data, Fields, rec, no_fields, field}
-use Rattle.pb_semantics.specs.Kind.{KindData, Slots, Cases, Shape, Spot, never, booleans, texts, lists, recs, results, anything, no_slots, slot, no_cases, one, spot, slot_at, ok_shape, failure_shape, skipped_shape}
+use Rattle.pb_semantics.specs.Kind.{KindData, Slots, Cases, Shape, Spot, never, booleans, texts, lists, recs, results, anything, no_slots, slot, no_cases, one, spot, slot_at, is_listed, ok_shape, failure_shape, skipped_shape}
 use Rattle.pb_semantics.specs.Join.{append_cases, join_spot}
-use Rattle.pb_semantics.specs.Signature.{ModuleData}
+use Rattle.pb_semantics.specs.Signature.{ModuleData, is_certain_boolean}
 use Rattle.pb_language.specs.Expression.{Name, Expression, Expressions, no_expressions, expression, Parts, no_parts, part}
 use Rattle.pb_language.specs.Scope.{Scope, with_slot, with_spot}
 use Rattle.pb_language.specs.Kinds.{kind_of}
@@ -21,6 +21,27 @@ action_name (failure_of o) = codes "fail"
 abbrev pub slots_of : KindData → Slots
 slots_of (recs ss) = ss
 slots_of k = no_slots
+
+-- no result at any depth, and each name of a record once
+abbrev mutual
+  pub is_plain : KindData → Bool
+  is_plain (lists k n) = is_plain k
+  is_plain (recs ss) = are_plain ss
+  is_plain (results cs r) = false
+  is_plain k = true
+
+  pub are_plain : Slots → Bool
+  are_plain no_slots = true
+  are_plain (slot n a k ss) = not (is_listed n ss) && (is_plain k && are_plain ss)
+
+-- a shape of a module: a record that holds no result, with `changed`, and none of the fields that every result has
+abbrev pub is_lawful_shape : KindData → Bool
+is_lawful_shape (recs ss) = is_plain (recs ss) && (is_certain_boolean (slot_at (codes "changed") ss) && (not (is_listed (codes "failed") ss) && not (is_listed (codes "skipped") ss)))
+is_lawful_shape k = false
+
+-- the fields of a lawful shape; a module that keeps no law is refused
+abbrev pub shape_slots : KindData → Slots
+shape_slots k = cond (is_lawful_shape k) (slots_of k) no_slots
 
 -- a shape with the final status
 abbrev pub ended_kind : Slots → KindData
@@ -40,7 +61,7 @@ failure_case n ss = one n failure_shape true (ended_kind ss) no_cases
 
 -- what a module or an action answers: ok and not failed, or a failure
 abbrev pub answered_cases : Action → Cases
-answered_cases (call_of m ps) = append_cases (ok_case m.name (slots_of m.ok)) (failure_case m.name (slots_of m.failure))
+answered_cases (call_of m ps) = append_cases (ok_case m.name (shape_slots m.ok)) (failure_case m.name (shape_slots m.failure))
 answered_cases (debug e) = ok_case (codes "debug") changed_slots
 answered_cases (set_fact ps) = ok_case (codes "set_fact") changed_slots
 answered_cases (assertion es o) = append_cases (ok_case (codes "assert") message_slots) (failure_case (codes "assert") message_slots)
@@ -148,7 +169,7 @@ abbrev pub is_certain_to_run : Task → Bool
 is_certain_to_run t = not (is_conditional t.conditions) && not (is_some t.loop)
 
 abbrev pub action_sets : Scope → Task → Action → Sets
-action_sets c t (call_of m ps) = cond (is_setup m) (gathered (is_certain_to_run t && not (may_go_on_failed t)) (slot_at (codes "ansible_facts") (slots_of m.ok))) no_sets
+action_sets c t (call_of m ps) = cond (is_setup m) (gathered (is_certain_to_run t && not (may_go_on_failed t)) (slot_at (codes "ansible_facts") (shape_slots m.ok))) no_sets
 action_sets c t (debug e) = no_sets
 action_sets c t (set_fact ps) = parts_set c (is_certain_to_run t) ps
 action_sets c t (assertion es o) = no_sets

@@ -10,7 +10,7 @@ use Rattle.pb_language.specs.Expression.{Name, Expression, Expressions}
 use Rattle.pb_language.specs.World.{World}
 use Rattle.pb_language.specs.Evaluation.{Stuck, wrong_sort, no_handler, Outcome, value, stuck, eval_all}
 use Rattle.pb_language.specs.Task.{Action, call_of, debug, set_fact, assertion, failure_of, Task}
-use Rattle.pb_language.specs.Cases.{after_prefix, fact_prefix, is_setup, slots_of}
+use Rattle.pb_language.specs.Cases.{after_prefix, fact_prefix, is_setup, shape_slots}
 use Rattle.pb_language.specs.Setting.{with_local}
 use Rattle.pb_language.specs.Start.{Changes, no_changes, change, Entry, skips, calls, acts, Pass}
 
@@ -56,7 +56,7 @@ facts_of s o = no_changes
 
 -- what an ok answer of `setup` sets
 abbrev pub set_by_answer : ModuleData → Fields → Changes
-set_by_answer m fs = cond (is_setup m) (facts_of (slot_at (codes "ansible_facts") (slots_of m.ok)) (field_value (codes "ansible_facts") fs)) no_changes
+set_by_answer m fs = cond (is_setup m) (facts_of (slot_at (codes "ansible_facts") (shape_slots m.ok)) (field_value (codes "ansible_facts") fs)) no_changes
 
 abbrev pub own_of : Option Data → ModuleData → AdmissionData → (Own → Admitted) → Admitted
 own_of o m (taken (rec fs)) go = go (record { item = o; shape = ok_shape; fields = fs; sets = set_by_answer m fs })

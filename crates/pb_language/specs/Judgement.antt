@@ -1,10 +1,10 @@
 -- What is asked of a task in an environment.
-use Rattle.std.specs.Prelude.{ℕ, List, [], ◌∷◌, Bool, true, false, not, ◌&&◌, cond, Option, Some, None, codes}
+use Rattle.std.specs.Prelude.{ℕ, List, [], ◌∷◌, Bool, true, false, not, ◌&&◌, cond, Option, Some, None}
 use Rattle.std.specs.Str.{bytes_eq}
-use Rattle.pb_semantics.specs.Kind.{KindData, Slots, Cases, never, lists, recs, results, no_slots, slot, no_cases, slot_at, is_listed}
+use Rattle.pb_semantics.specs.Kind.{KindData, Slots, Cases, never, no_cases}
 use Rattle.pb_semantics.specs.Kind.{one as a_case}
 use Rattle.pb_semantics.specs.Below.{below}
-use Rattle.pb_semantics.specs.Signature.{ParameterData, ModuleData, is_certain_boolean}
+use Rattle.pb_semantics.specs.Signature.{ParameterData, ModuleData}
 use Rattle.pb_language.specs.Expression.{Name, Expression, Expressions, no_expressions, expression, Parts, no_parts, part}
 use Rattle.pb_language.specs.Scope.{Scope}
 use Rattle.pb_language.specs.Kinds.{kind_of}
@@ -12,20 +12,8 @@ use Rattle.pb_language.specs.Narrow.{narrow}
 use Rattle.pb_language.specs.Fit.{Fault, wrong_kind, unknown_handler, malformed, first, asks, is_any, is_boolean, is_text, is_list, fault, fields_fault}
 use Rattle.pb_language.specs.Notify.{all_notified, names_something}
 use Rattle.pb_language.specs.Task.{Action, call_of, debug, set_fact, assertion, failure_of, Task}
-use Rattle.pb_language.specs.Cases.{Sets, no_sets, sets, append_sets, action_sets, going_cases, failing_cases, registered_kind, with_register, with_sets, length_bound}
+use Rattle.pb_language.specs.Cases.{Sets, no_sets, sets, append_sets, action_sets, going_cases, failing_cases, registered_kind, with_register, with_sets, length_bound, is_lawful_shape}
 use Rattle.pb_language.specs.Setting.{Setting, start_scope, loop_kind, item_scope, action_scope, give_scope}
-
--- no result at any depth, and each name of a record once
-abbrev mutual
-  pub is_plain : KindData → Bool
-  is_plain (lists k n) = is_plain k
-  is_plain (recs ss) = are_plain ss
-  is_plain (results cs r) = false
-  is_plain k = true
-
-  pub are_plain : Slots → Bool
-  are_plain no_slots = true
-  are_plain (slot n a k ss) = not (is_listed n ss) && (is_plain k && are_plain ss)
 
 -- each condition where those before it hold
 abbrev pub conditions_fault : Scope → Expressions → Option Fault
@@ -52,11 +40,6 @@ arguments_fault c ps (part n e qs) = first (first (fault c e) (asks wrong_kind (
 abbrev pub text_fault : Scope → Option Expression → Option Fault
 text_fault c None = None
 text_fault c (Some e) = first (fault c e) (asks wrong_kind (is_text (kind_of c e)))
-
--- a shape of a module: a record that holds no result, with `changed`, and none of the fields that every result has
-abbrev pub is_lawful_shape : KindData → Bool
-is_lawful_shape (recs ss) = is_plain (recs ss) && (is_certain_boolean (slot_at (codes "changed") ss) && (not (is_listed (codes "failed") ss) && not (is_listed (codes "skipped") ss)))
-is_lawful_shape k = false
 
 -- the laws that every module keeps
 abbrev pub is_lawful : ModuleData → Bool

@@ -15,3 +15,4 @@ pub mod Ways
 pub mod Claims
 pub mod Positions
 pub mod Runs
+pub mod Turns

@@ -74,6 +74,11 @@ all_there (since n r l) p vars env m h x i =
     (λ y. all_there l p vars env m (and-right (is_certain (slot_at n env)) (has_all l env) h) x y) (or-cases (bytes_eq x n && nat_le r p) (is_later l p x) i)
 all_there (every_name r l) p vars env m h x i = untrue h
 
+-- the name is in one of these batches
+abbrev pub in_any : Name → List (List Name) → Bool
+in_any n [] = false
+in_any n (b ∷ bs) = is_among n b || in_any n bs
+
 module _ (views : List View) (inventory : Inventory) (p : Play) (laters : List Later) (exits : Name → Exit) (ps : Program) (ls : List (List Later)) where
   abbrev pub st : Name → Setting
   st n = setting_of inventory p views laters n
@@ -132,10 +137,6 @@ module _ (views : List View) (inventory : Inventory) (p : Play) (laters : List L
     pub env : Slots
     pub models : Models vars env
     pub typed : TypedAt n (live env) r
-
-  abbrev pub in_any : Name → List (List Name) → Bool
-  in_any n [] = false
-  in_any n (b ∷ bs) = is_among n b || in_any n bs
 
   -- the batch that runs and those of the play that are still to run
   module _ (b : List Name) (bs : List (List Name)) where

@@ -120,7 +120,7 @@ module _ (inventory : Inventory) (views : List View) (fixed : Fixed inventory vi
 
     -- what is known of the batch
     pub record BatchFine : Type 0 where
-      pub apart : (n : Name) → is_among n b ≡ true → in_any views inventory p laters exits ps ls n bs ≡ false
+      pub apart : (n : Name) → is_among n b ≡ true → in_any n bs ≡ false
       pub members : are_among b p.hosts ≡ true
       pub few : length b ≤ length p.hosts
       pub free : p.is_linear ≡ false → laters ≡ []

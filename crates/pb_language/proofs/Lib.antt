@@ -16,3 +16,4 @@ pub mod Claims
 pub mod Positions
 pub mod Runs
 pub mod Turns
+pub mod Steps

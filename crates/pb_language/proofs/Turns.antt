@@ -48,7 +48,7 @@ PlansFine [] ls = Unit {0}
 PlansFine (p ∷ ps) ls = CutFine p × (p.is_linear ≡ false → first_laters ls ≡ []) × PlansFine ps (other_laters ls)
 
 module _ (inventory : Inventory) (views : List View) (fixed : Fixed inventory views) (start_claim : StartClaim) (give_claim : GiveClaim) (after_claim : AfterClaim) (limit : ℕ) where
-  after_fine : (p : Play) (l : List Later) (n : Name) → WellAfter (setting_of inventory p views l n)
+  pub after_fine : (p : Play) (l : List Later) (n : Name) → WellAfter (setting_of inventory p views l n)
   after_fine p l n = record {
     going = λ t env w f. (after_claim (setting_of inventory p views l n) fixed.wells t env w).0;
     failing = λ t env w f. (after_claim (setting_of inventory p views l n) fixed.wells t env w).1;

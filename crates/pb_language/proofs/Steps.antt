@@ -196,3 +196,152 @@ module _ (inventory : Inventory) (views : List View) (fixed : Fixed inventory vi
   plays_begun [] ls exits s plans kept ahead resting within = ended s kept (omega (arith, within))
   plays_begun (p ∷ ps) ls exits s plans kept ahead resting within =
       play_begun p ps ls exits s p.batches refl plans.0 plans.1 plans.2 kept (record { well = ahead.well; good = ahead.good }) resting within (λ exits' a r w. plays_begun ps (other_laters ls) exits' s plans.2 kept a r w)
+
+  idle_at : (k : ℕ) (hs : List Host) (h : Host) → all_idle hs ≡ true → host_at k hs ≡ Some h → is_idle h.stage ≡ true
+  idle_at k [] h i e = absurd (true≢false (cc))
+  idle_at zero (x ∷ hs) h i e = let j : x ≡ h = cc in subst (λ z. is_idle z.stage ≡ true) j (and-left (is_idle x.stage) (all_idle hs) i)
+  idle_at (suc k) (x ∷ hs) h i e = idle_at k hs h (and-right (is_idle x.stage) (all_idle hs) i) e
+
+  stage_idle : (p : Play) (l : List Later) (exits : Name → Exit) (ps : Program) (ls : List (List Later)) (b : List Name) (bs : List (List Name)) (n : Name) (vars : Fields) (z : Stage) → is_idle z ≡ true → StageFine views inventory p l exits ps ls b bs n vars z
+      → Idle inventory views fixed start_claim give_claim after_claim limit p l exits ps ls bs n vars z
+  stage_idle p l exits ps ls b bs n vars (waits over) i f = (f.before, f.after)
+  stage_idle p l exits ps ls b bs n vars (waits gone) i f = tt
+  stage_idle p l exits ps ls b bs n vars (waits (begins t x y)) i f = i
+  stage_idle p l exits ps ls b bs n vars (runs t passes x y) i f = i
+
+  idle_resting : (p : Play) (l : List Later) (exits : Name → Exit) (ps : Program) (ls : List (List Later)) (n : Name) (vars : Fields) (z : Stage) → Idle inventory views fixed start_claim give_claim after_claim limit p l exits ps ls [] n vars z
+      → Resting (after_play views inventory p l exits ps ls) n vars z
+  idle_resting p l exits ps ls n vars (waits over) r = r.1 refl
+  idle_resting p l exits ps ls n vars (waits gone) r = tt
+  idle_resting p l exits ps ls n vars (waits (begins t x y)) r = r
+  idle_resting p l exits ps ls n vars (runs t passes x y) r = r
+
+  idle_no_more : (p : Play) (l : List Later) (exits : Name → Exit) (ps : Program) (ls : List (List Later)) (b : List Name) (bs : List (List Name)) (n : Name) (z : Stage)
+      → idle_owes inventory views fixed start_claim give_claim after_claim limit p l exits ps ls bs n z ≤ owes views inventory p l exits ps ls b bs n z
+  idle_no_more p l exits ps ls b bs n (waits over) = omega arith
+  idle_no_more p l exits ps ls b bs n (waits gone) = omega arith
+  idle_no_more p l exits ps ls b bs n (waits (begins t x y)) = omega arith
+  idle_no_more p l exits ps ls b bs n (runs t passes x y) = omega arith
+
+  rest_no_more : (p : Play) (l : List Later) (exits : Name → Exit) (ps : Program) (ls : List (List Later)) (b : List Name) (n : Name) (z : Stage)
+      → resting_owes (after_play views inventory p l exits ps ls) ps ls n z ≤ owes views inventory p l exits ps ls b [] n z
+  rest_no_more p l exits ps ls b n (waits over) = omega arith
+  rest_no_more p l exits ps ls b n (waits gone) = omega arith
+  rest_no_more p l exits ps ls b n (waits (begins t x y)) = omega arith
+  rest_no_more p l exits ps ls b n (runs t passes x y) = omega arith
+
+  module _ (s : State) (kept : Kept inventory views s) (pl : Placed s) where
+    idle_all : all_idle s.hosts ≡ true → (k : ℕ) (h : Host) → host_at k s.hosts ≡ Some h → Idle inventory views fixed start_claim give_claim after_claim limit pl.play pl.laters pl.exits pl.plays pl.more pl.others h.name h.variables h.stage
+    idle_all i k h e = stage_idle pl.play pl.laters pl.exits pl.plays pl.more pl.batch pl.others h.name h.variables h.stage (idle_at k s.hosts h i e) (pl.hosts.stands k h e)
+
+    next_batch : (bs : List (List Name)) → pl.others ≡ bs → all_idle s.hosts ≡ true → Fine (with_batches s (batches_of pl.play bs ++ all_batches pl.plays))
+    next_batch [] eq i =
+        let idle : (k : ℕ) (h : Host) → host_at k s.hosts ≡ Some h → Idle inventory views fixed start_claim give_claim after_claim limit pl.play pl.laters pl.exits pl.plays pl.more [] h.name h.variables h.stage
+            = λ k h e. subst (λ os. Idle inventory views fixed start_claim give_claim after_claim limit pl.play pl.laters pl.exits pl.plays pl.more os h.name h.variables h.stage) eq (idle_all i k h e) in
+        let within : s.handed + total (owes views inventory pl.play pl.laters pl.exits pl.plays pl.more pl.batch []) s.hosts ≤ limit
+            = subst (λ os. s.handed + total (owes views inventory pl.play pl.laters pl.exits pl.plays pl.more pl.batch os) s.hosts ≤ limit) eq pl.hosts.within in
+        let t = total_lower (resting_owes (after_play views inventory pl.play pl.laters pl.exits pl.plays pl.more) pl.plays pl.more) (owes views inventory pl.play pl.laters pl.exits pl.plays pl.more pl.batch []) s.hosts (rest_no_more pl.play pl.laters pl.exits pl.plays pl.more pl.batch) in
+        plays_begun pl.plays pl.more (after_play views inventory pl.play pl.laters pl.exits pl.plays pl.more) s pl.plans kept (next_ahead pl.play pl.laters pl.exits pl.plays pl.more pl.ahead)
+        (λ k h e. idle_resting pl.play pl.laters pl.exits pl.plays pl.more h.name h.variables h.stage (idle k h e)) (omega (arith, t, within))
+    next_batch (b ∷ bs) eq i =
+        let idle : (k : ℕ) (h : Host) → host_at k s.hosts ≡ Some h → Idle inventory views fixed start_claim give_claim after_claim limit pl.play pl.laters pl.exits pl.plays pl.more (b ∷ bs) h.name h.variables h.stage
+            = λ k h e. subst (λ os. Idle inventory views fixed start_claim give_claim after_claim limit pl.play pl.laters pl.exits pl.plays pl.more os h.name h.variables h.stage) eq (idle_all i k h e) in
+        let within : s.handed + total (owes views inventory pl.play pl.laters pl.exits pl.plays pl.more pl.batch (b ∷ bs)) s.hosts ≤ limit
+            = subst (λ os. s.handed + total (owes views inventory pl.play pl.laters pl.exits pl.plays pl.more pl.batch os) s.hosts ≤ limit) eq pl.hosts.within in
+        let apart : AllApart (b ∷ bs) = subst AllApart eq pl.apart in
+        let inside : AllWithin pl.play.hosts (b ∷ bs) = subst (AllWithin pl.play.hosts) eq pl.within in
+        let t = total_lower (idle_owes inventory views fixed start_claim give_claim after_claim limit pl.play pl.laters pl.exits pl.plays pl.more (b ∷ bs)) (owes views inventory pl.play pl.laters pl.exits pl.plays pl.more pl.batch (b ∷ bs)) s.hosts (idle_no_more pl.play pl.laters pl.exits pl.plays pl.more pl.batch (b ∷ bs)) in
+        let bt = record { play = pl.play; members = b } ∷ (batches_of pl.play bs ++ all_batches pl.plays) in
+        let z = batch_begun inventory views fixed start_claim give_claim after_claim limit pl.play pl.laters pl.exits pl.plays pl.more b bs s bt kept idle
+            (λ k h e here. member_of_batch pl.play pl.laters pl.exits pl.plays pl.more b bs apart.0 inside.0 pl.ahead h.name (subst (λ ns. is_among h.name ns ≡ true) kept.names (at_among k s.hosts h e)) here)
+            (omega (arith, t, within)) in
+        record {
+          kept = z.0;
+          placed = inr (record {
+            play = pl.play;
+            laters = pl.laters;
+            batch = b;
+            others = bs;
+            exits = pl.exits;
+            plays = pl.plays;
+            more = pl.more;
+            shape = refl;
+            batch_fine = record { apart = apart.0; members = inside.0; few = inside.1; free = pl.batch_fine.free };
+            apart = apart.1;
+            within = inside.2;
+            ahead = pl.ahead;
+            plans = pl.plans;
+            hosts = z.1;
+          });
+        }
+
+    abbrev batch_now : Batch
+    batch_now = record { play = pl.play; members = pl.batch }
+
+    abbrev batches_left : List Batch
+    batches_left = batches_of pl.play pl.others ++ all_batches pl.plays
+
+    turned : (q : Bool) → all_idle s.hosts ≡ true → Fine (with_batches s (cond q batches_left []))
+    turned true i = next_batch pl.others refl i
+    turned false i = ended s kept (let w = pl.hosts.within in omega (arith, w))
+
+    stepped : (z : State) → Kept inventory views z × HostsFine inventory views fixed start_claim give_claim limit pl.play pl.laters pl.batch pl.others pl.exits pl.plays pl.more z × (z.batches ≡ s.batches) → Fine z
+    stepped z f = record {
+      kept = f.0;
+      placed = inr (record {
+        play = pl.play;
+        laters = pl.laters;
+        batch = pl.batch;
+        others = pl.others;
+        exits = pl.exits;
+        plays = pl.plays;
+        more = pl.more;
+        shape = f.2 ∙ pl.shape;
+        batch_fine = pl.batch_fine;
+        apart = pl.apart;
+        within = pl.within;
+        ahead = pl.ahead;
+        plans = pl.plans;
+        hosts = f.1;
+      });
+    }
+
+    started : (k : ℕ) (o : Option Host) → host_at k s.hosts ≡ o → of_host o (λ h. can_start s batch_now h.stage) ≡ true → Fine (on_host s o (λ h. on_start s batch_now k h h.stage))
+    started k None e c = untrue c
+    started k (Some h) e c =
+        stepped (on_start s batch_now k h h.stage)
+        (start_fine inventory views fixed start_claim give_claim limit pl.play pl.laters pl.batch pl.others pl.exits pl.plays pl.more pl.batch_fine s kept pl.hosts k h h.stage e refl (pl.hosts.stands k h e) c)
+
+    given : (k : ℕ) (xs : List Answer) (o : Option Host) → host_at k s.hosts ≡ o → of_host o (λ h. is_out h.stage) ≡ true → Fine (on_host s o (λ h. on_give s batch_now k h xs h.stage))
+    given k xs None e c = untrue c
+    given k xs (Some h) e c =
+        stepped (on_give s batch_now k h xs h.stage)
+        (give_fine inventory views fixed start_claim give_claim limit pl.play pl.laters pl.batch pl.others pl.exits pl.plays pl.more pl.batch_fine s kept pl.hosts k h h.stage xs e refl (pl.hosts.stands k h e) c)
+
+    placed_step : (e : Event) → is_possible s (batch_now ∷ batches_left) e ≡ true → Fine (happened s (batch_now ∷ batches_left) e)
+    placed_step (start k) c = started k (host_at k s.hosts) refl c
+    placed_step (give k xs) c = given k xs (host_at k s.hosts) refl c
+    placed_step turn c = turned (any_names (still_active s.hosts pl.batch)) c
+    placed_step stop c =
+        stepped (record s { is_stopped = true })
+        (record { same = kept.same; names = kept.names; fresh = kept.fresh; models = kept.models }, record { stands = pl.hosts.stands; within = pl.hosts.within }, refl)
+
+  possible_step : (s : State) → Fine s → (e : Event) → is_possible s s.batches e ≡ true → Fine (happened s s.batches e)
+  possible_step s f e =
+      ⊎_elim (λ x. subst (λ bt. is_possible s bt e ≡ true → Fine (happened s bt e)) (sym x.0) (λ c. untrue c))
+      (λ pl. subst (λ bt. is_possible s bt e ≡ true → Fine (happened s bt e)) (sym pl.shape) (placed_step s f.kept pl e)) f.placed
+
+  step_at : (q : Bool) (s : State) (e : Event) → enabled s e ≡ q → Fine s → Fine (cond q (happened s s.batches e) s)
+  step_at true s e i f = possible_step s f e (and-right (not s.is_stopped) (is_possible s s.batches e) i)
+  step_at false s e i f = f
+
+  pub step_fine : (s : State) (e : Event) → Fine s → Fine (step s e)
+  step_fine s e f = step_at (enabled s e) s e refl f
+
+  pub run_fine : (es : List Event) (s : State) → Fine s → Fine (run_from s es)
+  run_fine [] s f = f
+  run_fine (e ∷ es) s f = run_fine es (step s e) (step_fine s e f)
+
+  -- what was handed out stays within the limit
+  pub fine_within : (s : State) → Fine s → s.handed ≤ limit
+  fine_within s f = ⊎_elim (λ x. x.1) (λ pl. let w = pl.hosts.within in omega (arith, w)) f.placed

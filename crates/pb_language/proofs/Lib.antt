@@ -17,3 +17,5 @@ pub mod Positions
 pub mod Runs
 pub mod Turns
 pub mod Steps
+pub mod Rounds
+pub mod Accepted

@@ -1,5 +1,5 @@
 -- How a book runs on an inventory: the rows of its plays, with their places and batches.
-use Rattle.std.specs.Prelude.{ℕ, zero, suc, ◌+◌, ◌*◌, ◌/◌, max, List, [], ◌∷◌, ◌++◌, Bool, true, false, not, ◌||◌, cond, Option, Some, None, codes, length, take, drop, unwrap_or}
+use Rattle.std.specs.Prelude.{ℕ, zero, suc, ◌+◌, ◌-◌, ◌*◌, ◌/◌, max, List, [], ◌∷◌, ◌++◌, Bool, true, false, not, ◌||◌, cond, Option, Some, None, codes, length, unwrap_or}
 use Rattle.std.specs.Str.{bytes_eq}
 use Rattle.pb_semantics.specs.Data.{boolean, null}
 use Rattle.pb_semantics.specs.Kind.{never, recs, no_slots}
@@ -187,10 +187,22 @@ abbrev pub first_size : ℕ → List Cut → ℕ
 first_size n [] = n
 first_size n (c ∷ cs) = cut_size n c
 
+-- so many hosts, and those after them
+abbrev pub first_hosts : ℕ → List Name → List Name
+first_hosts zero hs = []
+first_hosts (suc k) [] = []
+first_hosts (suc k) (h ∷ hs) = h ∷ first_hosts k hs
+
+abbrev pub other_hosts : ℕ → List Name → List Name
+other_hosts zero hs = hs
+other_hosts (suc k) [] = []
+other_hosts (suc k) (h ∷ hs) = other_hosts k hs
+
+-- each batch has a host at least; the cuts end with the hosts
 abbrev pub cut_hosts : ℕ → ℕ → List Cut → List Name → List (List Name)
 cut_hosts n zero cs hs = []
 cut_hosts n (suc k) cs [] = []
-cut_hosts n (suc k) cs (h ∷ hs) = take (first_size n cs) (h ∷ hs) ∷ cut_hosts n k (next_cuts cs) (drop (first_size n cs) (h ∷ hs))
+cut_hosts n (suc k) cs (h ∷ hs) = (h ∷ first_hosts (first_size n cs - 1) hs) ∷ cut_hosts n k (next_cuts cs) (other_hosts (first_size n cs - 1) hs)
 
 -- without `serial` there is one batch; a play of no host has none
 abbrev pub batches_for : List Cut → List Name → List (List Name)

@@ -19,3 +19,4 @@ pub mod Turns
 pub mod Steps
 pub mod Rounds
 pub mod Accepted
+pub mod Cuts

@@ -20,3 +20,4 @@ pub mod Steps
 pub mod Rounds
 pub mod Accepted
 pub mod Cuts
+pub mod Sound

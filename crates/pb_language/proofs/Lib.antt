@@ -13,6 +13,11 @@ pub mod Named
 pub mod Seen
 pub mod Ways
 pub mod Claims
+pub mod Given
+pub mod GivenResults
+pub mod GivenSets
+pub mod GivenFields
+pub mod After
 pub mod Positions
 pub mod Runs
 pub mod Turns
@@ -21,3 +26,4 @@ pub mod Rounds
 pub mod Accepted
 pub mod Cuts
 pub mod Sound
+pub mod Started

@@ -1,5 +1,6 @@
 // The laws of the definitions, each on a function that does nothing.
 ghost use Rattle.pb_language.specs.Knows.{FitHasValue, ValueKeepsKind, TestTeaches, KindsAreWell};
+ghost use Rattle.pb_language.specs.Theorem.{NeverStuck, WithinBudget};
 
 /// An expression that is fit has a value in each world that knows the scope, and the value is of the expression's kind.
 pub fn fit_has_value()
@@ -19,4 +20,14 @@ pub fn test_teaches()
 /// The kind of an expression is well formed where the kinds of the scope are.
 pub fn kinds_are_well()
     ensures { KindsAreWell }
+{}
+
+/// Whatever happens, in whatever order and with whatever answers: no step of an accepted book is stuck.
+pub fn never_stuck()
+    ensures { NeverStuck }
+{}
+
+/// And the calls that were handed out are at most the budget.
+pub fn within_budget()
+    ensures { WithinBudget }
 {}

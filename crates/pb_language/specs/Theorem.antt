@@ -1,11 +1,12 @@
 -- What holds of every accepted book, whatever happens.
-use Rattle.std.specs.Prelude.{◌≡◌, ◌≤◌, ◌⊎◌, ℕ, ◌+◌, ◌*◌, List, [], ◌∷◌, Bool, true, false, not, ◌&&◌, length}
+use Rattle.std.specs.Prelude.{◌≡◌, ◌≤◌, ◌⊎◌, ℕ, suc, ◌+◌, ◌*◌, List, [], ◌∷◌, Bool, true, false, not, ◌&&◌, length}
 use Rattle.pb_semantics.specs.Keeps.{is_among}
 use Rattle.pb_language.specs.Expression.{Name}
 use Rattle.pb_language.specs.World.{HostVariables}
 use Rattle.pb_language.specs.Book.{Book, Registry}
 use Rattle.pb_language.specs.Plays.{program_of}
 use Rattle.pb_language.specs.Program.{Inventory, Batch, all_batches}
+use Rattle.pb_language.specs.Task.{Handlers, no_handlers, handler, Row, end, task, flush, block}
 use Rattle.pb_language.specs.Verdict.{accepted}
 use Rattle.pb_language.specs.Judged.{judged}
 use Rattle.pb_language.specs.Machine.{Event, start, turn, Host, State, is_out, enabled, history, opening, run}
@@ -41,3 +42,24 @@ CanGoOn s = ((k : ℕ) × (enabled s (start k) ≡ true)) ⊎ (enabled s turn �
 -- a run that hasn't ended, isn't stopped and has no job out can start a task or turn to the next batch
 abbrev pub Progress : Type 0
 Progress = (ms : Registry) (inventory : Inventory) (b : Book) (forks : ℕ) (es : List Event) → 1 ≤ forks → (s : State) → s ≡ run_of ms inventory b forks es → s.is_stopped ≡ false → (s.batches ≡ [] → false ≡ true) → none_out s.hosts ≡ true → CanGoOn s
+
+-- the places of a row: one for each task, and at each flush one for each handler; an `always` part has one set of places for both its modes
+abbrev pub handler_places : Handlers → ℕ
+handler_places no_handlers = 0
+handler_places (handler n t hs) = suc (handler_places hs)
+
+abbrev pub places_of : Row → ℕ
+places_of end = 0
+places_of (task t row) = suc (places_of row)
+places_of (flush hs row) = handler_places hs + places_of row
+places_of (block d body saves rescued always row) = places_of body + (places_of rescued + (places_of always + places_of row))
+
+-- an occurrence is a host of a batch and a place of its play
+abbrev pub occurrences : List Batch → ℕ
+occurrences [] = 0
+occurrences (b ∷ bs) = length b.members * places_of b.play.row + occurrences bs
+
+-- whatever the events, few of them are enabled: two for each occurrence, one for each batch, and one Stop
+abbrev pub ShortHistory : Type 0
+ShortHistory = (ms : Registry) (inventory : Inventory) (b : Book) (n forks : ℕ) (es : List Event) → are_distinct (host_names inventory.hosts) ≡ true → judged ms inventory b ≡ accepted n
+    → length (history (opening (program_of ms inventory b) inventory forks) es) ≤ 2 * occurrences (all_batches (program_of ms inventory b)) + length (all_batches (program_of ms inventory b)) + 1

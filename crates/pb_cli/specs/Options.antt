@@ -1,7 +1,84 @@
--- What is known of a command line that was read.
-use Rattle.std.specs.Prelude.{◌≤◌}
+-- What a command line says, read as `clap` reads it.
+use Rattle.std.specs.Prelude.{◌≡◌, ◌≤◌, ℕ, [], List, codes, Option, Some, None, true, false, unwrap_or, option_map, string_bytes}
+use Rattle.std.specs.Str.Parse.{IsNumeral, digits_value, without_leading_plus}
+use Rattle.clap.specs.Words.{App, Row, Rule, Text, first_of, new_app, new_rule, with_rule, with_subcommand}
+use Rattle.clap.specs.declared.builder.command.Command.{Command}
+use Rattle.clap.specs.declared.builder.command.Command.TheViews.{out-Command}
+use Rattle.clap.specs.declared.builder.action.ArgAction.TheVariants.{Set}
 use Rattle.pb_cli.specs.declared.words.Options.{Options}
 use Rattle.pb_cli.specs.declared.words.Options.TheVariants.{Check, Run}
+use Rattle.pb_cli.specs.declared.words.Source.{Source}
+use Rattle.pb_cli.specs.declared.words.Source.TheVariants.{Answers, Modules}
+use Rattle.pb_cli.specs.declared.words.Subject.{Subject}
+
+-- the command has no argument for its subcommands too
+abbrev pub IsLocal : Command → Type 0
+IsLocal c = (out-Command c).has_globals ≡ false
+
+-- `--name VALUE`
+abbrev pub option_rule : Text → Rule
+option_rule name = record (new_rule name) { long = Some name; action = Some Set }
+
+abbrev pub book_rule : Rule
+book_rule = record (new_rule (codes "book")) { required = true; action = Some Set }
+
+-- also `-i VALUE`
+abbrev pub inventory_rule : Rule
+inventory_rule = record (option_rule (codes "inventory")) { short = Some 105; required = true }
+
+-- also `-s VALUE`
+abbrev pub signatures_rule : Rule
+signatures_rule = record (option_rule (codes "signatures")) { short = Some 115 }
+
+-- also `-f VALUE`
+abbrev pub forks_rule : Rule
+forks_rule = record (option_rule (codes "forks")) { short = Some 102 }
+
+abbrev pub answers_rule : Rule
+answers_rule = option_rule (codes "answers")
+
+abbrev pub modules_rule : Rule
+modules_rule = option_rule (codes "modules")
+
+abbrev pub with_files : App → App
+with_files a = with_rule (with_rule (with_rule a book_rule) inventory_rule) signatures_rule
+
+abbrev pub check_app : App
+check_app = with_files (new_app (codes "check"))
+
+abbrev pub run_app : App
+run_app = with_rule (with_rule (with_rule (with_files (new_app (codes "run"))) forks_rule) answers_rule) modules_rule
+
+-- a command is wanted
+abbrev pub top_app : App
+top_app = record { top = record (new_app (codes "playcheck")).top { subcommand_required = true }; subs = [] }
+
+-- the program's command line: playcheck check .. or playcheck run ..
+abbrev pub playcheck_app : App
+playcheck_app = with_subcommand (with_subcommand top_app check_app.top) run_app.top
+
+-- the files are the values of their options
+pub record NamesFiles (rows : List Row) (s : Subject) : Type 0 where
+  pub book : string_bytes s.book ≡ unwrap_or (first_of (codes "book") rows) []
+  pub inventory : string_bytes s.inventory ≡ unwrap_or (first_of (codes "inventory") rows) []
+  pub signatures : option_map string_bytes s.signatures ≡ first_of (codes "signatures") rows
+
+-- the number that the numeral writes, 5 where there is none
+abbrev pub IsForkCount : Option Text → ℕ → Type 0
+IsForkCount None n = n ≡ 5
+IsForkCount (Some t) n = IsNumeral 10 (without_leading_plus t) × (n ≡ digits_value 10 (without_leading_plus t))
+
+-- the one of the two options that is there
+abbrev pub NamesSource : List Row → Source → Type 0
+NamesSource rows (Answers s) = (first_of (codes "answers") rows ≡ Some (string_bytes s)) × (first_of (codes "modules") rows ≡ None)
+NamesSource rows (Modules s) = (first_of (codes "modules") rows ≡ Some (string_bytes s)) × (first_of (codes "answers") rows ≡ None)
+
+-- the options are the values that were found for the command that was named
+abbrev pub Says : Option (Text × List Row) → Options → Type 0
+Says None o = ⊥
+Says (Some found) (Check s) = (found.0 ≡ codes "check") × NamesFiles found.1 s
+Says (Some found) (Run s n a) =
+    (found.0 ≡ codes "run") × (NamesFiles found.1 s × (IsForkCount (first_of (codes "forks") found.1) n × NamesSource found.1 a))
 
 -- the fork count of a run lies from 1 to 256
 abbrev pub HasForks : Options → Type 0

@@ -1,11 +1,13 @@
 -- What the program prints.
-use Rattle.std.specs.Prelude.{ℕ, List, [], ◌∷◌, ◌++◌, codes, Option, Some, None, Result, Ok, Err, String, string_bytes}
+use Rattle.std.specs.Prelude.{ℕ, List, [], ◌∷◌, ◌++◌, map, Bool, nat_lt, if◌then◌else◌, codes, Option, Some, None, Result, Ok, Err, String, string_bytes}
+use Rattle.std.specs.List.{flat_map, list_any, zip}
 use Rattle.std.specs.declared.alloc.Global.{Global}
 use Rattle.std.specs.Fmt.{decimal}
+use Rattle.pb_inventory.specs.Inventory.{inventory_view}
 use Rattle.pb_verify.specs.declared.checked.Accepted.{Accepted}
 use Rattle.pb_verify.specs.declared.refusal.Refusal.{Refusal}
-use Rattle.pb_verify.specs.declared.refusal.Code.{Code}
 use Rattle.pb_verify.specs.Codes.{code_text}
+use Rattle.pb_strategy.specs.History.{RunState}
 use Rattle.pb_strategy.specs.declared.recap.Recap.{Recap}
 use Rattle.pb_cli.specs.declared.judge.Fault.{Fault}
 use Rattle.pb_cli.specs.declared.judge.Fault.TheVariants.{Refused, NoMemory}
@@ -34,3 +36,26 @@ ended_text r =
 -- the line of one host's recap, with its line feed
 abbrev pub recap_line : List ℕ → Recap → List ℕ
 recap_line name r = name ++ (codes " : " ++ (reached_text r ++ (codes " " ++ (ended_text r ++ (10 ∷ [])))))
+
+-- the names of a run's hosts, in host order
+abbrev pub host_names : RunState → List (List ℕ)
+host_names r = map (λ h. h.name) (inventory_view r.checked.inventory).hosts
+
+-- a line for each of these hosts, with its recap
+abbrev pub recap_lines : List (List ℕ) → List Recap → List ℕ
+recap_lines names rs = flat_map (λ p. recap_line p.0 p.1) (zip names rs)
+
+-- the recap of a run: a line for each host, in host order
+abbrev pub run_lines : RunState → List ℕ
+run_lines r = recap_lines (host_names r) r.recaps
+
+-- some host's task failed
+abbrev pub some_failed : List Recap → Bool
+some_failed rs = list_any (λ r. nat_lt 0 r.failed) rs
+
+-- some host couldn't be reached
+abbrev pub some_unreachable : List Recap → Bool
+some_unreachable rs = list_any (λ r. nat_lt 0 r.unreachable) rs
+
+abbrev pub status_for : List Recap → ℕ
+status_for rs = if some_failed rs then 2 else if some_unreachable rs then 4 else 0

@@ -1,5 +1,13 @@
 // The verdict on the bytes of a playbook and an inventory.
-ghost use Rattle.std.specs.Prelude.{◌≡◌, Err, IsErrAnd, true};
+ghost use Rattle.std.specs.Prelude.{◌≡◌, ◌⊎◌, ◌<◌, Ok, Err, IfOk, IsUtf8, is_some, length, true, false};
+ghost use Rattle.pb_sig.specs.Table.{builtins};
+ghost use Rattle.pb_sig.specs.Modules.{modules_of};
+ghost use Rattle.pb_inventory.specs.Hosts.{InventoryData};
+ghost use Rattle.pb_inventory.specs.Inventory.{inventory_view};
+ghost use Rattle.pb_book.specs.Books.{plays_of};
+ghost use Rattle.pb_book.specs.Lines.{names_known};
+ghost use Rattle.pb_verify.specs.Budget.{budget_for};
+ghost use Rattle.pb_cli.specs.Judged.{inventory_verdict, refused};
 
 use pb_book::book::Book;
 use pb_book::fault::BookFault;
@@ -19,12 +27,22 @@ pub enum Fault {
 }
 
 impl From<AllocError> for Fault {
+    ghost use Rattle.std.specs.Prelude.{◌≡◌};
+    ghost use Rattle.pb_cli.specs.declared.judge.Fault.TheVariants.{NoMemory};
+
+    ghost from_gives = { λ _ f. f ≡ NoMemory };
+
     fn from(_: AllocError) -> Fault {
         Fault::NoMemory
     }
 }
 
 impl From<BookFault> for Fault {
+    ghost use Rattle.std.specs.Prelude.{◌≡◌};
+    ghost use Rattle.pb_cli.specs.Judged.{of_book};
+
+    ghost from_gives = { λ e f. f ≡ of_book e };
+
     fn from(fault: BookFault) -> Fault {
         match fault {
             BookFault::NotJson => whole(Code::P01),
@@ -35,6 +53,11 @@ impl From<BookFault> for Fault {
 }
 
 impl From<InventoryFault> for Fault {
+    ghost use Rattle.std.specs.Prelude.{◌≡◌};
+    ghost use Rattle.pb_cli.specs.Judged.{of_inventory};
+
+    ghost from_gives = { λ e f. f ≡ of_inventory e };
+
     fn from(fault: InventoryFault) -> Fault {
         match fault {
             InventoryFault::NotJson => whole(Code::I01),
@@ -45,6 +68,11 @@ impl From<InventoryFault> for Fault {
 }
 
 impl From<VerifyFault> for Fault {
+    ghost use Rattle.std.specs.Prelude.{◌≡◌};
+    ghost use Rattle.pb_cli.specs.Judged.{of_verify};
+
+    ghost from_gives = { λ e f. f ≡ of_verify e };
+
     fn from(fault: VerifyFault) -> Fault {
         match fault {
             VerifyFault::Refused(refusal) => Fault::Refused(refusal),
@@ -54,7 +82,9 @@ impl From<VerifyFault> for Fault {
 }
 
 /// A refusal of a file as a whole.
-pub fn whole(code: Code) -> Fault {
+pub fn whole(code: Code) -> Fault
+    ensures { result ≡ refused code }
+{
     Fault::Refused(Refusal {
         code,
         line: 0,
@@ -63,13 +93,27 @@ pub fn whole(code: Code) -> Fault {
 }
 
 /// Judges a playbook for an inventory. Refusals come in this order: the signatures, the inventory, the playbook
-/// as it is written, then what the verifier finds. Signatures aren't built yet.
+/// as it is written, then what the verifier finds. Signatures aren't built yet. What is accepted is the inventory
+/// that was read, with the built-in modules.
 pub fn judge(
     alloc: Global,
     book: &[u8],
     inventory: &[u8],
     signatures: Option<&[u8]>,
-) -> Result<Checked, Fault> {
+) -> Result<Checked, Fault>
+    ensures signatures { is_some signatures.entry ≡ true → result ≡ Err (refused Code.N00) }
+    ensures inventory { is_some signatures.entry ≡ false → IsUtf8 inventory.now → (code : Code)
+        → inventory_verdict inventory.now ≡ Err code
+        → (result ≡ Err (refused code)) ⊎ (result ≡ Err Fault.NoMemory) }
+    ensures large { is_some signatures.entry ≡ false → IsUtf8 inventory.now
+        → (i : InventoryData) → inventory_verdict inventory.now ≡ Ok i → 4194304 < length book.now
+        → (result ≡ Err (refused Code.N00)) ⊎ (result ≡ Err Fault.NoMemory) }
+    ensures read { IfOk result (λ c. inventory_verdict inventory.now ≡ Ok (inventory_view c.inventory)) }
+    ensures modules { IfOk result (λ c. modules_of c.registry ≡ builtins) }
+    ensures known { IfOk result (λ c. names_known builtins (plays_of c.book) ≡ true) }
+    ensures budget { IfOk result (λ c.
+        c.budget ≡ budget_for (plays_of c.book) (length (inventory_view c.inventory).hosts)) }
+{
     if signatures.is_some() {
         return Err(whole(Code::N00));
     }

@@ -1,6 +1,19 @@
 // The command line, read with `clap`.
-ghost use Rattle.std.specs.Prelude.{◌≡◌, ◌≤◌, IfOk};
-ghost use Rattle.pb_cli.specs.Options.{HasForks};
+ghost use Rattle.std.specs.Prelude.{◌≡◌, ◌≤◌, [], IfOk, IfSome, codes, map, option_map, unwrap_or, string_bytes, false};
+ghost use Rattle.clap.specs.Words.{app_of, first_of, found_of, rows_of, rule_of, subcommand_of, subcommand_rows_of};
+ghost use Rattle.pb_cli.specs.Options.{
+  HasForks,
+  IsLocal,
+  IsForkCount,
+  NamesFiles,
+  NamesSource,
+  Says,
+  check_app,
+  option_rule,
+  playcheck_app,
+  run_app,
+  with_files,
+};
 
 use crate::words::{LineFault, Options, Source, Subject};
 use clap::error::ErrorKind;
@@ -10,9 +23,13 @@ use std::alloc::{AllocError, Global};
 /// The most workers of a run.
 const MOST_FORKS: u16 = 256;
 
-/// Reads the words of the command line, the program's name first.
+/// The workers of a run where the words name no number.
+const DEFAULT_FORKS: u16 = 5;
+
+/// Reads the words of the command line, the program's name first: the values are those that `clap` finds in them.
 pub fn options(alloc: Global, words: &Vec<String>) -> Result<Options, LineFault>
-    ensures { IfOk result HasForks }
+    ensures says { IfOk result (Says (subcommand_of playcheck_app (map string_bytes words.now.items))) }
+    ensures forks { IfOk result HasForks }
 {
     let command = command_of(alloc)?;
     match command.try_get_matches_from(words.as_slice()) {
@@ -30,7 +47,8 @@ fn fault_of(alloc: Global, e: &Error) -> LineFault {
 }
 
 fn chosen(alloc: Global, matches: &ArgMatches<'_>) -> Result<Options, LineFault>
-    ensures { IfOk result HasForks }
+    ensures says { IfOk result (Says (subcommand_rows_of matches.now)) }
+    ensures forks { IfOk result HasForks }
 {
     match matches.subcommand() {
         Some(("check", found)) => Ok(Options::Check(subject_of(alloc, found)?)),
@@ -47,32 +65,72 @@ fn line(alloc: Global, text: &str) -> Result<LineFault, AllocError> {
     Ok(LineFault::Line(String::from_str(alloc, text)?))
 }
 
-fn subject_of(alloc: Global, found: &ArgMatches<'_>) -> Result<Subject, LineFault> {
+// The first value of that name.
+fn value_of<'a>(found: &ArgMatches<'a>, name: &str) -> Option<&'a str>
+    ensures { option_map (λ s. s.now) result ≡ first_of name.now (rows_of (found_of found.now)) }
+{
+    found.get_str(name)
+}
+
+// The first value of that name, empty where there is none.
+fn text_of(alloc: Global, found: &ArgMatches<'_>, name: &str) -> Result<String, AllocError>
+    ensures { IfOk result (λ s. string_bytes s
+        ≡ unwrap_or (first_of name.now (rows_of (found_of found.now))) []) }
+{
+    match value_of(found, name) {
+        Some(text) => String::from_str(alloc, text),
+        None => Ok(String::new(alloc)),
+    }
+}
+
+// The first value of that name, if there is one.
+fn optional_of(
+    alloc: Global,
+    found: &ArgMatches<'_>,
+    name: &str,
+) -> Result<Option<String>, AllocError>
+    ensures { IfOk result (λ o. option_map string_bytes o ≡ first_of name.now (rows_of (found_of found.now))) }
+{
+    match value_of(found, name) {
+        Some(text) => Ok(Some(String::from_str(alloc, text)?)),
+        None => Ok(None),
+    }
+}
+
+fn subject_of(alloc: Global, found: &ArgMatches<'_>) -> Result<Subject, LineFault>
+    ensures { IfOk result (NamesFiles (rows_of (found_of found.now))) }
+{
     Ok(Subject {
-        book: String::from_str(alloc, found.get_str("book").unwrap_or(""))?,
-        inventory: String::from_str(alloc, found.get_str("inventory").unwrap_or(""))?,
-        signatures: match found.get_str("signatures") {
-            Some(name) => Some(String::from_str(alloc, name)?),
-            None => None,
-        },
+        book: text_of(alloc, found, "book")?,
+        inventory: text_of(alloc, found, "inventory")?,
+        signatures: optional_of(alloc, found, "signatures")?,
     })
 }
 
 fn forks_of(alloc: Global, found: &ArgMatches<'_>) -> Result<u16, LineFault>
-    ensures { IfOk result (λ n. (1 ≤ n) × (n ≤ 256)) }
+    ensures numeral { IfOk result (IsForkCount (first_of (codes "forks") (rows_of (found_of found.now)))) }
+    ensures range { IfOk result (λ n. (1 ≤ n) × (n ≤ 256)) }
 {
-    let forks = match found.get_str("forks") {
-        Some(text) => text.parse::<u16>().ok(),
-        None => Some(5),
-    };
-    match forks {
+    match number_of(value_of(found, "forks")) {
         Some(n) if n >= 1 && n <= MOST_FORKS => Ok(n),
         _ => Err(line(alloc, "playcheck: forks are a whole number from 1 to 256\n")?),
     }
 }
 
-fn source_of(alloc: Global, found: &ArgMatches<'_>) -> Result<Source, LineFault> {
-    match (found.get_str("answers"), found.get_str("modules")) {
+// The number that the numeral writes, the default where there is none.
+fn number_of(text: Option<&str>) -> Option<u16>
+    ensures { IfSome result (IsForkCount (option_map (λ t. t.now) text.entry)) }
+{
+    match text {
+        Some(text) => text.parse::<u16>().ok(),
+        None => Some(DEFAULT_FORKS),
+    }
+}
+
+fn source_of(alloc: Global, found: &ArgMatches<'_>) -> Result<Source, LineFault>
+    ensures { IfOk result (NamesSource (rows_of (found_of found.now))) }
+{
+    match (value_of(found, "answers"), value_of(found, "modules")) {
         (Some(name), None) => Ok(Source::Answers(String::from_str(alloc, name)?)),
         (None, Some(name)) => Ok(Source::Modules(String::from_str(alloc, name)?)),
         _ => Err(line(
@@ -82,7 +140,9 @@ fn source_of(alloc: Global, found: &ArgMatches<'_>) -> Result<Source, LineFault>
     }
 }
 
-fn command_of<'a>(alloc: Global) -> Result<Command<'a>, AllocError> {
+fn command_of<'a>(alloc: Global) -> Result<Command<'a>, AllocError>
+    ensures { IfOk result (λ c. app_of c ≡ playcheck_app) }
+{
     Command::new(alloc, "playcheck")
         .about("Verifies Ansible playbooks in JSON form, and runs what it accepts")
         .subcommand_required(true)
@@ -90,12 +150,18 @@ fn command_of<'a>(alloc: Global) -> Result<Command<'a>, AllocError> {
         .subcommand(run_command(alloc)?)
 }
 
-fn check_command<'a>(alloc: Global) -> Result<Command<'a>, AllocError> {
+fn check_command<'a>(alloc: Global) -> Result<Command<'a>, AllocError>
+    ensures app { IfOk result (λ c. app_of c ≡ check_app) }
+    ensures local { IfOk result IsLocal }
+{
     let command = Command::new(alloc, "check").about("Prints the verdict on a playbook");
     with_subject(alloc, command)
 }
 
-fn run_command<'a>(alloc: Global) -> Result<Command<'a>, AllocError> {
+fn run_command<'a>(alloc: Global) -> Result<Command<'a>, AllocError>
+    ensures app { IfOk result (λ c. app_of c ≡ run_app) }
+    ensures local { IfOk result IsLocal }
+{
     let command = Command::new(alloc, "run").about(
         "Runs a playbook that is accepted, and prints the recap",
     );
@@ -110,7 +176,10 @@ fn run_command<'a>(alloc: Global) -> Result<Command<'a>, AllocError> {
         .arg(modules)
 }
 
-fn with_subject<'a>(alloc: Global, command: Command<'a>) -> Result<Command<'a>, AllocError> {
+fn with_subject<'a>(alloc: Global, command: Command<'a>) -> Result<Command<'a>, AllocError>
+    ensures app { IfOk result (λ c. app_of c ≡ with_files (app_of command.entry)) }
+    ensures local { IsLocal command.entry → IfOk result IsLocal }
+{
     let book = Arg::new(alloc, "book")
         .required(true)
         .action(ArgAction::Set)
@@ -125,6 +194,9 @@ fn with_subject<'a>(alloc: Global, command: Command<'a>) -> Result<Command<'a>, 
     command.arg(book)?.arg(inventory)?.arg(signatures)
 }
 
-fn option<'a>(alloc: Global, name: &'a str) -> Arg<'a> {
+fn option<'a>(alloc: Global, name: &'a str) -> Arg<'a>
+    ensures rule { rule_of result ≡ option_rule name.now }
+    ensures local { result.global ≡ false }
+{
     Arg::new(alloc, name).long(name).action(ArgAction::Set)
 }

@@ -1,10 +1,12 @@
 // What the program does with its words: reads the files, judges, runs and prints.
+ghost use Rattle.std.specs.Prelude.{◌<◌, ◌^◌};
+
 use crate::files::read_bounded;
 use crate::judge::{Fault, judge, whole};
 use crate::options::options;
 use crate::texts::{recap_text, status_of, verdict_text};
 use crate::words::{LineFault, Options, Source, Subject};
-use pb_strategy::drive::drive;
+use pb_strategy::drive::{Runner, drive};
 use pb_strategy::run::Run;
 use pb_strategy::script::{ScriptFault, ScriptRunner};
 use pb_verify::checked::Checked;
@@ -160,7 +162,9 @@ fn run_book<R: AllocGlobal + Print + Eprint>(
     checked: &Checked,
     forks: u16,
     runner: &mut ScriptRunner,
-) -> u8 {
+) -> u8
+    requires { ⟦<ScriptRunner as Runner>⟧.calls runner.old < 2 ^ 63 }
+{
     let Ok(mut run) = Run::open(rt.alloc(), checked, workers_of(forks, checked.hosts())) else {
         return no_memory(rt);
     };

@@ -1,6 +1,6 @@
 // What is printed of a verdict and of a run, and the status of the program.
 ghost use Rattle.std.specs.Prelude.{◌≡◌, IfOk, string_bytes};
-ghost use Rattle.pb_cli.specs.Texts.{verdict_line, refusal_line, recap_line, reached_text, ended_text, host_text};
+ghost use Rattle.pb_cli.specs.Texts.{verdict_line, refusal_line, recap_line, reached_text, ended_text, host_text, run_lines, status_for};
 
 use crate::judge::Fault;
 use pb_strategy::recap::Recap;
@@ -42,7 +42,9 @@ fn host_name(host: &Option<String>) -> &str
 }
 
 /// A line for each host of the inventory in host order, with what its tasks came to.
-pub fn recap_text(alloc: Global, run: &Run) -> Result<String, AllocError> {
+pub fn recap_text(alloc: Global, run: &Run) -> Result<String, AllocError>
+    ensures { IfOk result (λ s. string_bytes s ≡ run_lines run.now) }
+{
     let mut text = String::new(alloc);
     let hosts = run.hosts();
     for host in 0..hosts {
@@ -88,7 +90,9 @@ fn ended_of(alloc: Global, recap: Recap) -> Result<String, AllocError>
 }
 
 /// The status of a run: 2 where some host's task failed, else 4 where some host couldn't be reached, else 0.
-pub fn status_of(run: &Run) -> u8 {
+pub fn status_of(run: &Run) -> u8
+    ensures { result ≡ status_for run.now.recaps }
+{
     let mut unreachable = false;
     let hosts = run.hosts();
     for host in 0..hosts {
@@ -96,9 +100,7 @@ pub fn status_of(run: &Run) -> u8 {
         if recap.failed > 0 {
             return 2;
         }
-        if recap.unreachable > 0 {
-            unreachable = true;
-        }
+        unreachable |= recap.unreachable > 0;
     }
     if unreachable { 4 } else { 0 }
 }

@@ -1,11 +1,13 @@
 -- A run that goes on by one event.
-use Rattle.std.proofs.Common.{◌≡◌, ◌<◌, List, [], ◌∷◌, ◌++◌, Bool, true, false, ◌||◌, length, vec_capacity, refl, sym, ap, ◌∙◌}
+use Rattle.std.proofs.Common.{◌≡◌, ◌<◌, ◌≤◌, ℕ, arith, List, [], ◌∷◌, ◌++◌, Bool, true, false, ◌||◌, length, vec_capacity, refl, sym, ap, ◌∙◌}
 use Rattle.pb_strategy.specs.History.{RunState, after, is_stop, is_stopped, is_turn, is_turned, is_over, has_no_plays}
-use Rattle.pb_strategy.specs.Inside.{IsRun, run_state, is_phase_over}
+use Rattle.pb_strategy.specs.Inside.{IsRun, run_state, recaps_of, handed_of, is_phase_over}
+use Rattle.pb_strategy.specs.Tally.{IsTally}
+use Rattle.pb_inventory.specs.Inventory.{inventory_view}
+use Rattle.std.proofs.lemmas.List.{length-map, length_push}
 use Rattle.pb_book.specs.Books.{plays_of}
 use Rattle.pb_strategy.specs.declared.event.Event.{Event}
 use Rattle.pb_strategy.specs.declared.event.Event.TheVariants.{Turn, Stop}
-use Rattle.pb_strategy.specs.declared.run.Phase.TheVariants as phase
 use Rattle.pb_strategy.specs.declared.run.Run.TheInside.{Inside}
 
 pub or-false : (a : Bool) → a || false ≡ a
@@ -43,11 +45,23 @@ pub is_over-turn : (r : RunState) → is_over (after r Turn) ≡ true
 is_over-turn r =
     rw (is_turned-more r.history Turn, or-true (is_turned r.history), or-true (has_no_plays (plays_of r.checked.book))) (or-true (is_stopped (r.history ++ Turn ∷ [])))
 
+-- what was within a history's length still is
+pub longer : (n : ℕ) (es : List Event) (e : Event) → n ≤ length es → n ≤ length (es ++ e ∷ [])
+longer n es e within = omega (arith, within, length_push es e)
+
+pub is_over-same : (r s : RunState) → r.checked ≡ s.checked → r.history ≡ s.history → is_over r ≡ is_over s
+is_over-same r s book same = rw (book, same) refl
+
 -- after a Start or a Give, in the same phase
-pub goes_on : (a b : Inside) (e : Event) → IsRun a → is_stop e ≡ false → is_turn e ≡ false → run_state b ≡ after (run_state a) e → b.phase ≡ a.phase
-    → b.history.items ≡ a.history.items ++ e ∷ [] → length b.history.items < vec_capacity b.history → IsRun b
-goes_on a b e i unlike other next same items room = record {
+pub goes_on : (a b : Inside) (e : Event) → IsRun a → is_stop e ≡ false → is_turn e ≡ false → b.checked ≡ a.checked → b.phase ≡ a.phase
+    → b.history.items ≡ a.history.items ++ e ∷ [] → length b.history.items < vec_capacity b.history
+    → length (recaps_of b.hosts.items) ≡ length (recaps_of a.hosts.items) → IsTally b.history.items (recaps_of b.hosts.items)
+    → handed_of b.hosts.items ≤ length b.history.items → IsRun b
+goes_on a b e i unlike other book same items room many tally handed = record {
   room = λ _. room;
   stopped = rw (items, is_stopped-more a.history.items e, unlike, or-false (is_stopped a.history.items), same) i.stopped;
-  over = ap is_over next ∙ is_over-more (run_state a) e unlike other ∙ i.over ∙ ap is_phase_over (sym same);
+  over = is_over-same (run_state b) (after (run_state a) e) book items ∙ is_over-more (run_state a) e unlike other ∙ i.over ∙ ap is_phase_over (sym same);
+  hosts = sym (length-map b.hosts.items _) ∙ many ∙ length-map a.hosts.items _ ∙ i.hosts ∙ ap (λ k. length (inventory_view k.inventory).hosts) (sym book);
+  tally = tally;
+  handed = handed;
 }

@@ -1,3 +1,5 @@
 pub mod History
 pub mod Inside
 pub mod Faults
+pub mod Recaps
+pub mod Tally

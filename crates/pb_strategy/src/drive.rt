@@ -1,5 +1,5 @@
 // A run on one thread, from where it stands to its end.
-ghost use Rattle.std.specs.Prelude.{◌≡◌, OnErr, true};
+ghost use Rattle.std.specs.Prelude.{◌≡◌, ◌<◌, ◌+◌, ◌^◌, ℕ, length, OnErr, OnOk, true};
 ghost use Rattle.pb_strategy.specs.History.{is_over};
 
 use crate::answer::{Answer, Call, Job};
@@ -9,16 +9,25 @@ use std::alloc::AllocError;
 
 /// Whatever answers the calls of modules.
 pub trait Runner {
-    /// The module's answer on the host.
-    fn call(&mut self, call: &Call) -> Answer;
+    /// How many calls were made.
+    ghost calls: { Self → ℕ };
+
+    /// The module's answer on the host. Each call counts.
+    fn call(&mut self, call: &Call) -> Answer
+        requires { calls self.old + 1 < 2 ^ 64 }
+        ensures { calls self.new ≡ calls self.old + 1 };
 
     /// How many calls were made.
-    fn made(&self) -> u64;
+    fn made(&self) -> u64
+        ensures { result ≡ calls self.now };
 }
 
 /// Runs to the end, or until nothing can be started while somebody else's job is out. For want of memory the run is stopped.
+/// Where all goes well, each call that is handed out is made once.
 pub fn drive<R: Runner>(run: &mut Run, runner: &mut R) -> Result<(), AllocError>
-    ensures { OnErr result (is_over run.new ≡ true) }
+    requires { R.calls runner.old < 2 ^ 63 }
+    ensures stopped { OnErr result (is_over run.new ≡ true) }
+    ensures made { OnOk result (R.calls runner.new + run.old.handed ≡ R.calls runner.old + run.new.handed) }
 {
     for _ in 0..u64::MAX {
         match run.take() {
@@ -38,7 +47,12 @@ pub fn drive<R: Runner>(run: &mut Run, runner: &mut R) -> Result<(), AllocError>
     Ok(())
 }
 
-fn step<R: Runner>(run: &mut Run, runner: &mut R, job: Job) -> Result<(), AllocError> {
+// Makes the calls of the job and gives the answers.
+fn step<R: Runner>(run: &mut Run, runner: &mut R, job: Job) -> Result<(), AllocError>
+    requires { R.calls runner.old + length job.calls.items < 2 ^ 64 }
+    ensures made { OnOk result (R.calls runner.new ≡ R.calls runner.old + length job.calls.items) }
+    ensures handed { run.new.handed ≡ run.old.handed }
+{
     let mut answers = Vec::with_capacity(*job.calls.allocator(), job.calls.len())?;
     for call in &job.calls {
         answers.push(runner.call(call))?;

@@ -1,8 +1,9 @@
 // What a run keeps of one host.
-ghost use Rattle.std.specs.Prelude.{◌≡◌, option_map, string_bytes};
+ghost use Rattle.std.specs.Prelude.{◌≡◌, ◌<◌, ◌+◌, ◌^◌, ℕ, IfOk, option_map, string_bytes};
 ghost use Rattle.std.specs.Map.{lookup};
 ghost use Rattle.std.specs.Str.{bytes_eq};
 ghost use Rattle.pb_value.specs.View.{view};
+ghost use Rattle.pb_strategy.specs.Recaps.{nothing, counted, Counts};
 
 use crate::recap::{Ending, Recap};
 use indexmap::IndexMap;
@@ -16,6 +17,15 @@ use std::sync::Arc;
 #[derive(Drop)]
 pub struct HostVars {
     pub values: IndexMap<String, Value>,
+}
+
+impl HostVars {
+    /// Writes these values.
+    pub fn write(&mut self, writes: Vec<(String, Value)>) {
+        for (name, value) in writes {
+            drop(self.values.insert(name, value));
+        }
+    }
 }
 
 impl Vars for HostVars {
@@ -69,7 +79,10 @@ impl HostState {
         alloc: Global,
         name: &str,
         groups: &[Arc<String>],
-    ) -> Result<HostState, AllocError> {
+    ) -> Result<HostState, AllocError>
+        ensures recap { IfOk result (λ s. s.recap ≡ nothing) }
+        ensures calls { IfOk result (λ s. s.calls ≡ 0) }
+    {
         let name = Arc::new(alloc, String::from_str(alloc, name)?)?;
         let mut values = IndexMap::new(alloc);
         drop(values.insert(
@@ -99,7 +112,11 @@ impl HostState {
     }
 
     /// The task ended: the host goes on to the next, or leaves.
-    pub fn end(&mut self, ending: Ending) {
+    pub fn end(&mut self, ending: Ending)
+        ensures counted { (tasks : ℕ) → Counts self.old.recap tasks → tasks + 1 < 2 ^ 64
+            → self.new.recap ≡ counted ending self.old.recap }
+        ensures calls { self.new.calls ≡ self.old.calls }
+    {
         self.recap = self.recap.with(ending);
         match ending {
             Ending::Ok { .. } | Ending::Skipped => {

@@ -1,4 +1,6 @@
 // What a host's tasks came to.
+ghost use Rattle.std.specs.Prelude.{◌≡◌, ◌<◌, ◌+◌, ◌^◌, ℕ};
+ghost use Rattle.pb_strategy.specs.Recaps.{nothing, counted, Counts};
 
 /// How many tasks of a host ended in which way.
 #[derive(Clone, Copy, PartialEq, Eq, Debug)]
@@ -23,7 +25,9 @@ pub enum Ending {
 
 impl Recap {
     /// Nothing has ended yet.
-    pub fn new() -> Recap {
+    pub fn new() -> Recap
+        ensures { result ≡ nothing }
+    {
         Recap {
             ok: 0,
             changed: 0,
@@ -35,8 +39,11 @@ impl Recap {
         }
     }
 
-    /// The counts with one more task. No count reaches the greatest number, since each task took memory.
-    pub fn with(self, ending: Ending) -> Recap {
+    /// The counts with one more task, where they can still grow: they count tasks, of which there are fewer than the
+    /// greatest number.
+    pub fn with(self, ending: Ending) -> Recap
+        ensures { (tasks : ℕ) → Counts self tasks → tasks + 1 < 2 ^ 64 → result ≡ counted ending self }
+    {
         let mut recap = self;
         match ending {
             Ending::Ok { changed } => {

@@ -1,7 +1,10 @@
 // The run: where each host stands, and the history that brought it there.
-ghost use Rattle.std.specs.Prelude.{◌≡◌, ◌<◌, ◌++◌, ◌∷◌, [], length, IfOk, IfErr, IsErr, OnErr, OnOk, Some, option_map, slice_get, true, false};
+ghost use Rattle.std.specs.Prelude.{◌≡◌, ◌<◌, ◌≤◌, ◌+◌, ◌^◌, ◌++◌, ◌∷◌, [], length, replicate, set, ℕ, IfOk, IfErr, IsErr, OnErr, OnOk, Some, option_map, slice_get, true, false};
 ghost use Rattle.pb_inventory.specs.Inventory.{inventory_view};
-ghost use Rattle.pb_strategy.specs.History.{RunState, after, IsAfterTake, is_stopped, is_ended, is_over};
+ghost use Rattle.pb_strategy.specs.History.{RunState, after, IsAfterJob, IsAfterTake, is_stopped, is_ended, is_over};
+ghost use Rattle.pb_strategy.specs.Inside.{recaps_of, handed_of};
+ghost use Rattle.pb_strategy.specs.Recaps.{nothing, counted, Counts};
+ghost use Rattle.pb_strategy.specs.Tally.{recap_of, gives_of, IsOneMore};
 
 use crate::answer::{Answer, Call, Job};
 use crate::event::{Event, GiveError, Given, Taken};
@@ -21,7 +24,8 @@ enum Phase {
     Stopped,
 }
 
-/// A run of an accepted book. Contracts see the book, the fork count and the history.
+/// A run of an accepted book. Contracts see the book, the fork count, the history, the recap of each host, and how
+/// many calls were handed out.
 #[derive(Drop)]
 pub struct Run {
     checked: Checked,
@@ -55,7 +59,13 @@ impl Model for Run {
 impl Run {
     /// A run in which nothing has happened yet. At most `forks` hosts have a job out at one time.
     pub fn open(alloc: Global, checked: &Checked, forks: usize) -> Result<Run, AllocError>
-        ensures { IfOk result (λ r. r ≡ record { checked = checked.now; forks = forks; history = [] }) }
+        ensures { IfOk result (λ r. r ≡ record {
+          checked = checked.now;
+          forks = forks;
+          history = [];
+          recaps = replicate (length (inventory_view checked.now.inventory).hosts) nothing;
+          handed = 0;
+        }) }
     {
         let phase = if checked.book().plays().is_empty() {
             Phase::Ended
@@ -76,6 +86,7 @@ impl Run {
     /// A batch that is over is turned. Where memory is refused nothing has happened.
     pub fn take(&mut self) -> Result<Taken, AllocError>
         ensures taken { IfOk result (λ t. IsAfterTake t self.old self.new) }
+        ensures few { self.new.handed < 2 ^ 63 }
         ensures err { OnErr result (self.new ≡ self.old) }
         ensures stopped { is_stopped self.old.history ≡ true → result ≡ Ok Taken.Stopped }
         ensures ended { is_stopped self.old.history ≡ false → is_ended self.old ≡ true
@@ -101,8 +112,8 @@ impl Run {
     // Starts the next task of a host that is ready.
     fn begin(&mut self, host: usize) -> Result<Job, AllocError>
         requires { is_stopped self.old.history ≡ false }
-        ensures job { IfOk result (λ j. (self.new ≡ after self.old (Event.Start host))
-            × (j.host ≡ host) × (j.ticket ≡ length self.old.history)) }
+        ensures job { IfOk result (λ j. (j.host ≡ host) × IsAfterJob j self.old self.new) }
+        ensures few { OnOk result (self.new.handed < 2 ^ 63) }
         ensures err { OnErr result (self.new ≡ self.old) }
     {
         let alloc = *self.history.allocator();
@@ -132,7 +143,10 @@ impl Run {
         job: Job,
         answers: Vec<Answer>,
     ) -> Result<Given, (GiveError, Job, Vec<Answer>)>
-        ensures done { OnOk result (self.new ≡ after self.old (Event.Give job.host answers)) }
+        ensures done { OnOk result (self.new.history ≡ self.old.history ++ Event.Give job.host answers ∷ []) }
+        ensures counted { OnOk result (IsOneMore job.host self.old.recaps self.new.recaps) }
+        ensures book { (self.new.checked ≡ self.old.checked) × (self.new.forks ≡ self.old.forks) }
+        ensures handed { self.new.handed ≡ self.old.handed }
         ensures err { OnErr result (self.new ≡ self.old) }
         ensures back { IfErr result (λ e. (e.1 ≡ job) × (e.2 ≡ answers)) }
         ensures stopped { is_stopped self.old.history ≡ true → IfErr result (λ e. e.0 ≡ GiveError.Stopped) }
@@ -185,7 +199,8 @@ impl Run {
 
     /// How many hosts the inventory has.
     pub fn hosts(&self) -> usize
-        ensures { result ≡ length (inventory_view self.now.checked.inventory).hosts }
+        ensures count { result ≡ length (inventory_view self.now.checked.inventory).hosts }
+        ensures recaps { result ≡ length self.now.recaps }
     {
         self.checked.hosts()
     }
@@ -199,8 +214,12 @@ impl Run {
         self.checked.inventory().host_name(host)
     }
 
-    /// What the host's tasks came to so far; zeros past the last host.
-    pub fn recap(&self, host: usize) -> Recap {
+    /// What the host's tasks came to so far, where each of its Gives counts once; zeros past the last host.
+    pub fn recap(&self, host: usize) -> Recap
+        ensures value { result ≡ recap_of self.now.recaps host }
+        ensures counts { Counts result (gives_of host self.now.history) }
+        ensures none { gives_of host self.now.history ≡ 0 → result ≡ nothing }
+    {
         match self.hosts.get(host) {
             Some(state) => state.recap,
             None => Recap::new(),
@@ -208,7 +227,11 @@ impl Run {
     }
 }
 
-fn opening_hosts(alloc: Global, checked: &Checked) -> Result<Vec<HostState>, AllocError> {
+fn opening_hosts(alloc: Global, checked: &Checked) -> Result<Vec<HostState>, AllocError>
+    ensures recaps { IfOk result (λ hs. recaps_of hs.items
+        ≡ replicate (length (inventory_view checked.now.inventory).hosts) nothing) }
+    ensures handed { IfOk result (λ hs. handed_of hs.items ≡ 0) }
+{
     let inventory = checked.inventory();
     let count = inventory.hosts();
     let mut hosts = Vec::with_capacity(alloc, count)?;
@@ -407,7 +430,10 @@ fn begin_on(
     checked: &Checked,
     hosts: &[HostState],
     host: usize,
-) -> Result<Begun, AllocError> {
+) -> Result<Begun, AllocError>
+    ensures few { IfOk result (λ b. length b.calls.items ≤ 1) }
+    ensures past { IfOk result (λ b. length hosts.now ≤ host → b.calls.items ≡ []) }
+{
     let mut calls = Vec::new(alloc);
     let (Some(state), Some(task)) = (hosts.get(host), task_of(checked, hosts, host)) else {
         return Ok(Begun {
@@ -422,7 +448,12 @@ fn begin_on(
     Ok(Begun { pending, calls })
 }
 
-fn set_running(hosts: &mut Vec<HostState>, host: usize, stage: Stage, calls: usize) {
+fn set_running(hosts: &mut Vec<HostState>, host: usize, stage: Stage, calls: usize)
+    ensures recaps { recaps_of hosts.new.items ≡ recaps_of hosts.old.items }
+    ensures handed { host < length hosts.old.items → handed_of hosts.old.items + calls < 2 ^ 64
+        → handed_of hosts.new.items ≡ handed_of hosts.old.items + calls }
+    ensures past { length hosts.old.items ≤ host → handed_of hosts.new.items ≡ handed_of hosts.old.items }
+{
     if let Some(state) = hosts.get_mut(host) {
         state.calls = state.calls.saturating_add(calls as u64);
         state.stage = stage;
@@ -460,7 +491,10 @@ fn outcome_of(
 }
 
 // Makes room for what the host's task writes.
-fn room_for(hosts: &mut Vec<HostState>, host: usize, found: &Outcome) -> Result<(), AllocError> {
+fn room_for(hosts: &mut Vec<HostState>, host: usize, found: &Outcome) -> Result<(), AllocError>
+    ensures recaps { recaps_of hosts.new.items ≡ recaps_of hosts.old.items }
+    ensures handed { handed_of hosts.new.items ≡ handed_of hosts.old.items }
+{
     match hosts.get_mut(host) {
         Some(state) => state.vars.values.reserve(found.writes.len()),
         None => Ok(()),
@@ -468,12 +502,15 @@ fn room_for(hosts: &mut Vec<HostState>, host: usize, found: &Outcome) -> Result<
 }
 
 // Writes what the host's task writes, for which there is room, and lets the host go on or leave.
-fn settle(hosts: &mut Vec<HostState>, host: usize, found: Outcome) {
+fn settle(hosts: &mut Vec<HostState>, host: usize, found: Outcome)
+    ensures handed { handed_of hosts.new.items ≡ handed_of hosts.old.items }
+    ensures recaps { (tasks : ℕ) → Counts (recap_of (recaps_of hosts.old.items) host) tasks → tasks + 1 < 2 ^ 64
+        → recaps_of hosts.new.items ≡ set (recaps_of hosts.old.items) host
+        (counted found.ending (recap_of (recaps_of hosts.old.items) host)) }
+{
     if let Some(state) = hosts.get_mut(host) {
         let Outcome { ending, writes } = found;
-        for (name, value) in writes {
-            drop(state.vars.values.insert(name, value));
-        }
+        state.vars.write(writes);
         state.end(ending);
     }
 }

@@ -1,5 +1,5 @@
 // Answers from a file, in place of modules.
-ghost use Rattle.std.specs.Prelude.{◌≡◌, ◌<◌, Err, IsUtf8, None, length};
+ghost use Rattle.std.specs.Prelude.{◌≡◌, ◌<◌, Err, IfOk, IsUtf8, None, length};
 ghost use Rattle.serde_json.specs.Read.{read as read_text};
 
 use crate::answer::{Answer, Call, Why};
@@ -55,6 +55,7 @@ impl ScriptRunner {
         ensures not_json { result ≡ Err ScriptFault.NotJson → IsUtf8 bytes.now → read_text bytes.now ≡ None }
         ensures large { 67108864 < length bytes.now → result ≡ Err ScriptFault.Limit }
         ensures limit { result ≡ Err ScriptFault.Limit → 67108864 < length bytes.now }
+        ensures made { IfOk result (λ r. r.made ≡ 0) }
     {
         if bytes.len() > SCRIPT_LIMIT {
             return Err(ScriptFault::Limit);
@@ -79,8 +80,10 @@ fn are_lists_of_objects(answers: &Fields) -> bool {
 }
 
 impl Runner for ScriptRunner {
+    ghost calls = { λ r. r.made };
+
     fn call(&mut self, call: &Call) -> Answer {
-        self.made = self.made.saturating_add(1);
+        self.made += 1;
         answer_of(&self.answers, call.name.as_str(), call.number)
     }
 

@@ -1,6 +1,9 @@
-use Rattle.std.proofs.Common.{◌≡◌, ◌≤◌, ◌<◌, ◌+◌, length, vec_len, vec_capacity, refl, arith, rules}
+use Rattle.std.proofs.Common.{◌≡◌, ◌≤◌, ◌<◌, ◌+◌, ◌^◌, length, vec_capacity, refl, ap, arith, rules}
 use Rattle.pb_strategy.specs.declared.event.Event.TheVariants.{Start}
+use Rattle.pb_strategy.specs.Inside.{handed_of}
+use Rattle.std.proofs.lemmas.List.{length_push}
 use Rattle.pb_strategy.proofs.Histories.{goes_on}
+use Rattle.pb_strategy.proofs.Tallies.{tally-other, more_handed}
 use Rattle.pb_strategy.proofs.run.Run.begin.Goals as goal
 
 pub invariant_of-self-2 : goal.invariant_of-self-2
@@ -9,4 +12,12 @@ invariant_of-self-2 c =
     let room : length c.push_reserved.new.self.items < vec_capacity c.push_reserved.new.self =
     omega (arith, c.push_reserved.ensures.len, c.push_reserved.ensures.capacity, c.in_ok-reserve.ensures.ok, c.push_reserved.new.self.ok) in
     let items = rw kept at c.push_reserved.ensures.items in
-    goes_on c.self.inside _ (Start c.args.host) c.self.invariant refl refl (rw items refl) refl items room
+    let same = c.set_running.ensures.recaps in
+    let old = handed_of c.self.inside.hosts.items in
+    let few : old + c.len.result < 2 ^ 64 = omega (arith, c.self.invariant.handed, c.self.inside.history.ok, c.self.inside.history.small, c.in_ok-begun.ensures.few, c.len.ensures, c.in_ok-begun.begun.calls.ok) in
+    let none : length c.self.inside.hosts.items ≤ c.args.host → c.len.result ≡ 0 = λ past. search rules in
+    let more : handed_of c.set_running.new.hosts.items ≡ old + c.len.result =
+    more_handed _ old c.len.result c.args.host (length c.self.inside.hosts.items) c.set_running.ensures.handed c.set_running.ensures.past none few in
+    goes_on c.self.inside _ (Start c.args.host) c.self.invariant refl refl refl refl items room (ap length same)
+    (rw (items, same) (tally-other _ _ (Start c.args.host) (λ h. refl) c.self.invariant.tally))
+    (omega (arith, more, c.self.invariant.handed, ap length items, length_push c.self.inside.history.items (Start c.args.host), c.in_ok-begun.ensures.few, c.len.ensures, c.in_ok-begun.begun.calls.ok))

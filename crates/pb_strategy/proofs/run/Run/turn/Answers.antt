@@ -2,7 +2,8 @@ use Rattle.std.proofs.Common.{◌≡◌, false, refl, ap, ◌∙◌, rules}
 use Rattle.pb_strategy.specs.History.{RunState, is_stopped}
 use Rattle.pb_strategy.specs.Inside.{run_state}
 use Rattle.pb_strategy.specs.declared.event.Event.TheVariants.{Turn}
-use Rattle.pb_strategy.proofs.Histories.{is_stopped-more, or-false, is_over-turn}
+use Rattle.pb_strategy.proofs.Histories.{longer, is_stopped-more, or-false, is_over-turn}
+use Rattle.pb_strategy.proofs.Tallies.{tally-other}
 use Rattle.pb_strategy.proofs.run.Run.turn.Goals as goal
 
 pub invariant_of-self-2 : goal.invariant_of-self-2
@@ -13,4 +14,7 @@ invariant_of-self-2 c =
       room = λ e. cc;
       stopped = ap is_stopped items ∙ is_stopped-more c.self.inside.history.items Turn ∙ or-false (is_stopped c.self.inside.history.items) ∙ before;
       over = rw items (is_over-turn (run_state c.self.inside));
+      hosts = c.self.invariant.hosts;
+      handed = rw items (longer _ c.self.inside.history.items Turn c.self.invariant.handed);
+      tally = rw items (tally-other _ _ Turn (λ h. refl) c.self.invariant.tally);
     }

@@ -1,0 +1,28 @@
+-- A command with three arguments more.
+use Rattle.std.proofs.Common.{◌≡◌, false, ◌||◌, ap₂, ◌∙◌}
+use Rattle.clap.specs.Words.{AddsArg, App, Rule, app_of, rule_of, with_rule}
+use Rattle.clap.specs.declared.builder.arg.Arg.{Arg}
+use Rattle.clap.specs.declared.builder.command.Command.{Command}
+use Rattle.pb_cli.specs.Options.{IsLocal}
+
+-- the argument reads words by this rule, and isn't there for subcommands too
+pub record Reads (a : Arg) (r : Rule) : Type 0 where
+  pub local : a.global ≡ false
+  pub rule : rule_of a ≡ r
+
+added : (old new : Command) (a : Arg) (app : App) (r : Rule) → AddsArg old a new → Reads a r → app_of old ≡ app → app_of new ≡ with_rule app r
+added old new a app r more reads is = more.shape reads.local ∙ ap₂ with_rule is reads.rule
+
+stays_local : (old new : Command) (a : Arg) (r : Rule) → AddsArg old a new → Reads a r → IsLocal old → IsLocal new
+stays_local old new a r more reads local = more.globals ∙ ap₂ ◌||◌ local reads.local
+
+pub three_added : (one two three four : Command) (a b d : Arg) (app : App) (r s t : Rule) → AddsArg one a two → AddsArg two b three → AddsArg three d four
+    → Reads a r → Reads b s → Reads d t → app_of one ≡ app → app_of four ≡ with_rule (with_rule (with_rule app r) s) t
+three_added one two three four a b d app r s t first second third is_r is_s is_t is =
+    added three four d (with_rule (with_rule app r) s) t third is_t
+    (added two three b (with_rule app r) s second is_s (added one two a app r first is_r is))
+
+pub three_local : (one two three four : Command) (a b d : Arg) (r s t : Rule) → AddsArg one a two → AddsArg two b three → AddsArg three d four → Reads a r
+    → Reads b s → Reads d t → IsLocal one → IsLocal four
+three_local one two three four a b d r s t first second third is_r is_s is_t local =
+    stays_local three four d t third is_t (stays_local two three b s second is_s (stays_local one two a r first is_r local))

@@ -1,0 +1,44 @@
+-- The lines of a run and its status, host by host.
+use Rattle.std.proofs.Common.{◌≡◌, ◌<◌, ℕ, ◌+◌, List, [], ◌∷◌, ◌++◌, Bool, ◌||◌, map, drop, length, Some, option_map, slice_get, refl, sym, ap, ◌∙◌, append_assoc, append-nil, arith}
+use Rattle.std.specs.List.{list_any}
+use Rattle.std.proofs.lemmas.List.{drop_more, drop_all, length-map}
+use Rattle.std.proofs.lemmas.Option.{slice_get-map, slice_get_within, get_or_from_slice_get}
+use Rattle.pb_inventory.specs.Hosts.{HostData}
+use Rattle.pb_inventory.specs.Inventory.{inventory_view}
+use Rattle.pb_strategy.specs.History.{RunState}
+use Rattle.pb_strategy.specs.Recaps.{nothing}
+use Rattle.pb_strategy.specs.Tally.{recap_of}
+use Rattle.pb_strategy.specs.declared.recap.Recap.{Recap}
+use Rattle.pb_cli.specs.Texts.{recap_line, recap_lines, run_lines, host_names}
+
+abbrev name_in : HostData → List ℕ
+name_in h = h.name
+
+names_from : (hs : List HostData) (i : ℕ) (name : List ℕ) → option_map name_in (slice_get hs i) ≡ Some name
+    → drop i (map name_in hs) ≡ name ∷ drop (i + 1) (map name_in hs)
+names_from hs i name e =
+    let found : slice_get (map name_in hs) i ≡ Some name = slice_get-map name_in hs i ∙ e in
+    drop_more (map name_in hs) i name (slice_get_within (map name_in hs) i name found)
+    ∙ ap (λ x. x ∷ drop (i + 1) (map name_in hs)) (get_or_from_slice_get (map name_in hs) i name name found)
+
+-- what is left after one line more
+pub next_line : (r : RunState) (i : ℕ) (name : List ℕ) (recap : Recap) (text line : List ℕ)
+    → option_map name_in (slice_get (inventory_view r.checked.inventory).hosts i) ≡ Some name → recap ≡ recap_of r.recaps i → i < length r.recaps
+    → line ≡ recap_line name recap → run_lines r ≡ text ++ recap_lines (drop i (host_names r)) (drop i r.recaps)
+    → run_lines r ≡ (text ++ line) ++ recap_lines (drop (i + 1) (host_names r)) (drop (i + 1) r.recaps)
+next_line r i name recap text line named counted within is so_far =
+    let left : recap_lines (drop i (host_names r)) (drop i r.recaps) ≡ line ++ recap_lines (drop (i + 1) (host_names r)) (drop (i + 1) r.recaps) =
+    rw (names_from (inventory_view r.checked.inventory).hosts i name named, drop_more r.recaps i nothing within, is, counted) refl in
+    so_far ∙ ap (λ x. text ++ x) left ∙ sym (append_assoc text line _)
+
+-- nothing is left after the last host
+pub last_line : (r : RunState) (i : ℕ) (text : List ℕ) → i ≡ length (inventory_view r.checked.inventory).hosts
+    → run_lines r ≡ text ++ recap_lines (drop i (host_names r)) (drop i r.recaps) → text ≡ run_lines r
+last_line r i text all so_far =
+    let none : drop i (host_names r) ≡ [] = drop_all i (host_names r) (omega (arith, all, length-map (inventory_view r.checked.inventory).hosts name_in)) in
+    sym (so_far ∙ ap (λ x. text ++ recap_lines x (drop i r.recaps)) none ∙ append-nil text)
+
+-- what a test finds from here on: at the next recap, or after it
+pub any_from : (test : Recap → Bool) (rs : List Recap) (i : ℕ) → i < length rs
+    → list_any test (drop i rs) ≡ test (recap_of rs i) || list_any test (drop (i + 1) rs)
+any_from test rs i within = ap (list_any test) (drop_more rs i nothing within)

@@ -1,7 +1,8 @@
 #!/usr/bin/env python3
 """Writes the rows of crates/pb_rows: cases as closed terms that the definitions compute.
 
-Usage: make_rows.py CASES_FOLDER IDS_FILE OUTPUT_FOLDER
+Usage: make_rows.py, which writes the rows anew (then `rt fmt` lays them out), or make_rows.py --check.
+The cases are those of tests/cases that cases.txt lists, and all of rows.jsonl.
 
 A case says what is printed for a book; its row says that `judged`, or the run of an accepted book, gives just that.
 """
@@ -15,7 +16,9 @@ from books import answers_term, book_term, inventory_term, registry_term
 from expressions import codes
 
 PER_FILE = 12
-HEADER = Path(__file__).with_name("header.antt")
+HERE = Path(__file__).resolve().parent
+HEADER = HERE / "header.antt"
+ROWS = HERE.parent.parent / "crates" / "pb_rows" / "proofs"
 
 
 def read_text(source):
@@ -74,19 +77,46 @@ def cases_in(folder):
             yield json.loads(line)
 
 
-def main():
-    folder, ids, output = sys.argv[1:]
-    chosen = Path(ids).read_text().split()
-    found = {case["id"]: case for case in cases_in(folder)}
-    header = HEADER.read_text()
-    files = {}
-    for name in chosen:
-        files.setdefault(name.split("-")[0], []).append(row(found[name]))
-    for kind, rows in files.items():
+def files():
+    """The text of each file of rows, by its name."""
+    found = {case["id"]: case for case in cases_in(HERE.parent / "cases")}
+    chosen = [found[name] for name in (HERE / "cases.txt").read_text().split()]
+    chosen += [json.loads(line) for line in (HERE / "rows.jsonl").read_text().splitlines()]
+    families = {}
+    for case in chosen:
+        families.setdefault(case["id"].split("-")[0], []).append(row(case))
+    texts = {}
+    for family, rows in families.items():
         for number, start in enumerate(range(0, len(rows), PER_FILE)):
-            text = f"-- Cases of {kind}, computed.\n" + header + "\n" + "\n".join(rows[start : start + PER_FILE])
-            Path(output, f"{kind.capitalize()}{number + 1:02}.antt").write_text(text)
+            text = f"-- Cases of {family}, computed.\n" + HEADER.read_text() + "\n" + "\n".join(rows[start : start + PER_FILE])
+            texts[f"{family.capitalize()}{number + 1:02}"] = text
+    return texts
+
+
+def bare(text):
+    """A text without its layout: what stands in it, and which names it brings in."""
+    brought = sorted(name for line in re.findall(r"^use .*", text, re.M) for name in re.findall(r"[^\s{},]+", line))
+    rest = re.sub(r"^use .*|^--.*", "", text, flags=re.M)
+    return brought, re.sub(r"[\s;,()]", "", rest)
+
+
+def check():
+    """Whether the committed rows are those that the cases give; the layout may differ."""
+    texts = files()
+    good = sum((ROWS / f"{name}.antt").is_file() and bare((ROWS / f"{name}.antt").read_text())[1] == bare(text)[1] for name, text in texts.items())
+    print(f"{good} passed, {len(texts) - good} failed")
+    return 0 if good == len(texts) else 1
+
+
+def main():
+    if sys.argv[1:] == ["--check"]:
+        return check()
+    for old in ROWS.glob("*[0-9][0-9].antt"):
+        old.unlink()
+    for name, text in files().items():
+        (ROWS / f"{name}.antt").write_text(text)
+    return 0
 
 
 if __name__ == "__main__":
-    main()
+    sys.exit(main())

@@ -1,5 +1,5 @@
 -- What an accepted verdict says of every way of every host.
-use Rattle.std.proofs.Common.{◌≡◌, ◌≤◌, ◌+◌, ℕ, zero, suc, max, List, [], ◌∷◌, Bool, true, false, not, ◌&&◌, ◌||◌, cond, nat_eq, Option, Some, None, option_map, refl, sym, ap, subst, ◌∙◌, arith, true≢false, bytes_eq}
+use Rattle.std.proofs.Common.{◌≡◌, ◌≤◌, ℕ, max, List, [], ◌∷◌, Bool, true, false, ◌&&◌, cond, nat_eq, Option, Some, None, option_map, refl, subst, arith, true≢false}
 use Rattle.std.proofs.lemmas.Bool.Decides.{nat_tests}
 use Rattle.pb_semantics.specs.Keeps.{is_among}
 use Rattle.pb_semantics.specs.Kind.{Slots}
@@ -10,11 +10,11 @@ use Rattle.pb_language.specs.Scope.{View, view_of, Since, Later, later_of}
 use Rattle.pb_language.specs.Kinds.{known_slots}
 use Rattle.pb_language.specs.Task.{Task}
 use Rattle.pb_language.specs.Fit.{Fault}
-use Rattle.pb_language.specs.Judgement.{Exit, dead, live, task_fault, task_writes, loop_length}
-use Rattle.pb_language.specs.Walk.{Visit, Walked, walk}
+use Rattle.pb_language.specs.Judgement.{Exit, live, task_fault, task_writes, loop_length}
+use Rattle.pb_language.specs.Walk.{Visit, walk}
 use Rattle.pb_language.specs.Program.{Inventory, Play, Program, setting_of}
-use Rattle.pb_language.specs.Tables.{PlayWalk, HostWalk, first_laters, other_laters, plays_walked, hosts_walked, writes_below, visits_below, plays_below, are_settled, has_since, greatest_length, place_length, laters_of, play_laters, walks_after, budget_of}
-use Rattle.pb_language.specs.Verdict.{Refusal, Verdict, accepted, refused, is_lesser, lesser, earlier, visit_offence, visits_offence, plays_offence, first_offence, exit_has, visits_have, play_has, plays_have, all_have, settled_verdict, offence_verdict, code_of}
+use Rattle.pb_language.specs.Tables.{PlayWalk, first_laters, other_laters, plays_walked, hosts_walked, writes_below, visits_below, plays_below, are_settled, has_since, greatest_length, place_length}
+use Rattle.pb_language.specs.Verdict.{Refusal, accepted, is_lesser, lesser, earlier, visit_offence, visits_offence, plays_offence, first_offence, exit_has, visits_have, play_has, plays_have, all_have, settled_verdict, offence_verdict}
 use Rattle.pb_language.proofs.Claims.{StartClaim, GiveClaim, AfterClaim}
 use Rattle.pb_language.proofs.Ways.{VisitFine, AllVisits}
 use Rattle.pb_language.proofs.Runs.{Fixed}
@@ -81,9 +81,10 @@ visits_fine h view l all [] f o b s = tt
 visits_fine h view l all (v ∷ vs) f o b s =
     let n = lesser_none (visit_offence h v) (visits_offence h vs) o in
     let below = writes_below (task_writes v.setting v.visited v.env) view in
-    let have = has_since v.visited.place l v.env in
-    (record { fit = fault_none (task_fault v.setting v.visited v.env) _ n.0; below = and-left below (visits_below vs view) b; since = and-left have (visits_have l vs) s; few = f.0 },
-      visits_fine h view l all vs f.1 n.1 (and-right below (visits_below vs view) b) (and-right have (visits_have l vs) s))
+    let have = has_since v.visited.place l v.env in (
+      record { fit = fault_none (task_fault v.setting v.visited v.env) _ n.0; below = and-left below (visits_below vs view) b; since = and-left have (visits_have l vs) s; few = f.0 },
+      visits_fine h view l all vs f.1 n.1 (and-right below (visits_below vs view) b) (and-right have (visits_have l vs) s),
+    )
 
 have_skipped : (h : Name) (p : Play) (ps : Program) (ls : List (List Later)) (ws : List PlayWalk) → is_among h p.hosts ≡ false → plays_have h (p ∷ ps) ls ws ≡ true → plays_have h ps (other_laters ls) ws ≡ true
 have_skipped h p [] ls [] e s = refl
@@ -147,6 +148,7 @@ module _ (inventory : Inventory) (views : List View) (fixed : Fixed inventory vi
       let rest = hosts_walked inventory views ps ls xs in
       let n = earlier_none (plays_offence x.name mine) (first_offence rest) o in
       let below = plays_below mine (view_of x.name views) in
-      let have = plays_have x.name ps ls mine in
-      (good_from ps x.name (live (known_slots x.variables)) ls n.0 (and-left below (are_settled rest views) b) (and-left have (all_have ps ls rest) s),
-        all_good ps ls xs n.1 (and-right below (are_settled rest views) b) (and-right have (all_have ps ls rest) s))
+      let have = plays_have x.name ps ls mine in (
+        good_from ps x.name (live (known_slots x.variables)) ls n.0 (and-left below (are_settled rest views) b) (and-left have (all_have ps ls rest) s),
+        all_good ps ls xs n.1 (and-right below (are_settled rest views) b) (and-right have (all_have ps ls rest) s),
+      )

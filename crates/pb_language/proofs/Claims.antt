@@ -1,9 +1,8 @@
 -- What is claimed of a task at its Start and at its Give.
-use Rattle.std.proofs.Common.{◌≡◌, ◌≤◌, ◌&&◌, ℕ, List, [], ◌∷◌, Bool, true, false, not, Option, Some, None, length, is_some}
+use Rattle.std.proofs.Common.{◌≡◌, ◌≤◌, ◌&&◌, ℕ, List, [], ◌∷◌, true, false, not, Option, Some, None, length, is_some}
 use Rattle.pb_semantics.specs.Data.{Data, Fields, field_value}
 use Rattle.pb_semantics.specs.Kind.{Slots, recs}
 use Rattle.pb_semantics.specs.Keeps.{keeps, cases_kept, is_among, Models}
-use Rattle.pb_semantics.specs.Kind.{Shape, skipped_shape, ok_shape, failure_shape}
 use Rattle.pb_semantics.specs.Well.{Well}
 use Rattle.pb_language.specs.Expression.{Name, Expression}
 use Rattle.pb_language.specs.World.{World, variables_of}
@@ -14,7 +13,7 @@ use Rattle.pb_language.specs.Cases.{Sets, no_sets, sets, answered_cases, is_cond
 use Rattle.pb_language.specs.Setting.{Setting, start_scope, named_slots}
 use Rattle.pb_language.specs.Judgement.{task_fault, has_case, has_going, going_slots, failing_slots, task_writes, task_sets, loop_length}
 use Rattle.pb_language.specs.Start.{Changes, no_changes, change, Entry, skips, calls, acts, Pass, Plan, planned, halted, plan_of, call_count}
-use Rattle.pb_language.specs.Give.{Answer, Own, Admitted, admitted, breached, unreached, admit_passes, Ended, Results, results_are, no_results, acted, end_all, any_failed, written_variables}
+use Rattle.pb_language.specs.Give.{Answer, Admitted, admitted, breached, unreached, admit_passes, Ended, Results, results_are, no_results, acted, end_all, any_failed, written_variables}
 use Rattle.pb_language.specs.Tables.{writes_below}
 
 -- what a world has of a host's setting: each host's variables keep the views, and active hosts have what they have at their later places

@@ -1,14 +1,14 @@
 -- The batches of a play are its hosts, cut in order.
-use Rattle.std.proofs.Common.{◌≡◌, ◌≤◌, ◌+◌, ◌-◌, ◌⊎◌, inl, inr, ⊎_elim, ℕ, zero, suc, List, [], ◌∷◌, ◌++◌, Bool, true, false, not, ◌&&◌, ◌||◌, cond, Option, length, refl, sym, ap, subst, ◌∙◌, arith, true≢false, bytes_eq, unwrap_or}
+use Rattle.std.proofs.Common.{◌≡◌, ◌≤◌, ◌-◌, ⊎_elim, ℕ, zero, suc, List, [], ◌∷◌, ◌++◌, Bool, true, false, not, ◌||◌, cond, length, refl, sym, ap, ◌∙◌, arith, true≢false, bytes_eq, unwrap_or}
 use Rattle.pb_semantics.specs.Keeps.{is_among}
 use Rattle.pb_semantics.specs.Below.{are_among}
-use Rattle.pb_semantics.proofs.Bools.{untrue, and-left, and-right, and-both, or-left, or-right, or-cases, true-false, not-true, same_tests}
+use Rattle.pb_semantics.proofs.Bools.{untrue, and-left, and-right, and-both, or-cases, not-true}
 use Rattle.pb_semantics.proofs.Names.{same_name, own_name}
-use Rattle.pb_semantics.proofs.Hosts.{own_among, among_up, all_among}
+use Rattle.pb_semantics.proofs.Hosts.{own_among}
 use Rattle.pb_language.specs.Expression.{Name}
 use Rattle.pb_language.specs.Book.{Cut, PlayData, Book, Registry}
-use Rattle.pb_language.specs.Plays.{group_named, word_hosts, add_hosts, pattern_hosts, next_cuts, first_size, first_hosts, other_hosts, cut_hosts, batches_for, play_with, program_of}
-use Rattle.pb_language.specs.Program.{Inventory, Play, Program}
+use Rattle.pb_language.specs.Plays.{group_named, word_hosts, add_hosts, pattern_hosts, next_cuts, first_size, first_hosts, other_hosts, cut_hosts, play_with, program_of}
+use Rattle.pb_language.specs.Program.{Inventory, Program}
 use Rattle.pb_language.specs.Theorem.{are_distinct}
 use Rattle.pb_language.proofs.Positions.{in_any}
 use Rattle.pb_language.proofs.Turns.{AllApart, AllWithin, CutFine}

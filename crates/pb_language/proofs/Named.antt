@@ -1,8 +1,8 @@
 -- The names that are always there keep the kinds that they are given.
-use Rattle.std.proofs.Common.{◌≡◌, ◌≤◌, ℕ, zero, suc, List, [], ◌∷◌, Bool, true, false, ◌&&◌, nat_le, length, refl, arith, codes, bytes_eq}
+use Rattle.std.proofs.Common.{◌≡◌, ◌≤◌, ℕ, zero, suc, List, [], ◌∷◌, true, false, nat_le, length, refl, arith, codes, bytes_eq}
 use Rattle.std.proofs.lemmas.Bool.Decides.{nat_tests}
-use Rattle.pb_semantics.specs.Data.{Fields, text, list, rec, no_fields, count_of}
-use Rattle.pb_semantics.specs.Kind.{Slots, texts, hosts, lists, recs, no_slots, slot}
+use Rattle.pb_semantics.specs.Data.{Fields, text, list, rec, count_of}
+use Rattle.pb_semantics.specs.Kind.{Slots, texts, hosts, lists, recs}
 use Rattle.pb_semantics.specs.Keeps.{keeps, all_items, is_among, Models}
 use Rattle.pb_semantics.specs.Below.{are_among}
 use Rattle.pb_semantics.specs.Well.{are_once}
@@ -11,7 +11,6 @@ use Rattle.pb_semantics.proofs.Names.{own_name}
 use Rattle.pb_semantics.proofs.Hosts.{own_among}
 use Rattle.pb_language.specs.Expression.{Name}
 use Rattle.pb_language.specs.World.{Group}
-use Rattle.pb_language.specs.Scope.{with_slot}
 use Rattle.pb_language.specs.Setting.{Setting, group_slots, with_failure_slot, named_slots, names_list, group_fields, with_failure, named_fields}
 use Rattle.pb_language.proofs.WithSlot.{models_written, kept_written, once_with}
 

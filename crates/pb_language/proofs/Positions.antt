@@ -1,26 +1,24 @@
 -- Where a run stands in its program, and what each host owes and knows there.
-use Rattle.std.proofs.Common.{◌≡◌, ◌≤◌, ◌+◌, ℕ, zero, suc, max, List, [], ◌∷◌, ◌++◌, Bool, true, false, not, ◌&&◌, ◌||◌, cond, nat_le, Option, Some, None, is_some, refl, sym, ap, subst, arith, true≢false, bytes_eq, ⊎_elim}
+use Rattle.std.proofs.Common.{◌≡◌, ◌≤◌, ◌+◌, ℕ, suc, max, List, [], ◌∷◌, Bool, true, false, not, ◌&&◌, ◌||◌, cond, nat_le, Option, Some, None, is_some, refl, arith, true≢false, bytes_eq, ⊎_elim}
 use Rattle.std.proofs.lemmas.Bool.Decides.{nat_tests}
 use Rattle.pb_semantics.specs.Data.{Data, Fields, field_value}
-use Rattle.pb_semantics.specs.Kind.{Slots, Spot, nowhere, spot, slot_at, recs}
+use Rattle.pb_semantics.specs.Kind.{Slots, Spot, nowhere, spot, slot_at}
 use Rattle.pb_semantics.specs.Keeps.{is_among, spot_ok, Models}
-use Rattle.pb_semantics.specs.Well.{Well}
-use Rattle.pb_semantics.proofs.Bools.{untrue, and-left, and-right, or-left, or-right, or-cases, true-false}
+use Rattle.pb_semantics.proofs.Bools.{untrue, and-left, and-right, or-cases, true-false}
 use Rattle.pb_semantics.proofs.Names.{same_name}
 use Rattle.pb_language.specs.Expression.{Name}
 use Rattle.pb_language.specs.Scope.{is_certain, View, view_of, Since, no_since, since, every_name, Later, later_of, is_later}
-use Rattle.pb_language.specs.Task.{Action, call_of, debug, set_fact, assertion, failure_of, Task, Handlers, no_handlers, handler, Row, end, task, flush, block}
+use Rattle.pb_language.specs.Task.{Task, Handlers, no_handlers, handler, Row, end, task, flush, block}
 use Rattle.pb_language.specs.Rest.{Rest, done, left, next, ask, rescue, hold, release, flush_rest, rest_of}
 use Rattle.pb_language.specs.Setting.{Setting}
-use Rattle.pb_language.specs.Judgement.{Exit, dead, live, task_fault, going_exit, failing_exit, going_slots, failing_slots}
-use Rattle.pb_language.specs.Walk.{Visit, Walked, walk}
+use Rattle.pb_language.specs.Judgement.{Exit, dead, live, going_exit, failing_exit}
+use Rattle.pb_language.specs.Walk.{Walked, walk}
 use Rattle.pb_language.specs.Program.{Inventory, Play, Program, setting_of}
-use Rattle.pb_language.specs.Tables.{PlayWalk, first_laters, other_laters, plays_walked, plays_calls, place_calls, place_length, flush_calls, row_calls, has_since, has_all}
-use Rattle.pb_language.specs.Verdict.{exit_has}
+use Rattle.pb_language.specs.Tables.{plays_walked, plays_calls, place_calls, place_length, flush_calls, row_calls, has_since, has_all}
 use Rattle.pb_language.specs.Start.{Pass}
-use Rattle.pb_language.specs.Machine.{Ready, over, gone, begins, Stage, waits, runs, Host, is_marked, unmarked, outermost, innermost, settled, stands_at, is_on_stage}
-use Rattle.pb_language.proofs.Claims.{AfterClaim, PassesFine, action_calls}
-use Rattle.pb_language.proofs.Ways.{Above, above_itself, WellEnv, WellExit, VisitFine, AllVisits, WellAfter, walk_well, Typed, typed_row}
+use Rattle.pb_language.specs.Machine.{over, gone, begins, Stage, waits, runs, Host, is_marked, unmarked, outermost, innermost, settled, stands_at, is_on_stage}
+use Rattle.pb_language.proofs.Claims.{PassesFine}
+use Rattle.pb_language.proofs.Ways.{Above, WellEnv, VisitFine, Typed}
 
 -- the variables are those of the exit's environment
 abbrev pub ExitModels : Fields → Exit → Type 0

@@ -1,9 +1,9 @@
 -- The tables of views are well formed, and the inventory's variables keep them.
-use Rattle.std.proofs.Common.{◌≡◌, ◌⊎◌, inl, inr, ⊎_elim, ℕ, zero, suc, List, [], ◌∷◌, ◌++◌, Bool, true, false, not, ◌||◌, cond, Option, Some, None, refl, sym, ap, subst, ◌∙◌, bytes_eq, true≢false}
+use Rattle.std.proofs.Common.{◌≡◌, ℕ, zero, suc, List, [], ◌∷◌, ◌++◌, Bool, true, false, not, ◌||◌, cond, Option, Some, None, refl, sym, subst, ◌∙◌, bytes_eq, true≢false}
 use Rattle.pb_semantics.specs.Data.{Data, Fields, rec, field_value}
-use Rattle.pb_semantics.specs.Kind.{KindData, Slots, Spot, no_slots, slot, nowhere, spot, slot_at, recs}
-use Rattle.pb_semantics.specs.Keeps.{keeps, is_among, spot_ok, Models}
-use Rattle.pb_semantics.specs.Join.{join, join_slots}
+use Rattle.pb_semantics.specs.Kind.{KindData, Slots, Spot, no_slots, nowhere, spot, slot_at, recs}
+use Rattle.pb_semantics.specs.Keeps.{is_among, spot_ok, Models}
+use Rattle.pb_semantics.specs.Join.{join}
 use Rattle.pb_semantics.specs.Well.{Well}
 use Rattle.pb_semantics.proofs.Bools.{untrue, and-left, and-right, or-left, or-right, true-false, not-true}
 use Rattle.pb_semantics.proofs.Names.{same_name, own_name}
@@ -21,10 +21,10 @@ use Rattle.pb_language.specs.Judgement.{Exit, dead, live, live_if, has_case, has
 use Rattle.pb_language.specs.Cases.{failing_cases}
 use Rattle.pb_language.specs.Walk.{Visit, Walked, meet, visits_at, going_from, failing_from, flush_walk, walk}
 use Rattle.pb_language.specs.Program.{Inventory, Play, Program, setting_of}
-use Rattle.pb_language.specs.Tables.{PlayWalk, HostWalk, first_laters, other_laters, plays_walked, hosts_walked, all_walked, written_spot, with_writes, with_visits, with_plays, next_views, known_views, next_round, views_after}
+use Rattle.pb_language.specs.Tables.{PlayWalk, first_laters, other_laters, plays_walked, hosts_walked, written_spot, with_writes, with_visits, with_plays, next_views, known_views, views_after}
 use Rattle.pb_language.specs.Theorem.{host_names, are_distinct}
 use Rattle.pb_language.proofs.Claims.{AfterClaim, WellSets}
-use Rattle.pb_language.proofs.WithSlot.{models_with, record_models, well_with}
+use Rattle.pb_language.proofs.WithSlot.{models_with, record_models}
 use Rattle.pb_language.proofs.WellKinds.{WellSpot, well_slot, well_known_slots}
 use Rattle.pb_language.proofs.Taught.{well_with_spot}
 use Rattle.pb_language.proofs.Values.{kept_known_value}
@@ -94,7 +94,7 @@ module _ (after_claim : AfterClaim) where
         let wh = all_well always s.hurt ws.2 in
         let wk = all_well row g.well wg.1 in (
           both_visits WellVisit x.visits (s.visits ++ (g.visits ++ (h.visits ++ k.visits))) wx.0
-          (both_visits WellVisit s.visits (g.visits ++ (h.visits ++ k.visits)) ws.0 (both_visits WellVisit g.visits (h.visits ++ k.visits) wg.0 (both_visits WellVisit h.visits k.visits wh.0 wk.0))),
+              (both_visits WellVisit s.visits (g.visits ++ (h.visits ++ k.visits)) ws.0 (both_visits WellVisit g.visits (h.visits ++ k.visits) wg.0 (both_visits WellVisit h.visits k.visits wh.0 wk.0))),
           wk.1,
           meet_well k.hurt (meet g.hurt (meet h.well h.hurt)) wk.2 (meet_well g.hurt (meet h.well h.hurt) wg.2 (meet_well h.well h.hurt wh.1 wh.2)),
         )

@@ -1,34 +1,32 @@
 -- What every step of a run keeps.
-use Rattle.std.proofs.Common.{◌≡◌, ◌≤◌, ◌+◌, ◌⊎◌, inl, inr, ⊎_elim, ℕ, zero, suc, max, List, [], ◌∷◌, ◌++◌, Bool, true, false, not, ◌&&◌, ◌||◌, cond, nat_lt, Option, Some, None, is_some, length, refl, sym, ap, subst, ◌∙◌, arith, true≢false}
-use Rattle.std.proofs.lemmas.Bool.Decides.{nat_tests}
+use Rattle.std.proofs.Common.{◌≡◌, ◌≤◌, ◌+◌, ⊎_elim, ℕ, suc, max, List, [], ◌∷◌, Bool, true, false, not, ◌&&◌, ◌||◌, cond, nat_lt, Option, Some, None, is_some, length, refl, sym, ap, subst, ◌∙◌, arith, true≢false}
 use Rattle.pb_semantics.specs.Data.{Fields, no_fields, field_value}
 use Rattle.pb_semantics.specs.Kind.{Slots, no_slots, recs}
 use Rattle.pb_semantics.specs.Keeps.{is_among, Models}
 use Rattle.pb_semantics.specs.Below.{are_among}
 use Rattle.pb_semantics.specs.Well.{Well}
-use Rattle.pb_semantics.proofs.Bools.{untrue, and-left, and-right, and-both, or-left, or-right, or-cases, true-false, not-true}
-use Rattle.pb_semantics.proofs.Hosts.{all_among, own_among}
-use Rattle.pb_language.specs.Expression.{Name, Expression}
-use Rattle.pb_language.specs.World.{HostVariables, variables_of, World}
+use Rattle.pb_semantics.proofs.Bools.{untrue, and-right}
+use Rattle.pb_language.specs.Expression.{Name}
+use Rattle.pb_language.specs.World.{variables_of}
 use Rattle.pb_language.specs.Scope.{View, view_of, Later, later_of, is_later}
 use Rattle.pb_language.specs.Notify.{Notified, handlers_are, names_nothing, all_notified, names_something}
 use Rattle.pb_language.specs.Task.{Action, call_of, debug, set_fact, assertion, failure_of, Task}
-use Rattle.pb_language.specs.Rest.{Rest, done, left, next, ask, rescue, hold, release, rest_of}
+use Rattle.pb_language.specs.Rest.{Rest, done, left, next, ask, rescue, hold, release}
 use Rattle.pb_language.specs.Cases.{failing_cases}
 use Rattle.pb_language.specs.Fit.{Fault, first, asks, unknown_handler}
 use Rattle.pb_language.specs.Setting.{Setting, named_slots, start_scope, item_scope, action_scope, give_scope}
-use Rattle.pb_language.specs.Judgement.{Exit, dead, live, task_fault, live_if, has_case, has_going, going_slots, failing_slots, going_exit, failing_exit, loop_fault, conditions_fault, action_fault, keyword_fault, loop_length}
-use Rattle.pb_language.specs.Program.{Inventory, Play, Program, Batch, batches_of, all_batches, setting_of}
+use Rattle.pb_language.specs.Judgement.{Exit, live, task_fault, live_if, has_case, has_going, going_slots, failing_slots, going_exit, failing_exit, loop_fault, conditions_fault, action_fault, keyword_fault}
+use Rattle.pb_language.specs.Program.{Inventory, Play, Program, Batch, setting_of}
 use Rattle.pb_language.specs.Tables.{place_calls, place_length}
 use Rattle.pb_language.specs.Theorem.{are_distinct, host_names}
 use Rattle.pb_language.specs.Start.{Pass, Plan, planned, halted, plan_of, call_count}
-use Rattle.pb_language.specs.Give.{Answer, Admitted, admitted, breached, unreached, admit_passes, Own, Ended, Results, results_are, no_results, end_all, any_failed, any_changed, message_of, written_variables}
-use Rattle.pb_language.specs.Machine.{Event, start, give, turn, stop, Ready, over, gone, begins, Stage, waits, runs, Host, Recap, State, is_marked, unmarked, outermost, innermost, settled, is_on, is_on_stage, still_active, is_active_host, variables_seen, world_of, host_at, put_host, is_out, running, stands_at, all_stand, can_start, with_host, stuck_state, on_plan, on_start, notified_by, task_recap, after_task, way_on, on_notified, on_results, on_admitted, on_give}
-use Rattle.pb_language.proofs.Claims.{Around, StartClaim, GiveClaim, PlanFine, PassesFine, AdmittedFine, ResultsFine, Written, action_calls}
-use Rattle.pb_language.proofs.Ways.{Above, WellEnv, VisitFine, Typed}
+use Rattle.pb_language.specs.Give.{Answer, Admitted, admitted, breached, unreached, admit_passes, Ended, Results, results_are, no_results, end_all, any_failed, any_changed, written_variables}
+use Rattle.pb_language.specs.Machine.{over, gone, begins, Stage, waits, runs, Host, Recap, State, is_marked, unmarked, outermost, innermost, settled, still_active, variables_seen, world_of, host_at, put_host, is_out, running, all_stand, can_start, with_host, on_plan, on_start, notified_by, after_task, on_notified, on_results, on_admitted, on_give}
+use Rattle.pb_language.proofs.Claims.{Around, StartClaim, GiveClaim, PlanFine, AdmittedFine, ResultsFine, Written, action_calls}
+use Rattle.pb_language.proofs.Ways.{WellEnv}
 use Rattle.pb_language.proofs.Named.{named_models}
-use Rattle.pb_language.proofs.Seen.{names_of, names_put, put_at, at_among, seen_at, seen, active_at, still_among, all_still, few_still, stand_at, total, total_put}
-use Rattle.pb_language.proofs.Positions.{LaterThere, st, walked, bound, later, after_play, future, most, EndsAt, FineVisit, TypedAt, Running, Waiting, in_any, StageFine, owes, settled_fine, settled_owes, stage_there}
+use Rattle.pb_language.proofs.Seen.{names_of, names_put, put_at, seen_at, seen, active_at, still_among, all_still, few_still, stand_at, total, total_put}
+use Rattle.pb_language.proofs.Positions.{walked, most, FineVisit, TypedAt, Running, in_any, StageFine, owes, settled_fine, settled_owes, stage_there}
 
 pub first_none : (f g : Option Fault) → first f g ≡ None → (f ≡ None) × (g ≡ None)
 first_none None g h = (refl, h)

@@ -1,9 +1,9 @@
 -- Hosts in a list, and what a world sees of them.
-use Rattle.std.proofs.Common.{◌≡◌, ◌≤◌, ◌+◌, ◌⊎◌, inl, inr, ⊎_elim, ℕ, zero, suc, List, [], ◌∷◌, Bool, true, false, not, ◌&&◌, ◌||◌, cond, Option, Some, None, length, refl, sym, ap, subst, ◌∙◌, arith, true≢false, bytes_eq}
-use Rattle.pb_semantics.specs.Data.{Fields, no_fields}
+use Rattle.std.proofs.Common.{◌≡◌, ◌≤◌, ◌+◌, ◌⊎◌, inl, inr, ⊎_elim, ℕ, zero, suc, List, [], ◌∷◌, Bool, true, false, not, ◌&&◌, ◌||◌, cond, Some, length, refl, sym, ap, subst, ◌∙◌, arith, true≢false, bytes_eq}
+use Rattle.pb_semantics.specs.Data.{no_fields}
 use Rattle.pb_semantics.specs.Keeps.{is_among}
 use Rattle.pb_semantics.specs.Below.{are_among}
-use Rattle.pb_semantics.proofs.Bools.{untrue, and-left, and-right, and-both, or-left, or-right, or-cases, true-false, not-true}
+use Rattle.pb_semantics.proofs.Bools.{untrue, and-left, and-right, and-both, or-left, or-right, or-cases, not-true}
 use Rattle.pb_semantics.proofs.Names.{same_name, own_name}
 use Rattle.pb_language.specs.Expression.{Name}
 use Rattle.pb_language.specs.World.{variables_of}
@@ -49,6 +49,7 @@ seen_step : (q : Bool) (g : Name) (y : Host) (hs : List Host) → bytes_eq g y.n
     → ((k : ℕ) × (h : Host) × (host_at k (y ∷ hs) ≡ Some h) × (variables_of g (variables_seen (y ∷ hs)) ≡ h.variables) × (g ≡ h.name)) ⊎ ((variables_of g (variables_seen (y ∷ hs)) ≡ no_fields) × (is_among g (names_of (y ∷ hs)) ≡ false))
 seen_step true g y hs e r = inl (0, y, refl, rw e refl, same_name g y.name e)
 seen_step false g y hs e r = ⊎_elim (λ x. inl (suc x.0, x.1, x.2, rw e x.3, x.4)) (λ x. inr (rw e x.0, rw e x.1)) r
+
 -- a name is that of a host, or is seen as that of none
 pub seen : (g : Name) (hs : List Host) → ((k : ℕ) × (h : Host) × (host_at k hs ≡ Some h) × (variables_of g (variables_seen hs) ≡ h.variables) × (g ≡ h.name)) ⊎ ((variables_of g (variables_seen hs) ≡ no_fields) × (is_among g (names_of hs) ≡ false))
 seen g [] = inr (refl, refl)

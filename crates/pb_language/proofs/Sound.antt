@@ -1,34 +1,28 @@
 -- An accepted book is never stuck and stays within its budget.
-use Rattle.std.proofs.Common.{◌≡◌, ◌≤◌, ◌+◌, ◌⊎◌, inl, inr, ⊎_elim, ℕ, zero, suc, List, [], ◌∷◌, ◌++◌, Bool, true, false, not, ◌&&◌, ◌||◌, cond, Option, Some, None, refl, sym, ap, subst, ◌∙◌, arith, true≢false, bytes_eq}
-use Rattle.pb_semantics.specs.Data.{Fields}
-use Rattle.pb_semantics.specs.Kind.{recs}
+use Rattle.std.proofs.Common.{◌≡◌, ◌≤◌, ℕ, zero, suc, List, [], ◌∷◌, Bool, true, false, ◌&&◌, ◌||◌, cond, Option, Some, None, refl, sym, ap, subst, arith, true≢false, bytes_eq}
 use Rattle.pb_semantics.specs.Keeps.{is_among, Models}
-use Rattle.pb_semantics.specs.Well.{Well}
 use Rattle.pb_semantics.proofs.Bools.{untrue, and-left, and-right}
 use Rattle.pb_semantics.proofs.Names.{same_name}
 use Rattle.pb_language.specs.Expression.{Name}
 use Rattle.pb_language.specs.World.{HostVariables, variables_of}
 use Rattle.pb_language.specs.Scope.{View, view_of, Later}
 use Rattle.pb_language.specs.Kinds.{known_slots}
-use Rattle.pb_language.specs.Judgement.{Exit, dead, live}
-use Rattle.pb_language.specs.Program.{Inventory, Play, Program, all_batches}
-use Rattle.pb_language.specs.Tables.{HostWalk, first_laters, other_laters, plays_walked, plays_calls, hosts_walked, all_walked, known_views, views_after, are_settled, laters_of, play_laters, walks_after, budget_of}
-use Rattle.pb_language.specs.Verdict.{Refusal, Verdict, accepted, first_offence, all_have, settled_verdict, offence_verdict, flow_verdict}
-use Rattle.pb_language.specs.Book.{Book, Registry}
+use Rattle.pb_language.specs.Judgement.{Exit, live}
+use Rattle.pb_language.specs.Program.{Inventory, Program}
+use Rattle.pb_language.specs.Tables.{HostWalk, plays_walked, plays_calls, hosts_walked, all_walked, known_views, views_after, are_settled, laters_of, play_laters, walks_after, budget_of}
+use Rattle.pb_language.specs.Verdict.{Refusal, Verdict, accepted, first_offence, all_have, offence_verdict, flow_verdict}
 use Rattle.pb_language.specs.Plays.{program_of}
 use Rattle.pb_language.specs.Rules.{rules_offence}
-use Rattle.pb_language.specs.Judged.{judged}
 use Rattle.pb_language.specs.Theorem.{host_names, are_distinct, NeverStuck, WithinBudget}
-use Rattle.pb_language.specs.Machine.{Event, Stage, waits, over, Host, State, host_at, with_batches, empty_recap, opening_hosts, opening, run_from}
+use Rattle.pb_language.specs.Machine.{Event, waits, over, Host, State, host_at, empty_recap, opening_hosts, opening, run_from}
 use Rattle.pb_language.proofs.Claims.{StartClaim, GiveClaim, AfterClaim}
 use Rattle.pb_language.proofs.WellKinds.{well_known_slots}
-use Rattle.pb_language.proofs.Ways.{WellExit}
 use Rattle.pb_language.proofs.Seen.{names_of, total}
 use Rattle.pb_language.proofs.Runs.{Fixed, Kept}
-use Rattle.pb_language.proofs.Turns.{CutFine, PlansFine, Good, Ahead}
+use Rattle.pb_language.proofs.Turns.{PlansFine, Good}
 use Rattle.pb_language.proofs.Steps.{Fine, Resting, resting_owes, plays_begun, run_fine, fine_within}
-use Rattle.pb_language.proofs.Rounds.{absent_next, variables_at, at_named, found_at, known_models, views_well, views_models}
-use Rattle.pb_language.proofs.Accepted.{accepted_parts, HostGood, AllGood, all_good}
+use Rattle.pb_language.proofs.Rounds.{absent_next, variables_at, found_at, known_models, views_well, views_models}
+use Rattle.pb_language.proofs.Accepted.{accepted_parts, AllGood, all_good}
 use Rattle.pb_language.proofs.Cuts.{AllCut, program_cut}
 
 -- under `free` nothing is said of later places
@@ -121,8 +115,8 @@ module _ (after_claim : AfterClaim) (start_claim : StartClaim) (give_claim : Giv
     names = opening_names inventory.hosts;
     fresh = refl;
     models = λ k h e.
-      let o = opened inventory.hosts k h e in
-      subst (λ n. Models h.variables (view_of n views)) (sym o.name) (subst (λ vars. Models vars (view_of o.host.name views)) (sym o.variables) (views_models after_claim inventory program ls distinct 4 k o.host o.found));
+        let o = opened inventory.hosts k h e in
+        subst (λ n. Models h.variables (view_of n views)) (sym o.name) (subst (λ vars. Models vars (view_of o.host.name views)) (sym o.variables) (views_models after_claim inventory program ls distinct 4 k o.host o.found));
   }
 
   pub opening_fine : (forks : ℕ) → first_offence ways ≡ None → are_settled ways views && all_have program ls ways ≡ true → budget_of ways ≡ limit → Fine inventory views fixed start_claim give_claim after_claim limit (opening program inventory forks)

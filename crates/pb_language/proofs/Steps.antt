@@ -1,25 +1,22 @@
 -- Every step of a run keeps what is known of it.
-use Rattle.std.proofs.Common.{◌≡◌, ◌≤◌, ◌+◌, ◌⊎◌, inl, inr, ⊎_elim, ℕ, zero, suc, List, [], ◌∷◌, ◌++◌, Bool, true, false, not, ◌&&◌, ◌||◌, cond, Option, Some, None, length, refl, sym, ap, subst, ◌∙◌, arith, true≢false}
+use Rattle.std.proofs.Common.{◌≡◌, ◌≤◌, ◌+◌, ◌⊎◌, inl, inr, ⊎_elim, ℕ, zero, suc, List, [], ◌∷◌, ◌++◌, Bool, true, false, not, cond, Option, Some, None, refl, sym, ap, subst, ◌∙◌, arith, true≢false}
 use Rattle.pb_semantics.specs.Data.{Fields}
-use Rattle.pb_semantics.specs.Kind.{Slots, recs}
-use Rattle.pb_semantics.specs.Keeps.{is_among, Models}
+use Rattle.pb_semantics.specs.Keeps.{is_among}
 use Rattle.pb_semantics.specs.Below.{are_among}
-use Rattle.pb_semantics.specs.Well.{Well}
-use Rattle.pb_semantics.proofs.Bools.{untrue, and-left, and-right, or-left, or-right, true-false}
+use Rattle.pb_semantics.proofs.Bools.{untrue, and-left, and-right}
 use Rattle.pb_semantics.proofs.Hosts.{among_up}
 use Rattle.pb_language.specs.Expression.{Name}
 use Rattle.pb_language.specs.Scope.{View, view_of, Later, later_of}
-use Rattle.pb_language.specs.Rest.{Rest}
-use Rattle.pb_language.specs.Judgement.{Exit, dead, live}
-use Rattle.pb_language.specs.Walk.{Walked, walk}
+use Rattle.pb_language.specs.Judgement.{Exit}
+use Rattle.pb_language.specs.Walk.{walk}
 use Rattle.pb_language.specs.Program.{Inventory, Play, Program, Batch, batches_of, all_batches, setting_of}
 use Rattle.pb_language.specs.Tables.{first_laters, other_laters, plays_walked, plays_calls, row_calls}
 use Rattle.pb_language.specs.Theorem.{host_names}
 use Rattle.pb_language.specs.Give.{Answer}
-use Rattle.pb_language.specs.Machine.{Event, start, give, turn, stop, Ready, over, gone, begins, Stage, waits, runs, Host, State, still_active, host_at, is_out, can_start, is_idle, all_idle, of_host, is_possible, enabled, on_start, on_give, any_names, with_batches, on_turn, on_host, happened, step, run_from}
+use Rattle.pb_language.specs.Machine.{Event, start, give, turn, stop, over, gone, begins, Stage, waits, runs, Host, State, still_active, host_at, is_out, can_start, is_idle, all_idle, of_host, is_possible, enabled, on_start, on_give, any_names, with_batches, on_host, happened, step, run_from}
 use Rattle.pb_language.proofs.Claims.{StartClaim, GiveClaim, AfterClaim}
 use Rattle.pb_language.proofs.Ways.{WellExit, walk_well}
-use Rattle.pb_language.proofs.Seen.{names_of, at_among, total}
+use Rattle.pb_language.proofs.Seen.{at_among, total}
 use Rattle.pb_language.proofs.Positions.{ExitModels, in_any, walked, after_play, future, whole, StageFine, owes}
 use Rattle.pb_language.proofs.Runs.{Fixed, Kept, BatchFine, HostsFine, start_fine, give_fine}
 use Rattle.pb_language.proofs.Turns.{If, AllApart, AllWithin, CutFine, PlansFine, after_fine, PlayGood, Good, Ahead, Idle, idle_owes, Member, batch_begun}
@@ -167,9 +164,9 @@ module _ (inventory : Inventory) (views : List View) (fixed : Fixed inventory vi
       let t = total_lower (idle_owes inventory views fixed start_claim give_claim after_claim limit p l exits ps (other_laters ls) (b ∷ bs)) (resting_owes exits (p ∷ ps) ls) s.hosts (idle_lower p l exits ps (other_laters ls) (b ∷ bs) parts) in
       let bt = record { play = p; members = b } ∷ (batches_of p bs ++ all_batches ps) in
       let z = batch_begun inventory views fixed start_claim give_claim after_claim limit p l exits ps (other_laters ls) b bs s bt kept
-          (λ k h e. resting_idle p l exits ps (other_laters ls) (b ∷ bs) parts h.name h.variables h.stage (resting k h e))
-          (λ k h e here. member_of_batch p l exits ps (other_laters ls) b bs apart.0 inside.0 ahead h.name (subst (λ ns. is_among h.name ns ≡ true) kept.names (at_among k s.hosts h e)) here)
-          (omega (arith, t, within)) in
+      (λ k h e. resting_idle p l exits ps (other_laters ls) (b ∷ bs) parts h.name h.variables h.stage (resting k h e))
+      (λ k h e here. member_of_batch p l exits ps (other_laters ls) b bs apart.0 inside.0 ahead h.name (subst (λ ns. is_among h.name ns ≡ true) kept.names (at_among k s.hosts h e)) here)
+      (omega (arith, t, within)) in
       record {
         kept = z.0;
         placed = inr (record {
@@ -237,24 +234,24 @@ module _ (inventory : Inventory) (views : List View) (fixed : Fixed inventory vi
     next_batch : (bs : List (List Name)) → pl.others ≡ bs → all_idle s.hosts ≡ true → Fine (with_batches s (batches_of pl.play bs ++ all_batches pl.plays))
     next_batch [] eq i =
         let idle : (k : ℕ) (h : Host) → host_at k s.hosts ≡ Some h → Idle inventory views fixed start_claim give_claim after_claim limit pl.play pl.laters pl.exits pl.plays pl.more [] h.name h.variables h.stage
-            = λ k h e. subst (λ os. Idle inventory views fixed start_claim give_claim after_claim limit pl.play pl.laters pl.exits pl.plays pl.more os h.name h.variables h.stage) eq (idle_all i k h e) in
+        = λ k h e. subst (λ os. Idle inventory views fixed start_claim give_claim after_claim limit pl.play pl.laters pl.exits pl.plays pl.more os h.name h.variables h.stage) eq (idle_all i k h e) in
         let within : s.handed + total (owes views inventory pl.play pl.laters pl.exits pl.plays pl.more pl.batch []) s.hosts ≤ limit
-            = subst (λ os. s.handed + total (owes views inventory pl.play pl.laters pl.exits pl.plays pl.more pl.batch os) s.hosts ≤ limit) eq pl.hosts.within in
+        = subst (λ os. s.handed + total (owes views inventory pl.play pl.laters pl.exits pl.plays pl.more pl.batch os) s.hosts ≤ limit) eq pl.hosts.within in
         let t = total_lower (resting_owes (after_play views inventory pl.play pl.laters pl.exits pl.plays pl.more) pl.plays pl.more) (owes views inventory pl.play pl.laters pl.exits pl.plays pl.more pl.batch []) s.hosts (rest_no_more pl.play pl.laters pl.exits pl.plays pl.more pl.batch) in
         plays_begun pl.plays pl.more (after_play views inventory pl.play pl.laters pl.exits pl.plays pl.more) s pl.plans kept (next_ahead pl.play pl.laters pl.exits pl.plays pl.more pl.ahead)
         (λ k h e. idle_resting pl.play pl.laters pl.exits pl.plays pl.more h.name h.variables h.stage (idle k h e)) (omega (arith, t, within))
     next_batch (b ∷ bs) eq i =
         let idle : (k : ℕ) (h : Host) → host_at k s.hosts ≡ Some h → Idle inventory views fixed start_claim give_claim after_claim limit pl.play pl.laters pl.exits pl.plays pl.more (b ∷ bs) h.name h.variables h.stage
-            = λ k h e. subst (λ os. Idle inventory views fixed start_claim give_claim after_claim limit pl.play pl.laters pl.exits pl.plays pl.more os h.name h.variables h.stage) eq (idle_all i k h e) in
+        = λ k h e. subst (λ os. Idle inventory views fixed start_claim give_claim after_claim limit pl.play pl.laters pl.exits pl.plays pl.more os h.name h.variables h.stage) eq (idle_all i k h e) in
         let within : s.handed + total (owes views inventory pl.play pl.laters pl.exits pl.plays pl.more pl.batch (b ∷ bs)) s.hosts ≤ limit
-            = subst (λ os. s.handed + total (owes views inventory pl.play pl.laters pl.exits pl.plays pl.more pl.batch os) s.hosts ≤ limit) eq pl.hosts.within in
+        = subst (λ os. s.handed + total (owes views inventory pl.play pl.laters pl.exits pl.plays pl.more pl.batch os) s.hosts ≤ limit) eq pl.hosts.within in
         let apart : AllApart (b ∷ bs) = subst AllApart eq pl.apart in
         let inside : AllWithin pl.play.hosts (b ∷ bs) = subst (AllWithin pl.play.hosts) eq pl.within in
         let t = total_lower (idle_owes inventory views fixed start_claim give_claim after_claim limit pl.play pl.laters pl.exits pl.plays pl.more (b ∷ bs)) (owes views inventory pl.play pl.laters pl.exits pl.plays pl.more pl.batch (b ∷ bs)) s.hosts (idle_no_more pl.play pl.laters pl.exits pl.plays pl.more pl.batch (b ∷ bs)) in
         let bt = record { play = pl.play; members = b } ∷ (batches_of pl.play bs ++ all_batches pl.plays) in
         let z = batch_begun inventory views fixed start_claim give_claim after_claim limit pl.play pl.laters pl.exits pl.plays pl.more b bs s bt kept idle
-            (λ k h e here. member_of_batch pl.play pl.laters pl.exits pl.plays pl.more b bs apart.0 inside.0 pl.ahead h.name (subst (λ ns. is_among h.name ns ≡ true) kept.names (at_among k s.hosts h e)) here)
-            (omega (arith, t, within)) in
+        (λ k h e here. member_of_batch pl.play pl.laters pl.exits pl.plays pl.more b bs apart.0 inside.0 pl.ahead h.name (subst (λ ns. is_among h.name ns ≡ true) kept.names (at_among k s.hosts h e)) here)
+        (omega (arith, t, within)) in
         record {
           kept = z.0;
           placed = inr (record {

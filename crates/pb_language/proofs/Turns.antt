@@ -1,28 +1,25 @@
 -- What a Turn to the next batch keeps.
-use Rattle.std.proofs.Common.{◌≡◌, ◌≤◌, ◌+◌, ◌⊎◌, inl, inr, ⊎_elim, ℕ, zero, suc, max, List, [], ◌∷◌, ◌++◌, Bool, true, false, not, ◌&&◌, ◌||◌, cond, Option, Some, None, length, refl, sym, ap, subst, ◌∙◌, arith, true≢false}
+use Rattle.std.proofs.Common.{◌≡◌, ◌≤◌, ◌+◌, ℕ, zero, suc, List, [], ◌∷◌, Bool, true, false, ◌&&◌, ◌||◌, cond, Some, length, refl, sym, ap, subst, ◌∙◌, arith, true≢false}
 use Rattle.pb_semantics.specs.Data.{Fields}
-use Rattle.pb_semantics.specs.Kind.{Slots, recs}
+use Rattle.pb_semantics.specs.Kind.{Slots}
 use Rattle.pb_semantics.specs.Keeps.{is_among, Models}
 use Rattle.pb_semantics.specs.Below.{are_among}
-use Rattle.pb_semantics.specs.Well.{Well}
 use Rattle.pb_semantics.proofs.Bools.{untrue, and-left, and-right, or-left, or-right, true-false}
-use Rattle.pb_semantics.proofs.Hosts.{among_up}
 use Rattle.pb_language.specs.Expression.{Name}
 use Rattle.pb_language.specs.Scope.{View, view_of, Later, later_of}
-use Rattle.pb_language.specs.Task.{Task}
-use Rattle.pb_language.specs.Rest.{Rest, done, left, rest_of}
+use Rattle.pb_language.specs.Rest.{done, left, rest_of}
 use Rattle.pb_language.specs.Judgement.{Exit, dead, live}
-use Rattle.pb_language.specs.Walk.{Walked, walk}
-use Rattle.pb_language.specs.Program.{Inventory, Play, Program, Batch, batches_of, all_batches, setting_of}
-use Rattle.pb_language.specs.Tables.{first_laters, other_laters, plays_walked, plays_calls, place_length, row_calls}
+use Rattle.pb_language.specs.Walk.{walk}
+use Rattle.pb_language.specs.Program.{Inventory, Play, Program, Batch, setting_of}
+use Rattle.pb_language.specs.Tables.{first_laters, other_laters, place_length}
 use Rattle.pb_language.specs.Verdict.{exit_has}
 use Rattle.pb_language.specs.Theorem.{host_names}
-use Rattle.pb_language.specs.Machine.{Ready, over, gone, begins, Stage, waits, runs, Host, State, settled, is_on, is_on_stage, host_at, is_idle, all_idle, begun, all_begun, with_batches}
+use Rattle.pb_language.specs.Machine.{over, gone, begins, Stage, waits, runs, Host, State, settled, is_on, is_on_stage, host_at, begun, all_begun}
 use Rattle.pb_language.proofs.Claims.{StartClaim, GiveClaim, AfterClaim}
-use Rattle.pb_language.proofs.Ways.{Above, above_itself, WellExit, WellAfter, VisitFine, AllVisits, Typed, walk_well, typed_row}
+use Rattle.pb_language.proofs.Ways.{above_itself, WellExit, WellAfter, VisitFine, AllVisits, typed_row}
 use Rattle.pb_language.proofs.Seen.{names_of, total}
-use Rattle.pb_language.proofs.Positions.{ExitModels, LaterThere, in_any, walked, bound, later, after_play, future, whole, most, EndsAt, TypedAt, Over, StageFine, owes, settled_fine, settled_owes, most_row}
-use Rattle.pb_language.proofs.Runs.{settled_name, settled_variables, Fixed, Kept, BatchFine, HostsFine}
+use Rattle.pb_language.proofs.Positions.{ExitModels, in_any, walked, bound, later, after_play, future, whole, EndsAt, TypedAt, Over, StageFine, owes, settled_fine, settled_owes, most_row}
+use Rattle.pb_language.proofs.Runs.{settled_name, settled_variables, Fixed, Kept, HostsFine}
 
 abbrev pub If : Bool → Type 0 → Type 0 → Type 0
 If true A B = A

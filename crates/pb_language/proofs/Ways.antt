@@ -1,5 +1,5 @@
 -- Ways whose tasks are fit, and the walk that shows that they are.
-use Rattle.std.proofs.Common.{◌≡◌, ◌≤◌, ℕ, suc, List, [], ◌∷◌, ◌++◌, Bool, true, false, cond, Option, Some, None, refl}
+use Rattle.std.proofs.Common.{◌≡◌, ◌≤◌, ℕ, suc, List, [], ◌∷◌, ◌++◌, Bool, true, false, None}
 use Rattle.pb_semantics.specs.Data.{Fields}
 use Rattle.pb_semantics.specs.Kind.{Slots, recs}
 use Rattle.pb_semantics.specs.Keeps.{Models}
@@ -13,7 +13,7 @@ use Rattle.pb_language.specs.Task.{Task, Handlers, no_handlers, handler, Row, en
 use Rattle.pb_language.specs.Rest.{Rest, done, left, next, ask, rescue, hold, release, flush_rest, rest_of}
 use Rattle.pb_language.specs.Setting.{Setting}
 use Rattle.pb_language.specs.Judgement.{Exit, dead, live, task_fault, live_if, has_going, has_case, going_slots, failing_slots, going_exit, failing_exit, task_writes, loop_length}
-use Rattle.pb_language.specs.Walk.{Visit, Walked, meet, visits_at, going_from, failing_from, flush_walk, unsaved, walk}
+use Rattle.pb_language.specs.Walk.{Visit, meet, visits_at, going_from, failing_from, flush_walk, walk}
 use Rattle.pb_language.specs.Tables.{writes_below, has_since, has_all}
 
 -- each world that models the first models the second

@@ -1,11 +1,10 @@
 -- What a task registers and sets, and of which kind.
-use Rattle.std.specs.Prelude.{ℕ, List, [], ◌∷◌, Bool, true, false, not, ◌&&◌, ◌||◌, cond, Option, Some, None, is_some, codes}
+use Rattle.std.specs.Prelude.{ℕ, [], ◌∷◌, Bool, true, false, not, ◌&&◌, ◌||◌, cond, Option, Some, None, is_some, codes}
 use Rattle.std.specs.Str.{bytes_eq}
-use Rattle.pb_semantics.specs.Data.{Data, Fields, rec, no_fields, field}
-use Rattle.pb_semantics.specs.Kind.{KindData, Slots, Cases, Shape, Spot, never, booleans, texts, lists, recs, results, anything, no_slots, slot, no_cases, one, spot, slot_at, is_listed, ok_shape, failure_shape, skipped_shape}
+use Rattle.pb_semantics.specs.Kind.{KindData, Slots, Cases, Spot, never, booleans, texts, lists, recs, results, anything, no_slots, slot, no_cases, one, spot, slot_at, is_listed, ok_shape, failure_shape, skipped_shape}
 use Rattle.pb_semantics.specs.Join.{append_cases, join_spot}
 use Rattle.pb_semantics.specs.Signature.{ModuleData, is_certain_boolean}
-use Rattle.pb_language.specs.Expression.{Name, Expression, Expressions, no_expressions, expression, Parts, no_parts, part}
+use Rattle.pb_language.specs.Expression.{Name, Expressions, no_expressions, expression, Parts, no_parts, part}
 use Rattle.pb_language.specs.Scope.{Scope, with_slot, with_spot}
 use Rattle.pb_language.specs.Kinds.{kind_of}
 use Rattle.pb_language.specs.Narrow.{results_of, cases_with}

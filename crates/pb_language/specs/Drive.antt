@@ -1,8 +1,8 @@
 -- Which host starts next, and a run whose jobs are answered one after the other.
-use Rattle.std.specs.Prelude.{ℕ, zero, suc, List, [], ◌∷◌, Bool, true, false, nat_lt, cond, Option, Some, None, take, drop}
+use Rattle.std.specs.Prelude.{ℕ, zero, suc, List, [], ◌∷◌, nat_lt, cond, Option, Some, None, take, drop}
 use Rattle.pb_language.specs.Start.{call_count}
 use Rattle.pb_language.specs.Give.{Answer}
-use Rattle.pb_language.specs.Machine.{Event, start, give, turn, Ready, over, gone, begins, Stage, waits, runs, Host, State, host_at, enabled, step}
+use Rattle.pb_language.specs.Machine.{start, give, turn, begins, Stage, waits, runs, Host, State, host_at, enabled, step}
 
 -- a host that can start, and its place
 pub record Starting : Type 0 where

@@ -1,7 +1,6 @@
 -- The value of an expression in a world, where it has one.
-use Rattle.std.specs.Prelude.{ℕ, ℤ, zero, suc, pos, List, [], ◌∷◌, ◌++◌, Bool, true, false, not, ◌&&◌, ◌||◌, cond, Option, Some, None, is_some, nat_le, nat_lt, int_le, int_lt, codes}
-use Rattle.std.specs.Str.{bytes_eq}
-use Rattle.pb_semantics.specs.Data.{Data, Items, Fields, null, boolean, int, text, list, rec, opaque, no_items, item, no_fields, field, field_value, count_of, bool_eq}
+use Rattle.std.specs.Prelude.{ℕ, ℤ, suc, pos, List, [], ◌∷◌, ◌++◌, Bool, true, false, not, ◌&&◌, ◌||◌, cond, Option, Some, None, is_some, nat_le, nat_lt, int_le, int_lt, codes}
+use Rattle.pb_semantics.specs.Data.{Data, Items, Fields, boolean, int, text, list, rec, opaque, no_items, item, no_fields, field, field_value, count_of}
 use Rattle.pb_semantics.specs.Equal.{data_eq, is_item, is_part}
 use Rattle.pb_semantics.specs.Keeps.{is_among, flag_is}
 use Rattle.pb_semantics.specs.Render.{is_plain, rendered}

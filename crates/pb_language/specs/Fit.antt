@@ -1,11 +1,11 @@
 -- Which expressions have a value in every world that the scope describes.
-use Rattle.std.specs.Prelude.{ℕ, List, [], ◌∷◌, Bool, true, false, not, ◌&&◌, ◌||◌, cond, Option, Some, None, is_some, codes}
-use Rattle.pb_semantics.specs.Kind.{KindData, Slots, Spot, never, booleans, ints, texts, hosts, lists, recs, results, anything, nowhere, spot, slot_at}
+use Rattle.std.specs.Prelude.{List, [], ◌∷◌, Bool, true, false, not, ◌&&◌, ◌||◌, Option, Some, None, is_some, codes}
+use Rattle.pb_semantics.specs.Kind.{KindData, Spot, never, booleans, ints, texts, hosts, lists, recs, results, anything, nowhere, spot, slot_at}
 use Rattle.pb_semantics.specs.Fit.{holds_any}
 use Rattle.pb_language.specs.Expression.{Name, Comparison, equal, less, at_most, more, at_least, Term, named_host, this_host, item_host, group_member, Expression, literal, path, hostvars_alone, negation, conjunction, disjunction, comparison, membership, in_batch, defined, undefinable, path_status, value_status, path_or, value_or, length_of, joined_by, concatenation, list_of, record_of, Root, variable, alias, other, member, Expressions, no_expressions, expression, Parts, no_parts, part}
 use Rattle.pb_language.specs.World.{member_of}
 use Rattle.pb_language.specs.Scope.{Scope, Hosts, these, any_host, no_hosts, nobody, is_present, spot_kind, is_certain, hosts_of, other_spot}
-use Rattle.pb_language.specs.Kinds.{kind_of, root_spot, step_spot, path_spot}
+use Rattle.pb_language.specs.Kinds.{kind_of, root_spot, path_spot}
 use Rattle.pb_language.specs.Narrow.{narrow}
 
 -- why an expression may have no value
@@ -171,7 +171,6 @@ abbrev mutual
   read_fault c (variable n) = asks perhaps_undefined (is_certain (slot_at n c.own))
   read_fault c (alias n e) = first (fault c e) (asks wrong_kind (not (is_any (kind_of c e))))
   read_fault c (other t x) = first (term_fault c t) (first (hosts_fault (hosts_of c t)) (asks perhaps_undefined_there (is_certain (other_spot c t x))))
-
   read_fault c (member g n) = asks unknown_name (is_some (member_of g n c.groups))
 
   -- a value that is tested: a value of `vars` is asked for all the same

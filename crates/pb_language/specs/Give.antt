@@ -1,15 +1,14 @@
 -- What is made of the answers to a task's calls.
-use Rattle.std.specs.Prelude.{ℕ, List, [], ◌∷◌, ◌++◌, Bool, true, false, not, ◌&&◌, ◌||◌, cond, Option, Some, None, codes}
-use Rattle.std.specs.Str.{bytes_eq}
+use Rattle.std.specs.Prelude.{ℕ, List, [], ◌∷◌, Bool, true, false, not, ◌&&◌, ◌||◌, cond, Option, Some, None, codes}
 use Rattle.pb_semantics.specs.Data.{Data, Items, Fields, boolean, text, list, rec, no_items, item, no_fields, field, field_value, put_field}
 use Rattle.pb_semantics.specs.Kind.{Slots, Spot, recs, no_slots, slot, spot, slot_at, Shape, ok_shape, failure_shape, skipped_shape, is_skipped}
 use Rattle.pb_semantics.specs.Keeps.{flag_is}
-use Rattle.pb_semantics.specs.Admission.{AdmissionData, taken, failed, breach, admission}
+use Rattle.pb_semantics.specs.Admission.{AdmissionData, taken, failed, admission}
 use Rattle.pb_semantics.specs.Signature.{ModuleData}
 use Rattle.pb_language.specs.Expression.{Name, Expression, Expressions}
 use Rattle.pb_language.specs.World.{World}
-use Rattle.pb_language.specs.Evaluation.{Stuck, wrong_sort, no_handler, Outcome, value, stuck, eval_all}
-use Rattle.pb_language.specs.Task.{Action, call_of, debug, set_fact, assertion, failure_of, Task}
+use Rattle.pb_language.specs.Evaluation.{Stuck, wrong_sort, Outcome, value, stuck, eval_all}
+use Rattle.pb_language.specs.Task.{Action, call_of, Task}
 use Rattle.pb_language.specs.Cases.{after_prefix, fact_prefix, is_setup, shape_slots}
 use Rattle.pb_language.specs.Setting.{with_local}
 use Rattle.pb_language.specs.Start.{Changes, no_changes, change, Entry, skips, calls, acts, Pass}

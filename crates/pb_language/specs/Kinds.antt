@@ -1,7 +1,7 @@
 -- The kind of an expression in a scope, fit or not.
-use Rattle.std.specs.Prelude.{ℕ, suc, List, [], ◌∷◌, Bool, true, false, ◌&&◌, cond, Option, Some, None, unwrap_or}
+use Rattle.std.specs.Prelude.{ℕ, suc, List, [], ◌∷◌, Bool, true, false, Option, Some, None, unwrap_or}
 use Rattle.pb_semantics.specs.Data.{Data, Items, Fields, null, boolean, int, text, list, rec, opaque, no_items, item, no_fields, field, count_of}
-use Rattle.pb_semantics.specs.Kind.{KindData, Slots, Spot, never, nulls, booleans, ints, texts, hosts, lists, recs, results, anything, no_slots, slot, nowhere, spot, slot_at}
+use Rattle.pb_semantics.specs.Kind.{KindData, Slots, Spot, never, nulls, booleans, ints, texts, hosts, lists, recs, results, anything, no_slots, nowhere, spot, slot_at}
 use Rattle.pb_semantics.specs.Join.{join}
 use Rattle.pb_language.specs.Expression.{Name, Expression, literal, path, hostvars_alone, negation, conjunction, disjunction, comparison, membership, in_batch, defined, undefinable, path_status, value_status, path_or, value_or, length_of, joined_by, concatenation, list_of, record_of, Root, variable, alias, other, member, Expressions, no_expressions, expression, Parts, no_parts, part}
 use Rattle.pb_language.specs.World.{member_of}

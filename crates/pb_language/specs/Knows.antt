@@ -1,7 +1,7 @@
 -- What a world has of a scope.
-use Rattle.std.specs.Prelude.{◌≡◌, List, Bool, true, Option, Some, None, is_some, codes}
+use Rattle.std.specs.Prelude.{◌≡◌, List, Bool, true, Some, None, is_some, codes}
 use Rattle.pb_semantics.specs.Data.{Data, text, boolean, field_value}
-use Rattle.pb_semantics.specs.Kind.{KindData, Spot, recs, spot, slot_at}
+use Rattle.pb_semantics.specs.Kind.{KindData, recs, spot, slot_at}
 use Rattle.pb_semantics.specs.Keeps.{keeps, is_among, spot_ok, Models}
 use Rattle.pb_semantics.specs.Well.{Well}
 use Rattle.pb_language.specs.Expression.{Name, Expression, Root}

@@ -1,14 +1,13 @@
 -- A run as a machine over events.
-use Rattle.std.specs.Prelude.{ℕ, zero, suc, ◌+◌, ◌-◌, List, [], ◌∷◌, ◌++◌, Bool, true, false, not, ◌&&◌, ◌||◌, nat_le, nat_lt, nat_eq, cond, Option, Some, None, codes, length, drop}
+use Rattle.std.specs.Prelude.{ℕ, zero, suc, ◌+◌, ◌-◌, List, [], ◌∷◌, ◌++◌, Bool, true, false, not, ◌&&◌, ◌||◌, nat_le, nat_lt, nat_eq, cond, Option, Some, None, length, drop}
 use Rattle.std.specs.Str.{bytes_eq}
 use Rattle.pb_semantics.specs.Data.{Fields}
 use Rattle.pb_semantics.specs.Keeps.{is_among}
 use Rattle.pb_language.specs.Expression.{Name}
 use Rattle.pb_language.specs.World.{HostVariables, World}
-use Rattle.pb_language.specs.Evaluation.{Stuck, no_handler}
 use Rattle.pb_language.specs.Task.{Task}
 use Rattle.pb_language.specs.Rest.{Rest, done, left, next, ask, rescue, hold, release, rest_of}
-use Rattle.pb_language.specs.Setting.{Setting, named_fields}
+use Rattle.pb_language.specs.Setting.{named_fields}
 use Rattle.pb_language.specs.Start.{Pass, Plan, planned, halted, plan_of, call_count}
 use Rattle.pb_language.specs.Give.{Answer, Admitted, admitted, breached, unreached, admit_passes, Ended, Results, results_are, no_results, end_all, any_changed, any_failed, all_skipped, message_of, written_variables}
 use Rattle.pb_language.specs.Notify.{Notified, handlers_are, names_nothing, all_notified}

@@ -1,9 +1,9 @@
 -- What a test teaches.
-use Rattle.std.specs.Prelude.{ℕ, List, [], ◌∷◌, Bool, true, false, not, ◌&&◌, ◌||◌, cond, Option, Some, None, codes}
+use Rattle.std.specs.Prelude.{List, [], ◌∷◌, Bool, true, false, not, ◌||◌, cond, Option, Some, None, codes}
 use Rattle.pb_semantics.specs.Data.{bool_eq}
-use Rattle.pb_semantics.specs.Kind.{KindData, Slots, Cases, Shape, Spot, never, recs, results, anything, no_slots, slot, no_cases, one, nowhere, spot, slot_at, is_listed, is_skipped as is_skip}
+use Rattle.pb_semantics.specs.Kind.{KindData, Cases, Shape, Spot, never, recs, results, anything, no_cases, one, nowhere, spot, slot_at, is_listed, is_skipped as is_skip}
 use Rattle.pb_semantics.specs.Join.{join}
-use Rattle.pb_language.specs.Expression.{Name, Status, is_failed, is_changed, is_skipped, Term, named_host, this_host, item_host, group_member, Expression, literal, path, hostvars_alone, negation, conjunction, disjunction, comparison, membership, in_batch, defined, undefinable, path_status, value_status, path_or, value_or, length_of, joined_by, concatenation, list_of, record_of, Root, variable, alias, other, member, Expressions, no_expressions, expression}
+use Rattle.pb_language.specs.Expression.{Name, Status, is_failed, is_changed, is_skipped, Term, named_host, this_host, item_host, group_member, Expression, negation, conjunction, disjunction, in_batch, defined, path_status, Root, variable, alias, other, member, Expressions, no_expressions, expression}
 use Rattle.pb_language.specs.World.{member_of}
 use Rattle.pb_language.specs.Scope.{Scope, resolved, spot_kind, with_spot, taught, view_of, put_view, host_spot, other_spot, both_scopes}
 use Rattle.pb_language.specs.Kinds.{root_spot}

@@ -1,8 +1,8 @@
 -- How a book runs on an inventory: the rows of its plays, with their places and batches.
-use Rattle.std.specs.Prelude.{ℕ, zero, suc, ◌+◌, ◌-◌, ◌*◌, ◌/◌, max, List, [], ◌∷◌, ◌++◌, Bool, true, false, not, ◌||◌, cond, Option, Some, None, codes, length, unwrap_or}
+use Rattle.std.specs.Prelude.{ℕ, zero, suc, ◌+◌, ◌-◌, ◌*◌, ◌/◌, max, List, [], ◌∷◌, ◌++◌, Bool, true, false, ◌||◌, cond, Option, Some, None, codes, length, unwrap_or}
 use Rattle.std.specs.Str.{bytes_eq}
-use Rattle.pb_semantics.specs.Data.{boolean, null}
-use Rattle.pb_semantics.specs.Kind.{never, recs, no_slots}
+use Rattle.pb_semantics.specs.Data.{null}
+use Rattle.pb_semantics.specs.Kind.{never}
 use Rattle.pb_semantics.specs.Keeps.{is_among}
 use Rattle.pb_semantics.specs.Signature.{ModuleData}
 use Rattle.pb_language.specs.Expression.{Name, Expression, literal, Expressions, no_expressions, expression, Parts, no_parts, part}

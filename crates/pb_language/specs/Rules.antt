@@ -1,5 +1,5 @@
 -- The rules that need no flow.
-use Rattle.std.specs.Prelude.{ℕ, zero, suc, ◌+◌, List, [], ◌∷◌, ◌++◌, Bool, true, false, not, ◌&&◌, ◌||◌, nat_le, nat_lt, cond, Option, Some, None, is_some, codes, length}
+use Rattle.std.specs.Prelude.{ℕ, ◌+◌, List, [], ◌∷◌, ◌++◌, Bool, true, false, not, ◌&&◌, ◌||◌, nat_le, nat_lt, cond, Option, Some, None, is_some, codes, length}
 use Rattle.std.specs.Str.{bytes_eq}
 use Rattle.pb_semantics.specs.Keeps.{is_among}
 use Rattle.pb_semantics.specs.Signature.{ParameterData, ModuleData}
@@ -7,8 +7,8 @@ use Rattle.pb_language.specs.Expression.{Name, Term, named_host, this_host, item
 use Rattle.pb_language.specs.Expansion.{expanded, part_named, trees, chain_length}
 use Rattle.pb_language.specs.World.{Group, member_of}
 use Rattle.pb_language.specs.Notify.{HandlerNames, notified, all_notified, names_something}
-use Rattle.pb_language.specs.Book.{Asserted, not_given, not_well_formed, conditions_are, Work, module_work, debug_work, set_fact_work, assert_work, fail_work, TaskData, HandlerData, PlayData, Book, Registry}
-use Rattle.pb_language.specs.Plays.{append_parts, append_expressions, module_named, group_named, word_hosts, is_host, names_of_handlers}
+use Rattle.pb_language.specs.Book.{Asserted, not_given, not_well_formed, conditions_are, Work, module_work, debug_work, set_fact_work, assert_work, fail_work, TaskData, Book, Registry}
+use Rattle.pb_language.specs.Plays.{append_expressions, module_named, group_named, word_hosts, is_host, names_of_handlers}
 use Rattle.pb_language.specs.Program.{Inventory}
 use Rattle.pb_language.specs.Sites.{Thing, a_play, a_block, a_flush, the_gathering, a_task, a_handler, Site, sites_of, steps_of}
 use Rattle.pb_language.specs.Verdict.{Refusal, earlier}

@@ -1,7 +1,7 @@
 -- What is known at a Start: of the host's own variables, of those of each host, and what tests have taught.
-use Rattle.std.specs.Prelude.{ℕ, List, [], ◌∷◌, Bool, true, false, ◌&&◌, ◌||◌, cond, nat_le, Option, Some, None, unwrap_or, codes}
+use Rattle.std.specs.Prelude.{ℕ, List, [], ◌∷◌, Bool, true, false, ◌&&◌, ◌||◌, cond, nat_le, Option, Some, None, codes}
 use Rattle.std.specs.Str.{bytes_eq}
-use Rattle.pb_semantics.specs.Kind.{KindData, Slots, Cases, Shape, Spot, never, texts, hosts, recs, results, anything, no_slots, slot, no_cases, one, nowhere, spot, slot_at, is_listed, put_slot}
+use Rattle.pb_semantics.specs.Kind.{KindData, Slots, Spot, never, texts, hosts, anything, no_slots, slot, nowhere, spot, slot_at, put_slot}
 use Rattle.pb_semantics.specs.Keeps.{is_among}
 use Rattle.pb_semantics.specs.Join.{join, join_slots, join_spot}
 use Rattle.pb_language.specs.Expression.{Name, Expression, Root, variable, alias, other, member, Term, named_host, this_host, item_host, group_member}

@@ -1,9 +1,9 @@
 -- What a host's task is judged in: the names that are always there, and those of the task.
-use Rattle.std.specs.Prelude.{ℕ, zero, suc, List, [], ◌∷◌, Bool, true, false, Option, Some, None, codes, length}
+use Rattle.std.specs.Prelude.{ℕ, zero, suc, List, [], ◌∷◌, true, false, Option, Some, None, codes, length}
 use Rattle.pb_semantics.specs.Data.{Data, Items, Fields, text, list, rec, no_items, item, no_fields, field}
-use Rattle.pb_semantics.specs.Kind.{KindData, Slots, Cases, never, texts, hosts, lists, recs, no_slots, slot}
-use Rattle.pb_language.specs.Expression.{Name, Expression, Expressions}
-use Rattle.pb_language.specs.World.{Group, HostVariables, World}
+use Rattle.pb_semantics.specs.Kind.{KindData, Slots, Cases, texts, hosts, lists, recs, no_slots, slot}
+use Rattle.pb_language.specs.Expression.{Name, Expression}
+use Rattle.pb_language.specs.World.{Group}
 use Rattle.pb_language.specs.Scope.{Scope, View, Later, nothing, with_slot}
 use Rattle.pb_language.specs.Kinds.{kind_of}
 use Rattle.pb_language.specs.Narrow.{results_of, narrow_each}

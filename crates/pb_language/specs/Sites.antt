@@ -1,7 +1,7 @@
 -- The lines of a book, each with what stands round it.
-use Rattle.std.specs.Prelude.{ℕ, suc, ◌+◌, ◌*◌, ◌^◌, List, [], ◌∷◌, ◌++◌, Bool, cond, Option, Some, None, length}
-use Rattle.pb_language.specs.Expression.{Name, Expressions, no_expressions, Parts, no_parts}
-use Rattle.pb_language.specs.Book.{TaskData, BlockData, Steps, no_steps, task_step, block_step, flush_step, HandlerData, PlayData, Book}
+use Rattle.std.specs.Prelude.{ℕ, suc, ◌+◌, ◌^◌, List, [], ◌∷◌, ◌++◌, cond, Option, Some, None, length}
+use Rattle.pb_language.specs.Expression.{Expressions, no_expressions, Parts, no_parts}
+use Rattle.pb_language.specs.Book.{TaskData, Steps, no_steps, task_step, block_step, flush_step, HandlerData, PlayData, Book}
 use Rattle.pb_language.specs.Plays.{append_parts, append_expressions, is_given}
 
 -- what stands at a line
@@ -33,10 +33,10 @@ sites_in p cs scope (task_step t ss) = site p (append_expressions cs t.condition
 sites_in p cs scope (flush_step l ss) = site p cs scope l a_flush no_parts ∷ sites_in p cs scope ss
 sites_in p cs scope (block_step b x y z ss) =
     site p cs scope b.line a_block b.vars ∷ (
-      sites_in p (append_expressions cs b.condition) (append_parts b.vars scope) x
-      ++ sites_in p (append_expressions cs b.condition) (append_parts b.vars scope) y
-      ++ sites_in p (append_expressions cs b.condition) (append_parts b.vars scope) z
-      ++ sites_in p cs scope ss
+    sites_in p (append_expressions cs b.condition) (append_parts b.vars scope) x
+    ++ sites_in p (append_expressions cs b.condition) (append_parts b.vars scope) y
+    ++ sites_in p (append_expressions cs b.condition) (append_parts b.vars scope) z
+    ++ sites_in p cs scope ss
     )
 
 abbrev pub handler_sites : PlayData → ℕ → List HandlerData → List Site

@@ -1,10 +1,10 @@
 -- What a task does at its Start: for each item a skip, a call of its module with the arguments, or what its action does.
-use Rattle.std.specs.Prelude.{ℕ, ◌+◌, List, [], ◌∷◌, Bool, true, false, cond, Option, Some, None, codes}
-use Rattle.pb_semantics.specs.Data.{Data, Items, Fields, boolean, text, list, rec, opaque, no_items, item, no_fields, field}
+use Rattle.std.specs.Prelude.{ℕ, ◌+◌, List, [], ◌∷◌, Bool, true, false, Option, Some, None, codes}
+use Rattle.pb_semantics.specs.Data.{Data, Items, Fields, boolean, text, list, rec, no_items, item, no_fields, field}
 use Rattle.pb_semantics.specs.Kind.{Shape, ok_shape, failure_shape}
 use Rattle.pb_semantics.specs.Keeps.{keeps}
 use Rattle.pb_semantics.specs.Signature.{ParameterData}
-use Rattle.pb_language.specs.Expression.{Name, Expression, Expressions, Parts, no_parts, part}
+use Rattle.pb_language.specs.Expression.{Name, Expression, Parts, no_parts, part}
 use Rattle.pb_language.specs.World.{World}
 use Rattle.pb_language.specs.Evaluation.{Stuck, wrong_sort, Outcome, value, stuck, then_go, put_part, given, eval, eval_all, eval_parts}
 use Rattle.pb_language.specs.Task.{Action, call_of, debug, set_fact, assertion, failure_of, Task}

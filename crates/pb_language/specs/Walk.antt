@@ -1,5 +1,5 @@
 -- The environments of a row: one for each way to a task, and those of its two exits.
-use Rattle.std.specs.Prelude.{ℕ, List, [], ◌∷◌, ◌++◌, Bool, cond}
+use Rattle.std.specs.Prelude.{List, [], ◌∷◌, ◌++◌, Bool, cond}
 use Rattle.pb_semantics.specs.Kind.{Slots}
 use Rattle.pb_semantics.specs.Join.{join_slots}
 use Rattle.pb_language.specs.Task.{Task, Handlers, no_handlers, handler, Row, end, task, flush, block}

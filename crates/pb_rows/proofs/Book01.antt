@@ -1,16 +1,12 @@
 -- Cases of book, computed.
-use Rattle.std.specs.Prelude.{◌≡◌, refl, ℕ, zero, suc, pos, negsuc, List, [], ◌∷◌, ◌++◌, true, false, Option, Some, None, codes}
-use Rattle.std.specs.Fmt.{digits}
-use Rattle.pb_semantics.specs.Data.{Data, null, boolean, int, text, list, rec, opaque, no_items, item, no_fields, field}
-use Rattle.pb_semantics.specs.Kind.{booleans, ints, texts, lists, recs, no_slots, slot}
-use Rattle.pb_language.specs.Expression.{equal, less, at_most, more, at_least, is_failed, is_changed, is_skipped, named_host, this_host, item_host, group_member, literal, path, hostvars_alone, negation, conjunction, disjunction, comparison, membership, in_batch, defined, undefinable, path_status, value_status, path_or, value_or, length_of, joined_by, concatenation, list_of, record_of, variable, other, member, no_expressions, expression, no_parts, part}
-use Rattle.pb_language.specs.Book.{not_given, not_well_formed, conditions_are, module_work, debug_work, set_fact_work, assert_work, fail_work, no_steps, task_step, block_step, flush_step, host_count, percentage, Book, Registry}
+use Rattle.std.specs.Prelude.{◌≡◌, refl, [], ◌∷◌, ◌++◌, true, Some, None, codes}
+use Rattle.pb_semantics.specs.Data.{boolean, text, no_fields}
+use Rattle.pb_language.specs.Expression.{literal, no_expressions, expression, no_parts, part}
+use Rattle.pb_language.specs.Book.{module_work, debug_work, no_steps, task_step, host_count, percentage, Book, Registry}
 use Rattle.pb_language.specs.Builtins.{builtins}
-use Rattle.pb_language.specs.Give.{object, unreachable}
 use Rattle.pb_language.specs.Judged.{judged}
 use Rattle.pb_language.specs.Program.{Inventory}
 use Rattle.pb_language.specs.Verdict.{accepted, refused}
-use Rattle.pb_rows.specs.Recaps.{recaps_of}
 
 -- book_005: hosts an empty list
 abbrev book_005_book : Book
@@ -155,15 +151,15 @@ book_135_registry = (builtins ++ ([]))
 book_135 : judged book_135_registry book_135_inventory book_135_book ≡ accepted 1
 book_135 = refl
 
--- book_149: notify { x
-abbrev book_149_book : Book
-book_149_book = (record { line = 1; pattern = ((codes "all") ∷ []); gathering = None; vars = (no_parts); is_linear = true; serial = ([]); pre_tasks = (no_steps); tasks = (task_step (record { line = 2; work = (module_work (codes "ping") (no_parts)); condition = (no_expressions); loop = None; register = None; vars = (no_parts); notify = ((123 ∷ 32 ∷ 120 ∷ []) ∷ []); changed_when = None; failed_when = None; ignore_errors = None }) (no_steps)); post_tasks = (no_steps); handlers = (record { work = (record { line = 3; work = (module_work (codes "ping") (no_parts)); condition = (no_expressions); loop = None; register = None; vars = (no_parts); notify = ([]); changed_when = None; failed_when = None; ignore_errors = None }); name = (Some (codes "h")); topics = ((123 ∷ 32 ∷ 120 ∷ []) ∷ (125 ∷ 125 ∷ 32 ∷ 120 ∷ []) ∷ []) } ∷ []) } ∷ [])
+-- book_150: handler named { x
+abbrev book_150_book : Book
+book_150_book = (record { line = 1; pattern = ((codes "all") ∷ []); gathering = None; vars = (no_parts); is_linear = true; serial = ([]); pre_tasks = (no_steps); tasks = (no_steps); post_tasks = (no_steps); handlers = (record { work = (record { line = 2; work = (module_work (codes "ping") (no_parts)); condition = (no_expressions); loop = None; register = None; vars = (no_parts); notify = ([]); changed_when = None; failed_when = None; ignore_errors = None }); name = (Some (123 ∷ 32 ∷ 120 ∷ [])); topics = ([]) } ∷ []) } ∷ [])
 
-abbrev book_149_inventory : Inventory
-book_149_inventory = record { hosts = (record { name = (codes "h1"); variables = (no_fields) } ∷ []); groups = (record { name = (codes "all"); hosts = ((codes "h1") ∷ []) } ∷ record { name = (codes "ungrouped"); hosts = ((codes "h1") ∷ []) } ∷ []) }
+abbrev book_150_inventory : Inventory
+book_150_inventory = record { hosts = (record { name = (codes "h1"); variables = (no_fields) } ∷ []); groups = (record { name = (codes "all"); hosts = ((codes "h1") ∷ []) } ∷ record { name = (codes "ungrouped"); hosts = ((codes "h1") ∷ []) } ∷ []) }
 
-abbrev book_149_registry : Registry
-book_149_registry = (builtins ++ ([]))
+abbrev book_150_registry : Registry
+book_150_registry = (builtins ++ ([]))
 
-book_149 : judged book_149_registry book_149_inventory book_149_book ≡ accepted 2
-book_149 = refl
+book_150 : judged book_150_registry book_150_inventory book_150_book ≡ accepted 0
+book_150 = refl

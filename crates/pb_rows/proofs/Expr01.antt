@@ -1,16 +1,12 @@
 -- Cases of expr, computed.
-use Rattle.std.specs.Prelude.{◌≡◌, refl, ℕ, zero, suc, pos, negsuc, List, [], ◌∷◌, ◌++◌, true, false, Option, Some, None, codes}
-use Rattle.std.specs.Fmt.{digits}
-use Rattle.pb_semantics.specs.Data.{Data, null, boolean, int, text, list, rec, opaque, no_items, item, no_fields, field}
-use Rattle.pb_semantics.specs.Kind.{booleans, ints, texts, lists, recs, no_slots, slot}
-use Rattle.pb_language.specs.Expression.{equal, less, at_most, more, at_least, is_failed, is_changed, is_skipped, named_host, this_host, item_host, group_member, literal, path, hostvars_alone, negation, conjunction, disjunction, comparison, membership, in_batch, defined, undefinable, path_status, value_status, path_or, value_or, length_of, joined_by, concatenation, list_of, record_of, variable, other, member, no_expressions, expression, no_parts, part}
-use Rattle.pb_language.specs.Book.{not_given, not_well_formed, conditions_are, module_work, debug_work, set_fact_work, assert_work, fail_work, no_steps, task_step, block_step, flush_step, host_count, percentage, Book, Registry}
+use Rattle.std.specs.Prelude.{◌≡◌, refl, pos, negsuc, [], ◌∷◌, ◌++◌, true, Some, None, codes}
+use Rattle.pb_semantics.specs.Data.{null, boolean, int, text, no_fields, field}
+use Rattle.pb_language.specs.Expression.{equal, less, literal, path, negation, comparison, membership, list_of, variable, no_expressions, expression, no_parts, part}
+use Rattle.pb_language.specs.Book.{module_work, no_steps, task_step, Book, Registry}
 use Rattle.pb_language.specs.Builtins.{builtins}
-use Rattle.pb_language.specs.Give.{object, unreachable}
 use Rattle.pb_language.specs.Judged.{judged}
 use Rattle.pb_language.specs.Program.{Inventory}
 use Rattle.pb_language.specs.Verdict.{accepted, refused}
-use Rattle.pb_rows.specs.Recaps.{recaps_of}
 
 -- expr_007: when
 abbrev expr_007_book : Book
@@ -51,19 +47,6 @@ expr_016_registry = (builtins ++ ([]))
 expr_016 : judged expr_016_registry expr_016_inventory expr_016_book ≡ refused (record { code = 4; line = 3; host = (Some (codes "h1")) })
 expr_016 = refl
 
--- expr_017: when
-abbrev expr_017_book : Book
-expr_017_book = (record { line = 1; pattern = ((codes "all") ∷ []); gathering = None; vars = (no_parts); is_linear = true; serial = ([]); pre_tasks = (no_steps); tasks = (task_step (record { line = 2; work = (module_work (codes "command") (part (codes "cmd") (literal (text (codes "x"))) (no_parts))); condition = (no_expressions); loop = None; register = (Some (codes "out")); vars = (no_parts); notify = ([]); changed_when = None; failed_when = None; ignore_errors = None }) (task_step (record { line = 3; work = (module_work (codes "ping") (no_parts)); condition = (expression (literal (text (97 ∷ 39 ∷ 98 ∷ []))) (no_expressions)); loop = None; register = None; vars = (no_parts); notify = ([]); changed_when = None; failed_when = None; ignore_errors = None }) (no_steps))); post_tasks = (no_steps); handlers = ([]) } ∷ [])
-
-abbrev expr_017_inventory : Inventory
-expr_017_inventory = record { hosts = (record { name = (codes "h1"); variables = (field (codes "inv") (int (pos 3)) (no_fields)) } ∷ []); groups = (record { name = (codes "all"); hosts = ((codes "h1") ∷ []) } ∷ record { name = (codes "ungrouped"); hosts = ((codes "h1") ∷ []) } ∷ []) }
-
-abbrev expr_017_registry : Registry
-expr_017_registry = (builtins ++ ([]))
-
-expr_017 : judged expr_017_registry expr_017_inventory expr_017_book ≡ refused (record { code = 4; line = 3; host = (Some (codes "h1")) })
-expr_017 = refl
-
 -- expr_019: when
 abbrev expr_019_book : Book
 expr_019_book = (record { line = 1; pattern = ((codes "all") ∷ []); gathering = None; vars = (no_parts); is_linear = true; serial = ([]); pre_tasks = (no_steps); tasks = (task_step (record { line = 2; work = (module_work (codes "command") (part (codes "cmd") (literal (text (codes "x"))) (no_parts))); condition = (no_expressions); loop = None; register = (Some (codes "out")); vars = (no_parts); notify = ([]); changed_when = None; failed_when = None; ignore_errors = None }) (task_step (record { line = 3; work = (module_work (codes "ping") (no_parts)); condition = (expression (literal (int (negsuc 0))) (no_expressions)); loop = None; register = None; vars = (no_parts); notify = ([]); changed_when = None; failed_when = None; ignore_errors = None }) (no_steps))); post_tasks = (no_steps); handlers = ([]) } ∷ [])
@@ -89,19 +72,6 @@ expr_023_registry = (builtins ++ ([]))
 
 expr_023 : judged expr_023_registry expr_023_inventory expr_023_book ≡ refused (record { code = 4; line = 3; host = (Some (codes "h1")) })
 expr_023 = refl
-
--- expr_029: when
-abbrev expr_029_book : Book
-expr_029_book = (record { line = 1; pattern = ((codes "all") ∷ []); gathering = None; vars = (no_parts); is_linear = true; serial = ([]); pre_tasks = (no_steps); tasks = (task_step (record { line = 2; work = (module_work (codes "command") (part (codes "cmd") (literal (text (codes "x"))) (no_parts))); condition = (no_expressions); loop = None; register = (Some (codes "out")); vars = (no_parts); notify = ([]); changed_when = None; failed_when = None; ignore_errors = None }) (task_step (record { line = 3; work = (module_work (codes "ping") (no_parts)); condition = (expression (literal (int (negsuc 9223372036854775807))) (no_expressions)); loop = None; register = None; vars = (no_parts); notify = ([]); changed_when = None; failed_when = None; ignore_errors = None }) (no_steps))); post_tasks = (no_steps); handlers = ([]) } ∷ [])
-
-abbrev expr_029_inventory : Inventory
-expr_029_inventory = record { hosts = (record { name = (codes "h1"); variables = (field (codes "inv") (int (pos 3)) (no_fields)) } ∷ []); groups = (record { name = (codes "all"); hosts = ((codes "h1") ∷ []) } ∷ record { name = (codes "ungrouped"); hosts = ((codes "h1") ∷ []) } ∷ []) }
-
-abbrev expr_029_registry : Registry
-expr_029_registry = (builtins ++ ([]))
-
-expr_029 : judged expr_029_registry expr_029_inventory expr_029_book ≡ refused (record { code = 4; line = 3; host = (Some (codes "h1")) })
-expr_029 = refl
 
 -- expr_031: when
 abbrev expr_031_book : Book
@@ -155,15 +125,41 @@ expr_035_registry = (builtins ++ ([]))
 expr_035 : judged expr_035_registry expr_035_inventory expr_035_book ≡ refused (record { code = 1; line = 3; host = (Some (codes "h1")) })
 expr_035 = refl
 
--- expr_048: when
-abbrev expr_048_book : Book
-expr_048_book = (record { line = 1; pattern = ((codes "all") ∷ []); gathering = None; vars = (no_parts); is_linear = true; serial = ([]); pre_tasks = (no_steps); tasks = (task_step (record { line = 2; work = (module_work (codes "command") (part (codes "cmd") (literal (text (codes "x"))) (no_parts))); condition = (no_expressions); loop = None; register = (Some (codes "out")); vars = (no_parts); notify = ([]); changed_when = None; failed_when = None; ignore_errors = None }) (task_step (record { line = 3; work = (module_work (codes "ping") (no_parts)); condition = (expression (list_of (expression (literal (int (pos 1))) (expression (literal (text (codes "a"))) (expression (list_of (expression (literal (boolean true)) (no_expressions))) (no_expressions))))) (no_expressions)); loop = None; register = None; vars = (no_parts); notify = ([]); changed_when = None; failed_when = None; ignore_errors = None }) (no_steps))); post_tasks = (no_steps); handlers = ([]) } ∷ [])
+-- expr_049: when
+abbrev expr_049_book : Book
+expr_049_book = (record { line = 1; pattern = ((codes "all") ∷ []); gathering = None; vars = (no_parts); is_linear = true; serial = ([]); pre_tasks = (no_steps); tasks = (task_step (record { line = 2; work = (module_work (codes "command") (part (codes "cmd") (literal (text (codes "x"))) (no_parts))); condition = (no_expressions); loop = None; register = (Some (codes "out")); vars = (no_parts); notify = ([]); changed_when = None; failed_when = None; ignore_errors = None }) (task_step (record { line = 3; work = (module_work (codes "ping") (no_parts)); condition = (expression (comparison less (literal (int (pos 1))) (literal (int (pos 2)))) (no_expressions)); loop = None; register = None; vars = (no_parts); notify = ([]); changed_when = None; failed_when = None; ignore_errors = None }) (no_steps))); post_tasks = (no_steps); handlers = ([]) } ∷ [])
 
-abbrev expr_048_inventory : Inventory
-expr_048_inventory = record { hosts = (record { name = (codes "h1"); variables = (field (codes "inv") (int (pos 3)) (no_fields)) } ∷ []); groups = (record { name = (codes "all"); hosts = ((codes "h1") ∷ []) } ∷ record { name = (codes "ungrouped"); hosts = ((codes "h1") ∷ []) } ∷ []) }
+abbrev expr_049_inventory : Inventory
+expr_049_inventory = record { hosts = (record { name = (codes "h1"); variables = (field (codes "inv") (int (pos 3)) (no_fields)) } ∷ []); groups = (record { name = (codes "all"); hosts = ((codes "h1") ∷ []) } ∷ record { name = (codes "ungrouped"); hosts = ((codes "h1") ∷ []) } ∷ []) }
 
-abbrev expr_048_registry : Registry
-expr_048_registry = (builtins ++ ([]))
+abbrev expr_049_registry : Registry
+expr_049_registry = (builtins ++ ([]))
 
-expr_048 : judged expr_048_registry expr_048_inventory expr_048_book ≡ refused (record { code = 4; line = 3; host = (Some (codes "h1")) })
-expr_048 = refl
+expr_049 : judged expr_049_registry expr_049_inventory expr_049_book ≡ accepted 2
+expr_049 = refl
+
+-- expr_053: when
+abbrev expr_053_book : Book
+expr_053_book = (record { line = 1; pattern = ((codes "all") ∷ []); gathering = None; vars = (no_parts); is_linear = true; serial = ([]); pre_tasks = (no_steps); tasks = (task_step (record { line = 2; work = (module_work (codes "command") (part (codes "cmd") (literal (text (codes "x"))) (no_parts))); condition = (no_expressions); loop = None; register = (Some (codes "out")); vars = (no_parts); notify = ([]); changed_when = None; failed_when = None; ignore_errors = None }) (task_step (record { line = 3; work = (module_work (codes "ping") (no_parts)); condition = (expression (negation (comparison equal (literal (int (pos 1))) (literal (int (pos 2))))) (no_expressions)); loop = None; register = None; vars = (no_parts); notify = ([]); changed_when = None; failed_when = None; ignore_errors = None }) (no_steps))); post_tasks = (no_steps); handlers = ([]) } ∷ [])
+
+abbrev expr_053_inventory : Inventory
+expr_053_inventory = record { hosts = (record { name = (codes "h1"); variables = (field (codes "inv") (int (pos 3)) (no_fields)) } ∷ []); groups = (record { name = (codes "all"); hosts = ((codes "h1") ∷ []) } ∷ record { name = (codes "ungrouped"); hosts = ((codes "h1") ∷ []) } ∷ []) }
+
+abbrev expr_053_registry : Registry
+expr_053_registry = (builtins ++ ([]))
+
+expr_053 : judged expr_053_registry expr_053_inventory expr_053_book ≡ accepted 2
+expr_053 = refl
+
+-- expr_055: when
+abbrev expr_055_book : Book
+expr_055_book = (record { line = 1; pattern = ((codes "all") ∷ []); gathering = None; vars = (no_parts); is_linear = true; serial = ([]); pre_tasks = (no_steps); tasks = (task_step (record { line = 2; work = (module_work (codes "command") (part (codes "cmd") (literal (text (codes "x"))) (no_parts))); condition = (no_expressions); loop = None; register = (Some (codes "out")); vars = (no_parts); notify = ([]); changed_when = None; failed_when = None; ignore_errors = None }) (task_step (record { line = 3; work = (module_work (codes "ping") (no_parts)); condition = (expression (membership (literal (int (pos 1))) (list_of (expression (literal (int (pos 1))) (no_expressions)))) (no_expressions)); loop = None; register = None; vars = (no_parts); notify = ([]); changed_when = None; failed_when = None; ignore_errors = None }) (no_steps))); post_tasks = (no_steps); handlers = ([]) } ∷ [])
+
+abbrev expr_055_inventory : Inventory
+expr_055_inventory = record { hosts = (record { name = (codes "h1"); variables = (field (codes "inv") (int (pos 3)) (no_fields)) } ∷ []); groups = (record { name = (codes "all"); hosts = ((codes "h1") ∷ []) } ∷ record { name = (codes "ungrouped"); hosts = ((codes "h1") ∷ []) } ∷ []) }
+
+abbrev expr_055_registry : Registry
+expr_055_registry = (builtins ++ ([]))
+
+expr_055 : judged expr_055_registry expr_055_inventory expr_055_book ≡ accepted 2
+expr_055 = refl

@@ -1,12 +1,10 @@
 -- Cases of pattern, computed.
-use Rattle.std.specs.Prelude.{◌≡◌, refl, ℕ, zero, suc, pos, negsuc, List, [], ◌∷◌, ◌++◌, true, false, Option, Some, None, codes}
+use Rattle.std.specs.Prelude.{◌≡◌, refl, [], ◌∷◌, ◌++◌, true, None, codes}
 use Rattle.std.specs.Fmt.{digits}
-use Rattle.pb_semantics.specs.Data.{Data, null, boolean, int, text, list, rec, opaque, no_items, item, no_fields, field}
-use Rattle.pb_semantics.specs.Kind.{booleans, ints, texts, lists, recs, no_slots, slot}
-use Rattle.pb_language.specs.Expression.{equal, less, at_most, more, at_least, is_failed, is_changed, is_skipped, named_host, this_host, item_host, group_member, literal, path, hostvars_alone, negation, conjunction, disjunction, comparison, membership, in_batch, defined, undefinable, path_status, value_status, path_or, value_or, length_of, joined_by, concatenation, list_of, record_of, variable, other, member, no_expressions, expression, no_parts, part}
-use Rattle.pb_language.specs.Book.{not_given, not_well_formed, conditions_are, module_work, debug_work, set_fact_work, assert_work, fail_work, no_steps, task_step, block_step, flush_step, host_count, percentage, Book, Registry}
+use Rattle.pb_semantics.specs.Data.{no_fields}
+use Rattle.pb_language.specs.Expression.{no_expressions, no_parts}
+use Rattle.pb_language.specs.Book.{module_work, no_steps, task_step, Book, Registry}
 use Rattle.pb_language.specs.Builtins.{builtins}
-use Rattle.pb_language.specs.Give.{object, unreachable}
 use Rattle.pb_language.specs.Judged.{judged}
 use Rattle.pb_language.specs.Program.{Inventory}
 use Rattle.pb_language.specs.Verdict.{accepted, refused}
@@ -121,45 +119,6 @@ pattern_013_registry = (builtins ++ ([]))
 pattern_013 : judged pattern_013_registry pattern_013_inventory pattern_013_book ≡ accepted 3
 pattern_013 = refl
 
--- pattern_015: pattern "web::db"
-abbrev pattern_015_book : Book
-pattern_015_book = (record { line = 1; pattern = ((codes "web") ∷ ([]) ∷ (codes "db") ∷ []); gathering = None; vars = (no_parts); is_linear = true; serial = ([]); pre_tasks = (no_steps); tasks = (task_step (record { line = 2; work = (module_work (codes "ping") (no_parts)); condition = (no_expressions); loop = None; register = None; vars = (no_parts); notify = ([]); changed_when = None; failed_when = None; ignore_errors = None }) (no_steps)); post_tasks = (no_steps); handlers = ([]) } ∷ [])
-
-abbrev pattern_015_inventory : Inventory
-pattern_015_inventory = record { hosts = (record { name = (codes "h3"); variables = (no_fields) } ∷ record { name = (codes "h1"); variables = (no_fields) } ∷ record { name = (codes "h2"); variables = (no_fields) } ∷ []); groups = (record { name = (codes "all"); hosts = ((codes "h3") ∷ (codes "h1") ∷ (codes "h2") ∷ []) } ∷ record { name = (codes "db"); hosts = ((codes "h3") ∷ (codes "h1") ∷ []) } ∷ record { name = (codes "h2"); hosts = ((codes "h3") ∷ []) } ∷ record { name = (codes "ungrouped"); hosts = ([]) } ∷ record { name = (codes "web"); hosts = ((codes "h1") ∷ (codes "h2") ∷ []) } ∷ []) }
-
-abbrev pattern_015_registry : Registry
-pattern_015_registry = (builtins ++ ([]))
-
-pattern_015 : judged pattern_015_registry pattern_015_inventory pattern_015_book ≡ refused (record { code = 6; line = 1; host = None })
-pattern_015 = refl
-
--- pattern_016: pattern "web::db", all break
-abbrev pattern_016_book : Book
-pattern_016_book = (record { line = 1; pattern = ((codes "web") ∷ ([]) ∷ (codes "db") ∷ []); gathering = None; vars = (no_parts); is_linear = true; serial = ([]); pre_tasks = (no_steps); tasks = (task_step (record { line = 2; work = (module_work (codes "ping") (no_parts)); condition = (no_expressions); loop = None; register = None; vars = (no_parts); notify = ([]); changed_when = None; failed_when = None; ignore_errors = None }) (no_steps)); post_tasks = (no_steps); handlers = ([]) } ∷ [])
-
-abbrev pattern_016_inventory : Inventory
-pattern_016_inventory = record { hosts = (record { name = (codes "h3"); variables = (no_fields) } ∷ record { name = (codes "h1"); variables = (no_fields) } ∷ record { name = (codes "h2"); variables = (no_fields) } ∷ []); groups = (record { name = (codes "all"); hosts = ((codes "h3") ∷ (codes "h1") ∷ (codes "h2") ∷ []) } ∷ record { name = (codes "db"); hosts = ((codes "h3") ∷ (codes "h1") ∷ []) } ∷ record { name = (codes "h2"); hosts = ((codes "h3") ∷ []) } ∷ record { name = (codes "ungrouped"); hosts = ([]) } ∷ record { name = (codes "web"); hosts = ((codes "h1") ∷ (codes "h2") ∷ []) } ∷ []) }
-
-abbrev pattern_016_registry : Registry
-pattern_016_registry = (builtins ++ ([]))
-
-pattern_016 : judged pattern_016_registry pattern_016_inventory pattern_016_book ≡ refused (record { code = 6; line = 1; host = None })
-pattern_016 = refl
-
--- pattern_020: pattern ":", all break
-abbrev pattern_020_book : Book
-pattern_020_book = (record { line = 1; pattern = (([]) ∷ ([]) ∷ []); gathering = None; vars = (no_parts); is_linear = true; serial = ([]); pre_tasks = (no_steps); tasks = (task_step (record { line = 2; work = (module_work (codes "ping") (no_parts)); condition = (no_expressions); loop = None; register = None; vars = (no_parts); notify = ([]); changed_when = None; failed_when = None; ignore_errors = None }) (no_steps)); post_tasks = (no_steps); handlers = ([]) } ∷ [])
-
-abbrev pattern_020_inventory : Inventory
-pattern_020_inventory = record { hosts = (record { name = (codes "h3"); variables = (no_fields) } ∷ record { name = (codes "h1"); variables = (no_fields) } ∷ record { name = (codes "h2"); variables = (no_fields) } ∷ []); groups = (record { name = (codes "all"); hosts = ((codes "h3") ∷ (codes "h1") ∷ (codes "h2") ∷ []) } ∷ record { name = (codes "db"); hosts = ((codes "h3") ∷ (codes "h1") ∷ []) } ∷ record { name = (codes "h2"); hosts = ((codes "h3") ∷ []) } ∷ record { name = (codes "ungrouped"); hosts = ([]) } ∷ record { name = (codes "web"); hosts = ((codes "h1") ∷ (codes "h2") ∷ []) } ∷ []) }
-
-abbrev pattern_020_registry : Registry
-pattern_020_registry = (builtins ++ ([]))
-
-pattern_020 : judged pattern_020_registry pattern_020_inventory pattern_020_book ≡ refused (record { code = 6; line = 1; host = None })
-pattern_020 = refl
-
 -- pattern_021: pattern ","
 abbrev pattern_021_book : Book
 pattern_021_book = (record { line = 1; pattern = (([]) ∷ ([]) ∷ []); gathering = None; vars = (no_parts); is_linear = true; serial = ([]); pre_tasks = (no_steps); tasks = (task_step (record { line = 2; work = (module_work (codes "ping") (no_parts)); condition = (no_expressions); loop = None; register = None; vars = (no_parts); notify = ([]); changed_when = None; failed_when = None; ignore_errors = None }) (no_steps)); post_tasks = (no_steps); handlers = ([]) } ∷ [])
@@ -172,3 +131,43 @@ pattern_021_registry = (builtins ++ ([]))
 
 pattern_021 : judged pattern_021_registry pattern_021_inventory pattern_021_book ≡ refused (record { code = 6; line = 1; host = None })
 pattern_021 = refl
+
+-- pattern_023: pattern "zz"
+abbrev pattern_023_book : Book
+pattern_023_book = (record { line = 1; pattern = ((codes "zz") ∷ []); gathering = None; vars = (no_parts); is_linear = true; serial = ([]); pre_tasks = (no_steps); tasks = (task_step (record { line = 2; work = (module_work (codes "ping") (no_parts)); condition = (no_expressions); loop = None; register = None; vars = (no_parts); notify = ([]); changed_when = None; failed_when = None; ignore_errors = None }) (no_steps)); post_tasks = (no_steps); handlers = ([]) } ∷ [])
+
+abbrev pattern_023_inventory : Inventory
+pattern_023_inventory = record { hosts = (record { name = (codes "h3"); variables = (no_fields) } ∷ record { name = (codes "h1"); variables = (no_fields) } ∷ record { name = (codes "h2"); variables = (no_fields) } ∷ []); groups = (record { name = (codes "all"); hosts = ((codes "h3") ∷ (codes "h1") ∷ (codes "h2") ∷ []) } ∷ record { name = (codes "db"); hosts = ((codes "h3") ∷ (codes "h1") ∷ []) } ∷ record { name = (codes "h2"); hosts = ((codes "h3") ∷ []) } ∷ record { name = (codes "ungrouped"); hosts = ([]) } ∷ record { name = (codes "web"); hosts = ((codes "h1") ∷ (codes "h2") ∷ []) } ∷ []) }
+
+abbrev pattern_023_registry : Registry
+pattern_023_registry = (builtins ++ ([]))
+
+pattern_023 : judged pattern_023_registry pattern_023_inventory pattern_023_book ≡ refused (record { code = 6; line = 1; host = None })
+pattern_023 = refl
+
+-- pattern_027: pattern "h2"
+abbrev pattern_027_book : Book
+pattern_027_book = (record { line = 1; pattern = ((codes "h2") ∷ []); gathering = None; vars = (no_parts); is_linear = true; serial = ([]); pre_tasks = (no_steps); tasks = (task_step (record { line = 2; work = (module_work (codes "ping") (no_parts)); condition = (no_expressions); loop = None; register = None; vars = (no_parts); notify = ([]); changed_when = None; failed_when = None; ignore_errors = None }) (no_steps)); post_tasks = (no_steps); handlers = ([]) } ∷ [])
+
+abbrev pattern_027_inventory : Inventory
+pattern_027_inventory = record { hosts = (record { name = (codes "h3"); variables = (no_fields) } ∷ record { name = (codes "h1"); variables = (no_fields) } ∷ record { name = (codes "h2"); variables = (no_fields) } ∷ []); groups = (record { name = (codes "all"); hosts = ((codes "h3") ∷ (codes "h1") ∷ (codes "h2") ∷ []) } ∷ record { name = (codes "db"); hosts = ((codes "h3") ∷ (codes "h1") ∷ []) } ∷ record { name = (codes "h2"); hosts = ((codes "h3") ∷ []) } ∷ record { name = (codes "ungrouped"); hosts = ([]) } ∷ record { name = (codes "web"); hosts = ((codes "h1") ∷ (codes "h2") ∷ []) } ∷ []) }
+
+abbrev pattern_027_registry : Registry
+pattern_027_registry = (builtins ++ ([]))
+
+pattern_027 : judged pattern_027_registry pattern_027_inventory pattern_027_book ≡ accepted 1
+pattern_027 = refl
+
+-- pattern_028: pattern "h2", all break
+abbrev pattern_028_book : Book
+pattern_028_book = (record { line = 1; pattern = ((codes "h2") ∷ []); gathering = None; vars = (no_parts); is_linear = true; serial = ([]); pre_tasks = (no_steps); tasks = (task_step (record { line = 2; work = (module_work (codes "ping") (no_parts)); condition = (no_expressions); loop = None; register = None; vars = (no_parts); notify = ([]); changed_when = None; failed_when = None; ignore_errors = None }) (no_steps)); post_tasks = (no_steps); handlers = ([]) } ∷ [])
+
+abbrev pattern_028_inventory : Inventory
+pattern_028_inventory = record { hosts = (record { name = (codes "h3"); variables = (no_fields) } ∷ record { name = (codes "h1"); variables = (no_fields) } ∷ record { name = (codes "h2"); variables = (no_fields) } ∷ []); groups = (record { name = (codes "all"); hosts = ((codes "h3") ∷ (codes "h1") ∷ (codes "h2") ∷ []) } ∷ record { name = (codes "db"); hosts = ((codes "h3") ∷ (codes "h1") ∷ []) } ∷ record { name = (codes "h2"); hosts = ((codes "h3") ∷ []) } ∷ record { name = (codes "ungrouped"); hosts = ([]) } ∷ record { name = (codes "web"); hosts = ((codes "h1") ∷ (codes "h2") ∷ []) } ∷ []) }
+
+abbrev pattern_028_registry : Registry
+pattern_028_registry = (builtins ++ ([]))
+
+pattern_028 : recaps_of pattern_028_registry pattern_028_inventory pattern_028_book 1 (([]) ∷ ([]) ∷ ([]) ∷ []) ≡ (record { ok = 0; changed = 0; unreachable = 0; failed = 1; skipped = 0; rescued = 0; ignored = 0 } ∷ record { ok = 0; changed = 0; unreachable = 0; failed = 0; skipped = 0; rescued = 0; ignored = 0 } ∷ record { ok = 0; changed = 0; unreachable = 0; failed = 0; skipped = 0; rescued = 0; ignored = 0 } ∷ [])
+unfolding digits
+pattern_028 = refl

@@ -1,172 +1,172 @@
 -- Cases of row, computed.
-use Rattle.std.specs.Prelude.{◌≡◌, refl, ℕ, zero, suc, pos, negsuc, List, [], ◌∷◌, ◌++◌, true, false, Option, Some, None, codes}
+use Rattle.std.specs.Prelude.{◌≡◌, refl, pos, [], ◌∷◌, ◌++◌, true, false, Some, None, codes}
 use Rattle.std.specs.Fmt.{digits}
-use Rattle.pb_semantics.specs.Data.{Data, null, boolean, int, text, list, rec, opaque, no_items, item, no_fields, field}
-use Rattle.pb_semantics.specs.Kind.{booleans, ints, texts, lists, recs, no_slots, slot}
-use Rattle.pb_language.specs.Expression.{equal, less, at_most, more, at_least, is_failed, is_changed, is_skipped, named_host, this_host, item_host, group_member, literal, path, hostvars_alone, negation, conjunction, disjunction, comparison, membership, in_batch, defined, undefinable, path_status, value_status, path_or, value_or, length_of, joined_by, concatenation, list_of, record_of, variable, other, member, no_expressions, expression, no_parts, part}
-use Rattle.pb_language.specs.Book.{not_given, not_well_formed, conditions_are, module_work, debug_work, set_fact_work, assert_work, fail_work, no_steps, task_step, block_step, flush_step, host_count, percentage, Book, Registry}
+use Rattle.pb_semantics.specs.Data.{boolean, int, text, list, rec, no_items, item, no_fields, field}
+use Rattle.pb_language.specs.Expression.{is_skipped, literal, path, negation, membership, path_status, variable, no_expressions, expression, no_parts, part}
+use Rattle.pb_language.specs.Book.{module_work, debug_work, no_steps, task_step, block_step, Book, Registry}
 use Rattle.pb_language.specs.Builtins.{builtins}
-use Rattle.pb_language.specs.Give.{object, unreachable}
+use Rattle.pb_language.specs.Give.{object}
 use Rattle.pb_language.specs.Judged.{judged}
 use Rattle.pb_language.specs.Program.{Inventory}
 use Rattle.pb_language.specs.Verdict.{accepted, refused}
 use Rattle.pb_rows.specs.Recaps.{recaps_of}
 
--- row_empty_book: a book of no play does nothing
-abbrev row_empty_book_book : Book
-row_empty_book_book = ([])
+-- row_empty: an empty book
+abbrev row_empty_book : Book
+row_empty_book = ([])
 
-abbrev row_empty_book_inventory : Inventory
-row_empty_book_inventory = record { hosts = (record { name = (codes "h1"); variables = (no_fields) } ∷ []); groups = (record { name = (codes "all"); hosts = ((codes "h1") ∷ []) } ∷ record { name = (codes "ungrouped"); hosts = ((codes "h1") ∷ []) } ∷ []) }
+abbrev row_empty_inventory : Inventory
+row_empty_inventory = record { hosts = (record { name = (codes "h1"); variables = (no_fields) } ∷ []); groups = (record { name = (codes "all"); hosts = ((codes "h1") ∷ []) } ∷ record { name = (codes "ungrouped"); hosts = ((codes "h1") ∷ []) } ∷ []) }
 
-abbrev row_empty_book_registry : Registry
-row_empty_book_registry = (builtins ++ ([]))
+abbrev row_empty_registry : Registry
+row_empty_registry = (builtins ++ ([]))
 
-row_empty_book : judged row_empty_book_registry row_empty_book_inventory row_empty_book_book ≡ accepted 0
-row_empty_book = refl
+row_empty : judged row_empty_registry row_empty_inventory row_empty_book ≡ accepted 0
+row_empty = refl
 
--- row_empty_book_run: a book of no play does nothing
-abbrev row_empty_book_run_book : Book
-row_empty_book_run_book = ([])
+-- row_empty_run: an empty book runs
+abbrev row_empty_run_book : Book
+row_empty_run_book = ([])
 
-abbrev row_empty_book_run_inventory : Inventory
-row_empty_book_run_inventory = record { hosts = (record { name = (codes "h1"); variables = (no_fields) } ∷ []); groups = (record { name = (codes "all"); hosts = ((codes "h1") ∷ []) } ∷ record { name = (codes "ungrouped"); hosts = ((codes "h1") ∷ []) } ∷ []) }
+abbrev row_empty_run_inventory : Inventory
+row_empty_run_inventory = record { hosts = (record { name = (codes "h1"); variables = (no_fields) } ∷ []); groups = (record { name = (codes "all"); hosts = ((codes "h1") ∷ []) } ∷ record { name = (codes "ungrouped"); hosts = ((codes "h1") ∷ []) } ∷ []) }
 
-abbrev row_empty_book_run_registry : Registry
-row_empty_book_run_registry = (builtins ++ ([]))
+abbrev row_empty_run_registry : Registry
+row_empty_run_registry = (builtins ++ ([]))
 
-row_empty_book_run : recaps_of row_empty_book_run_registry row_empty_book_run_inventory row_empty_book_run_book 5 (([]) ∷ []) ≡ (record { ok = 0; changed = 0; unreachable = 0; failed = 0; skipped = 0; rescued = 0; ignored = 0 } ∷ [])
+row_empty_run : recaps_of row_empty_run_registry row_empty_run_inventory row_empty_run_book 5 (([]) ∷ []) ≡ (record { ok = 0; changed = 0; unreachable = 0; failed = 0; skipped = 0; rescued = 0; ignored = 0 } ∷ [])
 unfolding digits
-row_empty_book_run = refl
+row_empty_run = refl
 
--- row_command_register_debug: a field of a registered command is shown
-abbrev row_command_register_debug_book : Book
-row_command_register_debug_book = (record { line = 1; pattern = ((codes "all") ∷ []); gathering = None; vars = (no_parts); is_linear = true; serial = ([]); pre_tasks = (no_steps); tasks = (task_step (record { line = 2; work = (module_work (codes "command") (part (codes "cmd") (literal (text (codes "x"))) (no_parts))); condition = (no_expressions); loop = None; register = (Some (codes "out")); vars = (no_parts); notify = ([]); changed_when = None; failed_when = None; ignore_errors = None }) (task_step (record { line = 3; work = (debug_work (part (codes "msg") (path (variable (codes "out")) ((codes "stdout") ∷ [])) (no_parts))); condition = (no_expressions); loop = None; register = None; vars = (no_parts); notify = ([]); changed_when = None; failed_when = None; ignore_errors = None }) (no_steps))); post_tasks = (no_steps); handlers = ([]) } ∷ [])
+-- row_register: command, register, debug
+abbrev row_register_book : Book
+row_register_book = (record { line = 1; pattern = ((codes "all") ∷ []); gathering = None; vars = (no_parts); is_linear = true; serial = ([]); pre_tasks = (no_steps); tasks = (task_step (record { line = 2; work = (module_work (codes "command") (part (codes "cmd") (literal (text (codes "x"))) (no_parts))); condition = (no_expressions); loop = None; register = (Some (codes "out")); vars = (no_parts); notify = ([]); changed_when = None; failed_when = None; ignore_errors = None }) (task_step (record { line = 3; work = (debug_work (part (codes "msg") (path (variable (codes "out")) ((codes "stdout") ∷ [])) (no_parts))); condition = (no_expressions); loop = None; register = None; vars = (no_parts); notify = ([]); changed_when = None; failed_when = None; ignore_errors = None }) (no_steps))); post_tasks = (no_steps); handlers = ([]) } ∷ [])
 
-abbrev row_command_register_debug_inventory : Inventory
-row_command_register_debug_inventory = record { hosts = (record { name = (codes "h1"); variables = (no_fields) } ∷ []); groups = (record { name = (codes "all"); hosts = ((codes "h1") ∷ []) } ∷ record { name = (codes "ungrouped"); hosts = ((codes "h1") ∷ []) } ∷ []) }
+abbrev row_register_inventory : Inventory
+row_register_inventory = record { hosts = (record { name = (codes "h1"); variables = (no_fields) } ∷ []); groups = (record { name = (codes "all"); hosts = ((codes "h1") ∷ []) } ∷ record { name = (codes "ungrouped"); hosts = ((codes "h1") ∷ []) } ∷ []) }
 
-abbrev row_command_register_debug_registry : Registry
-row_command_register_debug_registry = (builtins ++ ([]))
+abbrev row_register_registry : Registry
+row_register_registry = (builtins ++ ([]))
 
-row_command_register_debug : judged row_command_register_debug_registry row_command_register_debug_inventory row_command_register_debug_book ≡ accepted 1
-row_command_register_debug = refl
+row_register : judged row_register_registry row_register_inventory row_register_book ≡ accepted 1
+row_register = refl
 
--- row_command_register_debug_run: a field of a registered command is shown
-abbrev row_command_register_debug_run_book : Book
-row_command_register_debug_run_book = (record { line = 1; pattern = ((codes "all") ∷ []); gathering = None; vars = (no_parts); is_linear = true; serial = ([]); pre_tasks = (no_steps); tasks = (task_step (record { line = 2; work = (module_work (codes "command") (part (codes "cmd") (literal (text (codes "x"))) (no_parts))); condition = (no_expressions); loop = None; register = (Some (codes "out")); vars = (no_parts); notify = ([]); changed_when = None; failed_when = None; ignore_errors = None }) (task_step (record { line = 3; work = (debug_work (part (codes "msg") (path (variable (codes "out")) ((codes "stdout") ∷ [])) (no_parts))); condition = (no_expressions); loop = None; register = None; vars = (no_parts); notify = ([]); changed_when = None; failed_when = None; ignore_errors = None }) (no_steps))); post_tasks = (no_steps); handlers = ([]) } ∷ [])
+-- row_register_run: command, register, debug
+abbrev row_register_run_book : Book
+row_register_run_book = (record { line = 1; pattern = ((codes "all") ∷ []); gathering = None; vars = (no_parts); is_linear = true; serial = ([]); pre_tasks = (no_steps); tasks = (task_step (record { line = 2; work = (module_work (codes "command") (part (codes "cmd") (literal (text (codes "x"))) (no_parts))); condition = (no_expressions); loop = None; register = (Some (codes "out")); vars = (no_parts); notify = ([]); changed_when = None; failed_when = None; ignore_errors = None }) (task_step (record { line = 3; work = (debug_work (part (codes "msg") (path (variable (codes "out")) ((codes "stdout") ∷ [])) (no_parts))); condition = (no_expressions); loop = None; register = None; vars = (no_parts); notify = ([]); changed_when = None; failed_when = None; ignore_errors = None }) (no_steps))); post_tasks = (no_steps); handlers = ([]) } ∷ [])
 
-abbrev row_command_register_debug_run_inventory : Inventory
-row_command_register_debug_run_inventory = record { hosts = (record { name = (codes "h1"); variables = (no_fields) } ∷ []); groups = (record { name = (codes "all"); hosts = ((codes "h1") ∷ []) } ∷ record { name = (codes "ungrouped"); hosts = ((codes "h1") ∷ []) } ∷ []) }
+abbrev row_register_run_inventory : Inventory
+row_register_run_inventory = record { hosts = (record { name = (codes "h1"); variables = (no_fields) } ∷ []); groups = (record { name = (codes "all"); hosts = ((codes "h1") ∷ []) } ∷ record { name = (codes "ungrouped"); hosts = ((codes "h1") ∷ []) } ∷ []) }
 
-abbrev row_command_register_debug_run_registry : Registry
-row_command_register_debug_run_registry = (builtins ++ ([]))
+abbrev row_register_run_registry : Registry
+row_register_run_registry = (builtins ++ ([]))
 
-row_command_register_debug_run : recaps_of row_command_register_debug_run_registry row_command_register_debug_run_inventory row_command_register_debug_run_book 5 ((object (rec (field (codes "changed") (boolean true) (field (codes "rc") (int (pos 0)) (field (codes "stderr") (text ([])) (field (codes "stderr_lines") (list (no_items)) (field (codes "stdout") (text (codes "a")) (field (codes "stdout_lines") (list (item (text (codes "a")) (no_items))) (no_fields)))))))) ∷ []) ∷ []) ≡ (record { ok = 2; changed = 1; unreachable = 0; failed = 0; skipped = 0; rescued = 0; ignored = 0 } ∷ [])
+row_register_run : recaps_of row_register_run_registry row_register_run_inventory row_register_run_book 5 ((object (rec (field (codes "changed") (boolean true) (field (codes "rc") (int (pos 0)) (field (codes "stderr") (text ([])) (field (codes "stderr_lines") (list (no_items)) (field (codes "stdout") (text (codes "a")) (field (codes "stdout_lines") (list (item (text (codes "a")) (no_items))) (no_fields)))))))) ∷ []) ∷ []) ≡ (record { ok = 2; changed = 1; unreachable = 0; failed = 0; skipped = 0; rescued = 0; ignored = 0 } ∷ [])
 unfolding digits
-row_command_register_debug_run = refl
+row_register_run = refl
 
--- row_skipped_register_read: a field that a skipped command does not have
-abbrev row_skipped_register_read_book : Book
-row_skipped_register_read_book = (record { line = 1; pattern = ((codes "all") ∷ []); gathering = None; vars = (no_parts); is_linear = true; serial = ([]); pre_tasks = (no_steps); tasks = (task_step (record { line = 2; work = (module_work (codes "command") (part (codes "cmd") (literal (text (codes "x"))) (no_parts))); condition = (expression (membership (literal (text (codes "web"))) (path (variable (codes "group_names")) ([]))) (no_expressions)); loop = None; register = (Some (codes "out")); vars = (no_parts); notify = ([]); changed_when = None; failed_when = None; ignore_errors = None }) (task_step (record { line = 3; work = (debug_work (part (codes "msg") (path (variable (codes "out")) ((codes "stdout") ∷ [])) (no_parts))); condition = (no_expressions); loop = None; register = None; vars = (no_parts); notify = ([]); changed_when = None; failed_when = None; ignore_errors = None }) (no_steps))); post_tasks = (no_steps); handlers = ([]) } ∷ [])
+-- row_skipped_read: a register that may have been skipped is read
+abbrev row_skipped_read_book : Book
+row_skipped_read_book = (record { line = 1; pattern = ((codes "all") ∷ []); gathering = None; vars = (no_parts); is_linear = true; serial = ([]); pre_tasks = (no_steps); tasks = (task_step (record { line = 2; work = (module_work (codes "command") (part (codes "cmd") (literal (text (codes "x"))) (no_parts))); condition = (expression (membership (literal (text (codes "web"))) (path (variable (codes "group_names")) ([]))) (no_expressions)); loop = None; register = (Some (codes "out")); vars = (no_parts); notify = ([]); changed_when = None; failed_when = None; ignore_errors = None }) (task_step (record { line = 3; work = (debug_work (part (codes "msg") (path (variable (codes "out")) ((codes "stdout") ∷ [])) (no_parts))); condition = (no_expressions); loop = None; register = None; vars = (no_parts); notify = ([]); changed_when = None; failed_when = None; ignore_errors = None }) (no_steps))); post_tasks = (no_steps); handlers = ([]) } ∷ [])
 
-abbrev row_skipped_register_read_inventory : Inventory
-row_skipped_register_read_inventory = record { hosts = (record { name = (codes "h1"); variables = (no_fields) } ∷ []); groups = (record { name = (codes "all"); hosts = ((codes "h1") ∷ []) } ∷ record { name = (codes "ungrouped"); hosts = ((codes "h1") ∷ []) } ∷ []) }
+abbrev row_skipped_read_inventory : Inventory
+row_skipped_read_inventory = record { hosts = (record { name = (codes "h1"); variables = (no_fields) } ∷ []); groups = (record { name = (codes "all"); hosts = ((codes "h1") ∷ []) } ∷ record { name = (codes "ungrouped"); hosts = ((codes "h1") ∷ []) } ∷ []) }
 
-abbrev row_skipped_register_read_registry : Registry
-row_skipped_register_read_registry = (builtins ++ ([]))
+abbrev row_skipped_read_registry : Registry
+row_skipped_read_registry = (builtins ++ ([]))
 
-row_skipped_register_read : judged row_skipped_register_read_registry row_skipped_register_read_inventory row_skipped_register_read_book ≡ refused (record { code = 3; line = 3; host = (Some (codes "h1")) })
-row_skipped_register_read = refl
+row_skipped_read : judged row_skipped_read_registry row_skipped_read_inventory row_skipped_read_book ≡ refused (record { code = 3; line = 3; host = (Some (codes "h1")) })
+row_skipped_read = refl
 
--- row_skipped_register_read_run: a field that a skipped command does not have
-abbrev row_skipped_register_read_run_book : Book
-row_skipped_register_read_run_book = (record { line = 1; pattern = ((codes "all") ∷ []); gathering = None; vars = (no_parts); is_linear = true; serial = ([]); pre_tasks = (no_steps); tasks = (task_step (record { line = 2; work = (module_work (codes "command") (part (codes "cmd") (literal (text (codes "x"))) (no_parts))); condition = (expression (membership (literal (text (codes "web"))) (path (variable (codes "group_names")) ([]))) (no_expressions)); loop = None; register = (Some (codes "out")); vars = (no_parts); notify = ([]); changed_when = None; failed_when = None; ignore_errors = None }) (task_step (record { line = 3; work = (debug_work (part (codes "msg") (path (variable (codes "out")) ((codes "stdout") ∷ [])) (no_parts))); condition = (no_expressions); loop = None; register = None; vars = (no_parts); notify = ([]); changed_when = None; failed_when = None; ignore_errors = None }) (no_steps))); post_tasks = (no_steps); handlers = ([]) } ∷ [])
+-- row_guarded: the read is guarded
+abbrev row_guarded_book : Book
+row_guarded_book = (record { line = 1; pattern = ((codes "all") ∷ []); gathering = None; vars = (no_parts); is_linear = true; serial = ([]); pre_tasks = (no_steps); tasks = (task_step (record { line = 2; work = (module_work (codes "command") (part (codes "cmd") (literal (text (codes "x"))) (no_parts))); condition = (expression (membership (literal (text (codes "web"))) (path (variable (codes "group_names")) ([]))) (no_expressions)); loop = None; register = (Some (codes "out")); vars = (no_parts); notify = ([]); changed_when = None; failed_when = None; ignore_errors = None }) (task_step (record { line = 3; work = (debug_work (part (codes "msg") (path (variable (codes "out")) ((codes "stdout") ∷ [])) (no_parts))); condition = (expression (negation (path_status is_skipped (variable (codes "out")) ([]))) (no_expressions)); loop = None; register = None; vars = (no_parts); notify = ([]); changed_when = None; failed_when = None; ignore_errors = None }) (no_steps))); post_tasks = (no_steps); handlers = ([]) } ∷ [])
 
-abbrev row_skipped_register_read_run_inventory : Inventory
-row_skipped_register_read_run_inventory = record { hosts = (record { name = (codes "h1"); variables = (no_fields) } ∷ []); groups = (record { name = (codes "all"); hosts = ((codes "h1") ∷ []) } ∷ record { name = (codes "ungrouped"); hosts = ((codes "h1") ∷ []) } ∷ []) }
+abbrev row_guarded_inventory : Inventory
+row_guarded_inventory = record { hosts = (record { name = (codes "h1"); variables = (no_fields) } ∷ []); groups = (record { name = (codes "all"); hosts = ((codes "h1") ∷ []) } ∷ record { name = (codes "ungrouped"); hosts = ((codes "h1") ∷ []) } ∷ []) }
 
-abbrev row_skipped_register_read_run_registry : Registry
-row_skipped_register_read_run_registry = (builtins ++ ([]))
+abbrev row_guarded_registry : Registry
+row_guarded_registry = (builtins ++ ([]))
 
-row_skipped_register_read_run : judged row_skipped_register_read_run_registry row_skipped_register_read_run_inventory row_skipped_register_read_run_book ≡ refused (record { code = 3; line = 3; host = (Some (codes "h1")) })
-row_skipped_register_read_run = refl
+row_guarded : judged row_guarded_registry row_guarded_inventory row_guarded_book ≡ accepted 1
+row_guarded = refl
 
--- row_unknown_name: a name that nothing defines
-abbrev row_unknown_name_book : Book
-row_unknown_name_book = (record { line = 1; pattern = ((codes "all") ∷ []); gathering = None; vars = (no_parts); is_linear = true; serial = ([]); pre_tasks = (no_steps); tasks = (task_step (record { line = 2; work = (debug_work (part (codes "msg") (path (variable (codes "zz")) ([])) (no_parts))); condition = (no_expressions); loop = None; register = None; vars = (no_parts); notify = ([]); changed_when = None; failed_when = None; ignore_errors = None }) (no_steps)); post_tasks = (no_steps); handlers = ([]) } ∷ [])
+-- row_guarded_run: both are skipped
+abbrev row_guarded_run_book : Book
+row_guarded_run_book = (record { line = 1; pattern = ((codes "all") ∷ []); gathering = None; vars = (no_parts); is_linear = true; serial = ([]); pre_tasks = (no_steps); tasks = (task_step (record { line = 2; work = (module_work (codes "command") (part (codes "cmd") (literal (text (codes "x"))) (no_parts))); condition = (expression (membership (literal (text (codes "web"))) (path (variable (codes "group_names")) ([]))) (no_expressions)); loop = None; register = (Some (codes "out")); vars = (no_parts); notify = ([]); changed_when = None; failed_when = None; ignore_errors = None }) (task_step (record { line = 3; work = (debug_work (part (codes "msg") (path (variable (codes "out")) ((codes "stdout") ∷ [])) (no_parts))); condition = (expression (negation (path_status is_skipped (variable (codes "out")) ([]))) (no_expressions)); loop = None; register = None; vars = (no_parts); notify = ([]); changed_when = None; failed_when = None; ignore_errors = None }) (no_steps))); post_tasks = (no_steps); handlers = ([]) } ∷ [])
 
-abbrev row_unknown_name_inventory : Inventory
-row_unknown_name_inventory = record { hosts = (record { name = (codes "h1"); variables = (no_fields) } ∷ []); groups = (record { name = (codes "all"); hosts = ((codes "h1") ∷ []) } ∷ record { name = (codes "ungrouped"); hosts = ((codes "h1") ∷ []) } ∷ []) }
+abbrev row_guarded_run_inventory : Inventory
+row_guarded_run_inventory = record { hosts = (record { name = (codes "h1"); variables = (no_fields) } ∷ []); groups = (record { name = (codes "all"); hosts = ((codes "h1") ∷ []) } ∷ record { name = (codes "ungrouped"); hosts = ((codes "h1") ∷ []) } ∷ []) }
 
-abbrev row_unknown_name_registry : Registry
-row_unknown_name_registry = (builtins ++ ([]))
+abbrev row_guarded_run_registry : Registry
+row_guarded_run_registry = (builtins ++ ([]))
 
-row_unknown_name : judged row_unknown_name_registry row_unknown_name_inventory row_unknown_name_book ≡ refused (record { code = 1; line = 2; host = (Some (codes "h1")) })
-row_unknown_name = refl
-
--- row_number_as_condition: a number is no condition
-abbrev row_number_as_condition_book : Book
-row_number_as_condition_book = (record { line = 1; pattern = ((codes "all") ∷ []); gathering = None; vars = (no_parts); is_linear = true; serial = ([]); pre_tasks = (no_steps); tasks = (task_step (record { line = 2; work = (set_fact_work (part (codes "y") (literal (int (pos 1))) (no_parts))); condition = (no_expressions); loop = None; register = None; vars = (no_parts); notify = ([]); changed_when = None; failed_when = None; ignore_errors = None }) (task_step (record { line = 3; work = (module_work (codes "ping") (no_parts)); condition = (expression (path (variable (codes "y")) ([])) (no_expressions)); loop = None; register = None; vars = (no_parts); notify = ([]); changed_when = None; failed_when = None; ignore_errors = None }) (no_steps))); post_tasks = (no_steps); handlers = ([]) } ∷ [])
-
-abbrev row_number_as_condition_inventory : Inventory
-row_number_as_condition_inventory = record { hosts = (record { name = (codes "h1"); variables = (no_fields) } ∷ []); groups = (record { name = (codes "all"); hosts = ((codes "h1") ∷ []) } ∷ record { name = (codes "ungrouped"); hosts = ((codes "h1") ∷ []) } ∷ []) }
-
-abbrev row_number_as_condition_registry : Registry
-row_number_as_condition_registry = (builtins ++ ([]))
-
-row_number_as_condition : judged row_number_as_condition_registry row_number_as_condition_inventory row_number_as_condition_book ≡ refused (record { code = 4; line = 3; host = (Some (codes "h1")) })
-row_number_as_condition = refl
-
--- row_command_without_cmd: a required parameter is missing
-abbrev row_command_without_cmd_book : Book
-row_command_without_cmd_book = (record { line = 1; pattern = ((codes "all") ∷ []); gathering = None; vars = (no_parts); is_linear = true; serial = ([]); pre_tasks = (no_steps); tasks = (task_step (record { line = 2; work = (module_work (codes "command") (no_parts)); condition = (no_expressions); loop = None; register = None; vars = (no_parts); notify = ([]); changed_when = None; failed_when = None; ignore_errors = None }) (no_steps)); post_tasks = (no_steps); handlers = ([]) } ∷ [])
-
-abbrev row_command_without_cmd_inventory : Inventory
-row_command_without_cmd_inventory = record { hosts = (record { name = (codes "h1"); variables = (no_fields) } ∷ []); groups = (record { name = (codes "all"); hosts = ((codes "h1") ∷ []) } ∷ record { name = (codes "ungrouped"); hosts = ((codes "h1") ∷ []) } ∷ []) }
-
-abbrev row_command_without_cmd_registry : Registry
-row_command_without_cmd_registry = (builtins ++ ([]))
-
-row_command_without_cmd : judged row_command_without_cmd_registry row_command_without_cmd_inventory row_command_without_cmd_book ≡ refused (record { code = 7; line = 2; host = None })
-row_command_without_cmd = refl
-
--- row_register_reserved_name: a reserved name may not be registered
-abbrev row_register_reserved_name_book : Book
-row_register_reserved_name_book = (record { line = 1; pattern = ((codes "all") ∷ []); gathering = None; vars = (no_parts); is_linear = true; serial = ([]); pre_tasks = (no_steps); tasks = (task_step (record { line = 2; work = (module_work (codes "ping") (no_parts)); condition = (no_expressions); loop = None; register = (Some (codes "groups")); vars = (no_parts); notify = ([]); changed_when = None; failed_when = None; ignore_errors = None }) (no_steps)); post_tasks = (no_steps); handlers = ([]) } ∷ [])
-
-abbrev row_register_reserved_name_inventory : Inventory
-row_register_reserved_name_inventory = record { hosts = (record { name = (codes "h1"); variables = (no_fields) } ∷ []); groups = (record { name = (codes "all"); hosts = ((codes "h1") ∷ []) } ∷ record { name = (codes "ungrouped"); hosts = ((codes "h1") ∷ []) } ∷ []) }
-
-abbrev row_register_reserved_name_registry : Registry
-row_register_reserved_name_registry = (builtins ++ ([]))
-
-row_register_reserved_name : judged row_register_reserved_name_registry row_register_reserved_name_inventory row_register_reserved_name_book ≡ refused (record { code = 8; line = 2; host = None })
-row_register_reserved_name = refl
-
--- row_no_answer: a missing answer is a breach
-abbrev row_no_answer_book : Book
-row_no_answer_book = (record { line = 1; pattern = ((codes "all") ∷ []); gathering = None; vars = (no_parts); is_linear = true; serial = ([]); pre_tasks = (no_steps); tasks = (task_step (record { line = 2; work = (module_work (codes "command") (part (codes "cmd") (literal (text (codes "x"))) (no_parts))); condition = (no_expressions); loop = None; register = None; vars = (no_parts); notify = ([]); changed_when = None; failed_when = None; ignore_errors = None }) (no_steps)); post_tasks = (no_steps); handlers = ([]) } ∷ [])
-
-abbrev row_no_answer_inventory : Inventory
-row_no_answer_inventory = record { hosts = (record { name = (codes "h1"); variables = (no_fields) } ∷ []); groups = (record { name = (codes "all"); hosts = ((codes "h1") ∷ []) } ∷ record { name = (codes "ungrouped"); hosts = ((codes "h1") ∷ []) } ∷ []) }
-
-abbrev row_no_answer_registry : Registry
-row_no_answer_registry = (builtins ++ ([]))
-
-row_no_answer : judged row_no_answer_registry row_no_answer_inventory row_no_answer_book ≡ accepted 1
-row_no_answer = refl
-
--- row_no_answer_run: a missing answer is a breach
-abbrev row_no_answer_run_book : Book
-row_no_answer_run_book = (record { line = 1; pattern = ((codes "all") ∷ []); gathering = None; vars = (no_parts); is_linear = true; serial = ([]); pre_tasks = (no_steps); tasks = (task_step (record { line = 2; work = (module_work (codes "command") (part (codes "cmd") (literal (text (codes "x"))) (no_parts))); condition = (no_expressions); loop = None; register = None; vars = (no_parts); notify = ([]); changed_when = None; failed_when = None; ignore_errors = None }) (no_steps)); post_tasks = (no_steps); handlers = ([]) } ∷ [])
-
-abbrev row_no_answer_run_inventory : Inventory
-row_no_answer_run_inventory = record { hosts = (record { name = (codes "h1"); variables = (no_fields) } ∷ []); groups = (record { name = (codes "all"); hosts = ((codes "h1") ∷ []) } ∷ record { name = (codes "ungrouped"); hosts = ((codes "h1") ∷ []) } ∷ []) }
-
-abbrev row_no_answer_run_registry : Registry
-row_no_answer_run_registry = (builtins ++ ([]))
-
-row_no_answer_run : recaps_of row_no_answer_run_registry row_no_answer_run_inventory row_no_answer_run_book 5 (([]) ∷ []) ≡ (record { ok = 0; changed = 0; unreachable = 0; failed = 1; skipped = 0; rescued = 0; ignored = 0 } ∷ [])
+row_guarded_run : recaps_of row_guarded_run_registry row_guarded_run_inventory row_guarded_run_book 5 (([]) ∷ []) ≡ (record { ok = 0; changed = 0; unreachable = 0; failed = 0; skipped = 2; rescued = 0; ignored = 0 } ∷ [])
 unfolding digits
-row_no_answer_run = refl
+row_guarded_run = refl
+
+-- row_ignored: an ignored failure
+abbrev row_ignored_book : Book
+row_ignored_book = (record { line = 1; pattern = ((codes "all") ∷ []); gathering = None; vars = (no_parts); is_linear = true; serial = ([]); pre_tasks = (no_steps); tasks = (task_step (record { line = 2; work = (module_work (codes "command") (part (codes "cmd") (literal (text (codes "x"))) (no_parts))); condition = (no_expressions); loop = None; register = (Some (codes "out")); vars = (no_parts); notify = ([]); changed_when = None; failed_when = None; ignore_errors = (Some true) }) (task_step (record { line = 3; work = (debug_work (part (codes "msg") (path (variable (codes "out")) ((codes "rc") ∷ [])) (no_parts))); condition = (no_expressions); loop = None; register = None; vars = (no_parts); notify = ([]); changed_when = None; failed_when = None; ignore_errors = None }) (no_steps))); post_tasks = (no_steps); handlers = ([]) } ∷ [])
+
+abbrev row_ignored_inventory : Inventory
+row_ignored_inventory = record { hosts = (record { name = (codes "h1"); variables = (no_fields) } ∷ []); groups = (record { name = (codes "all"); hosts = ((codes "h1") ∷ []) } ∷ record { name = (codes "ungrouped"); hosts = ((codes "h1") ∷ []) } ∷ []) }
+
+abbrev row_ignored_registry : Registry
+row_ignored_registry = (builtins ++ ([]))
+
+row_ignored : judged row_ignored_registry row_ignored_inventory row_ignored_book ≡ accepted 1
+row_ignored = refl
+
+-- row_ignored_run: an ignored failure
+abbrev row_ignored_run_book : Book
+row_ignored_run_book = (record { line = 1; pattern = ((codes "all") ∷ []); gathering = None; vars = (no_parts); is_linear = true; serial = ([]); pre_tasks = (no_steps); tasks = (task_step (record { line = 2; work = (module_work (codes "command") (part (codes "cmd") (literal (text (codes "x"))) (no_parts))); condition = (no_expressions); loop = None; register = (Some (codes "out")); vars = (no_parts); notify = ([]); changed_when = None; failed_when = None; ignore_errors = (Some true) }) (task_step (record { line = 3; work = (debug_work (part (codes "msg") (path (variable (codes "out")) ((codes "rc") ∷ [])) (no_parts))); condition = (no_expressions); loop = None; register = None; vars = (no_parts); notify = ([]); changed_when = None; failed_when = None; ignore_errors = None }) (no_steps))); post_tasks = (no_steps); handlers = ([]) } ∷ [])
+
+abbrev row_ignored_run_inventory : Inventory
+row_ignored_run_inventory = record { hosts = (record { name = (codes "h1"); variables = (no_fields) } ∷ []); groups = (record { name = (codes "all"); hosts = ((codes "h1") ∷ []) } ∷ record { name = (codes "ungrouped"); hosts = ((codes "h1") ∷ []) } ∷ []) }
+
+abbrev row_ignored_run_registry : Registry
+row_ignored_run_registry = (builtins ++ ([]))
+
+row_ignored_run : recaps_of row_ignored_run_registry row_ignored_run_inventory row_ignored_run_book 5 ((object (rec (field (codes "changed") (boolean false) (field (codes "failed") (boolean true) (field (codes "msg") (text (codes "no")) (field (codes "rc") (int (pos 1)) (field (codes "stderr") (text ([])) (field (codes "stderr_lines") (list (no_items)) (field (codes "stdout") (text ([])) (field (codes "stdout_lines") (list (no_items)) (no_fields)))))))))) ∷ []) ∷ []) ≡ (record { ok = 2; changed = 0; unreachable = 0; failed = 0; skipped = 0; rescued = 0; ignored = 1 } ∷ [])
+unfolding digits
+row_ignored_run = refl
+
+-- row_rescue_undefined: a rescue reads what may not be there
+abbrev row_rescue_undefined_book : Book
+row_rescue_undefined_book = (record { line = 1; pattern = ((codes "all") ∷ []); gathering = None; vars = (no_parts); is_linear = true; serial = ([]); pre_tasks = (no_steps); tasks = (block_step (record { line = 2; condition = (no_expressions); vars = (no_parts); ignore_errors = None }) (task_step (record { line = 3; work = (module_work (codes "command") (part (codes "cmd") (literal (text (codes "x"))) (no_parts))); condition = (no_expressions); loop = None; register = None; vars = (no_parts); notify = ([]); changed_when = None; failed_when = None; ignore_errors = None }) (task_step (record { line = 4; work = (module_work (codes "command") (part (codes "cmd") (literal (text (codes "y"))) (no_parts))); condition = (no_expressions); loop = None; register = (Some (codes "r2")); vars = (no_parts); notify = ([]); changed_when = None; failed_when = None; ignore_errors = None }) (no_steps))) (task_step (record { line = 5; work = (debug_work (part (codes "msg") (path (variable (codes "r2")) ((codes "rc") ∷ [])) (no_parts))); condition = (no_expressions); loop = None; register = None; vars = (no_parts); notify = ([]); changed_when = None; failed_when = None; ignore_errors = None }) (no_steps)) (no_steps) (no_steps)); post_tasks = (no_steps); handlers = ([]) } ∷ [])
+
+abbrev row_rescue_undefined_inventory : Inventory
+row_rescue_undefined_inventory = record { hosts = (record { name = (codes "h1"); variables = (no_fields) } ∷ []); groups = (record { name = (codes "all"); hosts = ((codes "h1") ∷ []) } ∷ record { name = (codes "ungrouped"); hosts = ((codes "h1") ∷ []) } ∷ []) }
+
+abbrev row_rescue_undefined_registry : Registry
+row_rescue_undefined_registry = (builtins ++ ([]))
+
+row_rescue_undefined : judged row_rescue_undefined_registry row_rescue_undefined_inventory row_rescue_undefined_book ≡ refused (record { code = 1; line = 5; host = (Some (codes "h1")) })
+row_rescue_undefined = refl
+
+-- row_always_both: an always part runs in both modes
+abbrev row_always_both_book : Book
+row_always_both_book = (record { line = 1; pattern = ((codes "all") ∷ []); gathering = None; vars = (no_parts); is_linear = true; serial = ([]); pre_tasks = (no_steps); tasks = (block_step (record { line = 2; condition = (no_expressions); vars = (no_parts); ignore_errors = None }) (task_step (record { line = 3; work = (module_work (codes "ping") (no_parts)); condition = (no_expressions); loop = None; register = None; vars = (no_parts); notify = ([]); changed_when = None; failed_when = None; ignore_errors = None }) (task_step (record { line = 4; work = (module_work (codes "command") (part (codes "cmd") (literal (text (codes "x"))) (no_parts))); condition = (no_expressions); loop = None; register = (Some (codes "out")); vars = (no_parts); notify = ([]); changed_when = None; failed_when = None; ignore_errors = None }) (no_steps))) (no_steps) (task_step (record { line = 5; work = (module_work (codes "ping") (no_parts)); condition = (no_expressions); loop = None; register = None; vars = (no_parts); notify = ([]); changed_when = None; failed_when = None; ignore_errors = None }) (no_steps)) (task_step (record { line = 6; work = (debug_work (part (codes "msg") (path (variable (codes "out")) ((codes "stdout") ∷ [])) (no_parts))); condition = (no_expressions); loop = None; register = None; vars = (no_parts); notify = ([]); changed_when = None; failed_when = None; ignore_errors = None }) (no_steps))); post_tasks = (no_steps); handlers = ([]) } ∷ [])
+
+abbrev row_always_both_inventory : Inventory
+row_always_both_inventory = record { hosts = (record { name = (codes "h1"); variables = (no_fields) } ∷ []); groups = (record { name = (codes "all"); hosts = ((codes "h1") ∷ []) } ∷ record { name = (codes "ungrouped"); hosts = ((codes "h1") ∷ []) } ∷ []) }
+
+abbrev row_always_both_registry : Registry
+row_always_both_registry = (builtins ++ ([]))
+
+row_always_both : judged row_always_both_registry row_always_both_inventory row_always_both_book ≡ accepted 3
+row_always_both = refl
+
+-- row_always_undefined: an always part reads what a failure left out
+abbrev row_always_undefined_book : Book
+row_always_undefined_book = (record { line = 1; pattern = ((codes "all") ∷ []); gathering = None; vars = (no_parts); is_linear = true; serial = ([]); pre_tasks = (no_steps); tasks = (block_step (record { line = 2; condition = (no_expressions); vars = (no_parts); ignore_errors = None }) (task_step (record { line = 3; work = (module_work (codes "ping") (no_parts)); condition = (no_expressions); loop = None; register = None; vars = (no_parts); notify = ([]); changed_when = None; failed_when = None; ignore_errors = None }) (task_step (record { line = 4; work = (module_work (codes "command") (part (codes "cmd") (literal (text (codes "x"))) (no_parts))); condition = (no_expressions); loop = None; register = (Some (codes "out")); vars = (no_parts); notify = ([]); changed_when = None; failed_when = None; ignore_errors = None }) (no_steps))) (no_steps) (task_step (record { line = 5; work = (debug_work (part (codes "msg") (path (variable (codes "out")) ((codes "stdout") ∷ [])) (no_parts))); condition = (no_expressions); loop = None; register = None; vars = (no_parts); notify = ([]); changed_when = None; failed_when = None; ignore_errors = None }) (no_steps)) (no_steps)); post_tasks = (no_steps); handlers = ([]) } ∷ [])
+
+abbrev row_always_undefined_inventory : Inventory
+row_always_undefined_inventory = record { hosts = (record { name = (codes "h1"); variables = (no_fields) } ∷ []); groups = (record { name = (codes "all"); hosts = ((codes "h1") ∷ []) } ∷ record { name = (codes "ungrouped"); hosts = ((codes "h1") ∷ []) } ∷ []) }
+
+abbrev row_always_undefined_registry : Registry
+row_always_undefined_registry = (builtins ++ ([]))
+
+row_always_undefined : judged row_always_undefined_registry row_always_undefined_inventory row_always_undefined_book ≡ refused (record { code = 1; line = 5; host = (Some (codes "h1")) })
+row_always_undefined = refl

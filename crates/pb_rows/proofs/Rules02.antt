@@ -1,169 +1,165 @@
 -- Cases of rules, computed.
-use Rattle.std.specs.Prelude.{◌≡◌, refl, ℕ, zero, suc, pos, negsuc, List, [], ◌∷◌, ◌++◌, true, false, Option, Some, None, codes}
-use Rattle.std.specs.Fmt.{digits}
-use Rattle.pb_semantics.specs.Data.{Data, null, boolean, int, text, list, rec, opaque, no_items, item, no_fields, field}
-use Rattle.pb_semantics.specs.Kind.{booleans, ints, texts, lists, recs, no_slots, slot}
-use Rattle.pb_language.specs.Expression.{equal, less, at_most, more, at_least, is_failed, is_changed, is_skipped, named_host, this_host, item_host, group_member, literal, path, hostvars_alone, negation, conjunction, disjunction, comparison, membership, in_batch, defined, undefinable, path_status, value_status, path_or, value_or, length_of, joined_by, concatenation, list_of, record_of, variable, other, member, no_expressions, expression, no_parts, part}
-use Rattle.pb_language.specs.Book.{not_given, not_well_formed, conditions_are, module_work, debug_work, set_fact_work, assert_work, fail_work, no_steps, task_step, block_step, flush_step, host_count, percentage, Book, Registry}
+use Rattle.std.specs.Prelude.{◌≡◌, refl, pos, [], ◌∷◌, ◌++◌, true, Some, None, codes}
+use Rattle.pb_semantics.specs.Data.{int, no_fields}
+use Rattle.pb_language.specs.Expression.{literal, path, variable, no_expressions, no_parts, part}
+use Rattle.pb_language.specs.Book.{module_work, set_fact_work, no_steps, task_step, Book, Registry}
 use Rattle.pb_language.specs.Builtins.{builtins}
-use Rattle.pb_language.specs.Give.{object, unreachable}
 use Rattle.pb_language.specs.Judged.{judged}
 use Rattle.pb_language.specs.Program.{Inventory}
 use Rattle.pb_language.specs.Verdict.{accepted, refused}
-use Rattle.pb_rows.specs.Recaps.{recaps_of}
 
--- rules_026: V01 by the order of names
-abbrev rules_026_book : Book
-rules_026_book = (record { line = 1; pattern = ((codes "all") ∷ []); gathering = None; vars = (no_parts); is_linear = true; serial = ([]); pre_tasks = (no_steps); tasks = (task_step (record { line = 2; work = (module_work (codes "copy") (part (codes "content") (path (variable (codes "zz")) ([])) (part (codes "dest") (literal (int (pos 1))) (no_parts)))); condition = (no_expressions); loop = None; register = None; vars = (no_parts); notify = ([]); changed_when = None; failed_when = None; ignore_errors = None }) (no_steps)); post_tasks = (no_steps); handlers = ([]) } ∷ [])
+-- rules_074: register is
+abbrev rules_074_book : Book
+rules_074_book = (record { line = 1; pattern = ((codes "all") ∷ []); gathering = None; vars = (no_parts); is_linear = true; serial = ([]); pre_tasks = (no_steps); tasks = (task_step (record { line = 2; work = (module_work (codes "ping") (no_parts)); condition = (no_expressions); loop = None; register = (Some (codes "is")); vars = (no_parts); notify = ([]); changed_when = None; failed_when = None; ignore_errors = None }) (no_steps)); post_tasks = (no_steps); handlers = ([]) } ∷ [])
 
-abbrev rules_026_inventory : Inventory
-rules_026_inventory = record { hosts = (record { name = (codes "h1"); variables = (no_fields) } ∷ []); groups = (record { name = (codes "all"); hosts = ((codes "h1") ∷ []) } ∷ record { name = (codes "ungrouped"); hosts = ((codes "h1") ∷ []) } ∷ []) }
+abbrev rules_074_inventory : Inventory
+rules_074_inventory = record { hosts = (record { name = (codes "h1"); variables = (no_fields) } ∷ []); groups = (record { name = (codes "all"); hosts = ((codes "h1") ∷ []) } ∷ record { name = (codes "ungrouped"); hosts = ((codes "h1") ∷ []) } ∷ []) }
 
-abbrev rules_026_registry : Registry
-rules_026_registry = (builtins ++ ([]))
+abbrev rules_074_registry : Registry
+rules_074_registry = (builtins ++ ([]))
 
-rules_026 : judged rules_026_registry rules_026_inventory rules_026_book ≡ refused (record { code = 1; line = 2; host = (Some (codes "h1")) })
-rules_026 = refl
+rules_074 : judged rules_074_registry rules_074_inventory rules_074_book ≡ refused (record { code = 8; line = 2; host = None })
+rules_074 = refl
 
--- rules_029: register inventory_hostname
-abbrev rules_029_book : Book
-rules_029_book = (record { line = 1; pattern = ((codes "all") ∷ []); gathering = None; vars = (no_parts); is_linear = true; serial = ([]); pre_tasks = (no_steps); tasks = (task_step (record { line = 2; work = (module_work (codes "ping") (no_parts)); condition = (no_expressions); loop = None; register = (Some (codes "inventory_hostname")); vars = (no_parts); notify = ([]); changed_when = None; failed_when = None; ignore_errors = None }) (no_steps)); post_tasks = (no_steps); handlers = ([]) } ∷ [])
+-- rules_083: register default
+abbrev rules_083_book : Book
+rules_083_book = (record { line = 1; pattern = ((codes "all") ∷ []); gathering = None; vars = (no_parts); is_linear = true; serial = ([]); pre_tasks = (no_steps); tasks = (task_step (record { line = 2; work = (module_work (codes "ping") (no_parts)); condition = (no_expressions); loop = None; register = (Some (codes "default")); vars = (no_parts); notify = ([]); changed_when = None; failed_when = None; ignore_errors = None }) (no_steps)); post_tasks = (no_steps); handlers = ([]) } ∷ [])
 
-abbrev rules_029_inventory : Inventory
-rules_029_inventory = record { hosts = (record { name = (codes "h1"); variables = (no_fields) } ∷ []); groups = (record { name = (codes "all"); hosts = ((codes "h1") ∷ []) } ∷ record { name = (codes "ungrouped"); hosts = ((codes "h1") ∷ []) } ∷ []) }
+abbrev rules_083_inventory : Inventory
+rules_083_inventory = record { hosts = (record { name = (codes "h1"); variables = (no_fields) } ∷ []); groups = (record { name = (codes "all"); hosts = ((codes "h1") ∷ []) } ∷ record { name = (codes "ungrouped"); hosts = ((codes "h1") ∷ []) } ∷ []) }
 
-abbrev rules_029_registry : Registry
-rules_029_registry = (builtins ++ ([]))
+abbrev rules_083_registry : Registry
+rules_083_registry = (builtins ++ ([]))
 
-rules_029 : judged rules_029_registry rules_029_inventory rules_029_book ≡ refused (record { code = 8; line = 2; host = None })
-rules_029 = refl
+rules_083 : judged rules_083_registry rules_083_inventory rules_083_book ≡ accepted 1
+rules_083 = refl
 
--- rules_031: vars inventory_hostname of a task
-abbrev rules_031_book : Book
-rules_031_book = (record { line = 1; pattern = ((codes "all") ∷ []); gathering = None; vars = (no_parts); is_linear = true; serial = ([]); pre_tasks = (no_steps); tasks = (task_step (record { line = 2; work = (module_work (codes "ping") (no_parts)); condition = (no_expressions); loop = None; register = None; vars = (part (codes "inventory_hostname") (literal (int (pos 1))) (no_parts)); notify = ([]); changed_when = None; failed_when = None; ignore_errors = None }) (no_steps)); post_tasks = (no_steps); handlers = ([]) } ∷ [])
+-- rules_084: set_fact default
+abbrev rules_084_book : Book
+rules_084_book = (record { line = 1; pattern = ((codes "all") ∷ []); gathering = None; vars = (no_parts); is_linear = true; serial = ([]); pre_tasks = (no_steps); tasks = (task_step (record { line = 2; work = (set_fact_work (part (codes "default") (literal (int (pos 1))) (no_parts))); condition = (no_expressions); loop = None; register = None; vars = (no_parts); notify = ([]); changed_when = None; failed_when = None; ignore_errors = None }) (no_steps)); post_tasks = (no_steps); handlers = ([]) } ∷ [])
 
-abbrev rules_031_inventory : Inventory
-rules_031_inventory = record { hosts = (record { name = (codes "h1"); variables = (no_fields) } ∷ []); groups = (record { name = (codes "all"); hosts = ((codes "h1") ∷ []) } ∷ record { name = (codes "ungrouped"); hosts = ((codes "h1") ∷ []) } ∷ []) }
+abbrev rules_084_inventory : Inventory
+rules_084_inventory = record { hosts = (record { name = (codes "h1"); variables = (no_fields) } ∷ []); groups = (record { name = (codes "all"); hosts = ((codes "h1") ∷ []) } ∷ record { name = (codes "ungrouped"); hosts = ((codes "h1") ∷ []) } ∷ []) }
 
-abbrev rules_031_registry : Registry
-rules_031_registry = (builtins ++ ([]))
+abbrev rules_084_registry : Registry
+rules_084_registry = (builtins ++ ([]))
 
-rules_031 : judged rules_031_registry rules_031_inventory rules_031_book ≡ refused (record { code = 8; line = 2; host = None })
-rules_031 = refl
+rules_084 : judged rules_084_registry rules_084_inventory rules_084_book ≡ accepted 0
+rules_084 = refl
 
--- rules_034: vars groups of a task
-abbrev rules_034_book : Book
-rules_034_book = (record { line = 1; pattern = ((codes "all") ∷ []); gathering = None; vars = (no_parts); is_linear = true; serial = ([]); pre_tasks = (no_steps); tasks = (task_step (record { line = 2; work = (module_work (codes "ping") (no_parts)); condition = (no_expressions); loop = None; register = None; vars = (part (codes "groups") (literal (int (pos 1))) (no_parts)); notify = ([]); changed_when = None; failed_when = None; ignore_errors = None }) (no_steps)); post_tasks = (no_steps); handlers = ([]) } ∷ [])
+-- rules_089: register length
+abbrev rules_089_book : Book
+rules_089_book = (record { line = 1; pattern = ((codes "all") ∷ []); gathering = None; vars = (no_parts); is_linear = true; serial = ([]); pre_tasks = (no_steps); tasks = (task_step (record { line = 2; work = (module_work (codes "ping") (no_parts)); condition = (no_expressions); loop = None; register = (Some (codes "length")); vars = (no_parts); notify = ([]); changed_when = None; failed_when = None; ignore_errors = None }) (no_steps)); post_tasks = (no_steps); handlers = ([]) } ∷ [])
 
-abbrev rules_034_inventory : Inventory
-rules_034_inventory = record { hosts = (record { name = (codes "h1"); variables = (no_fields) } ∷ []); groups = (record { name = (codes "all"); hosts = ((codes "h1") ∷ []) } ∷ record { name = (codes "ungrouped"); hosts = ((codes "h1") ∷ []) } ∷ []) }
+abbrev rules_089_inventory : Inventory
+rules_089_inventory = record { hosts = (record { name = (codes "h1"); variables = (no_fields) } ∷ []); groups = (record { name = (codes "all"); hosts = ((codes "h1") ∷ []) } ∷ record { name = (codes "ungrouped"); hosts = ((codes "h1") ∷ []) } ∷ []) }
 
-abbrev rules_034_registry : Registry
-rules_034_registry = (builtins ++ ([]))
+abbrev rules_089_registry : Registry
+rules_089_registry = (builtins ++ ([]))
 
-rules_034 : judged rules_034_registry rules_034_inventory rules_034_book ≡ refused (record { code = 8; line = 2; host = None })
-rules_034 = refl
+rules_089 : judged rules_089_registry rules_089_inventory rules_089_book ≡ accepted 1
+rules_089 = refl
 
--- rules_035: register group_names
-abbrev rules_035_book : Book
-rules_035_book = (record { line = 1; pattern = ((codes "all") ∷ []); gathering = None; vars = (no_parts); is_linear = true; serial = ([]); pre_tasks = (no_steps); tasks = (task_step (record { line = 2; work = (module_work (codes "ping") (no_parts)); condition = (no_expressions); loop = None; register = (Some (codes "group_names")); vars = (no_parts); notify = ([]); changed_when = None; failed_when = None; ignore_errors = None }) (no_steps)); post_tasks = (no_steps); handlers = ([]) } ∷ [])
+-- rules_090: set_fact length
+abbrev rules_090_book : Book
+rules_090_book = (record { line = 1; pattern = ((codes "all") ∷ []); gathering = None; vars = (no_parts); is_linear = true; serial = ([]); pre_tasks = (no_steps); tasks = (task_step (record { line = 2; work = (set_fact_work (part (codes "length") (literal (int (pos 1))) (no_parts))); condition = (no_expressions); loop = None; register = None; vars = (no_parts); notify = ([]); changed_when = None; failed_when = None; ignore_errors = None }) (no_steps)); post_tasks = (no_steps); handlers = ([]) } ∷ [])
 
-abbrev rules_035_inventory : Inventory
-rules_035_inventory = record { hosts = (record { name = (codes "h1"); variables = (no_fields) } ∷ []); groups = (record { name = (codes "all"); hosts = ((codes "h1") ∷ []) } ∷ record { name = (codes "ungrouped"); hosts = ((codes "h1") ∷ []) } ∷ []) }
+abbrev rules_090_inventory : Inventory
+rules_090_inventory = record { hosts = (record { name = (codes "h1"); variables = (no_fields) } ∷ []); groups = (record { name = (codes "all"); hosts = ((codes "h1") ∷ []) } ∷ record { name = (codes "ungrouped"); hosts = ((codes "h1") ∷ []) } ∷ []) }
 
-abbrev rules_035_registry : Registry
-rules_035_registry = (builtins ++ ([]))
+abbrev rules_090_registry : Registry
+rules_090_registry = (builtins ++ ([]))
 
-rules_035 : judged rules_035_registry rules_035_inventory rules_035_book ≡ refused (record { code = 8; line = 2; host = None })
-rules_035 = refl
+rules_090 : judged rules_090_registry rules_090_inventory rules_090_book ≡ accepted 0
+rules_090 = refl
 
--- rules_038: register hostvars
-abbrev rules_038_book : Book
-rules_038_book = (record { line = 1; pattern = ((codes "all") ∷ []); gathering = None; vars = (no_parts); is_linear = true; serial = ([]); pre_tasks = (no_steps); tasks = (task_step (record { line = 2; work = (module_work (codes "ping") (no_parts)); condition = (no_expressions); loop = None; register = (Some (codes "hostvars")); vars = (no_parts); notify = ([]); changed_when = None; failed_when = None; ignore_errors = None }) (no_steps)); post_tasks = (no_steps); handlers = ([]) } ∷ [])
+-- rules_093: set_fact ansible_fqdn
+abbrev rules_093_book : Book
+rules_093_book = (record { line = 1; pattern = ((codes "all") ∷ []); gathering = None; vars = (no_parts); is_linear = true; serial = ([]); pre_tasks = (no_steps); tasks = (task_step (record { line = 2; work = (set_fact_work (part (codes "ansible_fqdn") (literal (int (pos 1))) (no_parts))); condition = (no_expressions); loop = None; register = None; vars = (no_parts); notify = ([]); changed_when = None; failed_when = None; ignore_errors = None }) (no_steps)); post_tasks = (no_steps); handlers = ([]) } ∷ [])
 
-abbrev rules_038_inventory : Inventory
-rules_038_inventory = record { hosts = (record { name = (codes "h1"); variables = (no_fields) } ∷ []); groups = (record { name = (codes "all"); hosts = ((codes "h1") ∷ []) } ∷ record { name = (codes "ungrouped"); hosts = ((codes "h1") ∷ []) } ∷ []) }
+abbrev rules_093_inventory : Inventory
+rules_093_inventory = record { hosts = (record { name = (codes "h1"); variables = (no_fields) } ∷ []); groups = (record { name = (codes "all"); hosts = ((codes "h1") ∷ []) } ∷ record { name = (codes "ungrouped"); hosts = ((codes "h1") ∷ []) } ∷ []) }
 
-abbrev rules_038_registry : Registry
-rules_038_registry = (builtins ++ ([]))
+abbrev rules_093_registry : Registry
+rules_093_registry = (builtins ++ ([]))
 
-rules_038 : judged rules_038_registry rules_038_inventory rules_038_book ≡ refused (record { code = 8; line = 2; host = None })
-rules_038 = refl
+rules_093 : judged rules_093_registry rules_093_inventory rules_093_book ≡ accepted 0
+rules_093 = refl
 
--- rules_039: set_fact hostvars
-abbrev rules_039_book : Book
-rules_039_book = (record { line = 1; pattern = ((codes "all") ∷ []); gathering = None; vars = (no_parts); is_linear = true; serial = ([]); pre_tasks = (no_steps); tasks = (task_step (record { line = 2; work = (set_fact_work (part (codes "hostvars") (literal (int (pos 1))) (no_parts))); condition = (no_expressions); loop = None; register = None; vars = (no_parts); notify = ([]); changed_when = None; failed_when = None; ignore_errors = None }) (no_steps)); post_tasks = (no_steps); handlers = ([]) } ∷ [])
+-- rules_095: register play_hosts
+abbrev rules_095_book : Book
+rules_095_book = (record { line = 1; pattern = ((codes "all") ∷ []); gathering = None; vars = (no_parts); is_linear = true; serial = ([]); pre_tasks = (no_steps); tasks = (task_step (record { line = 2; work = (module_work (codes "ping") (no_parts)); condition = (no_expressions); loop = None; register = (Some (codes "play_hosts")); vars = (no_parts); notify = ([]); changed_when = None; failed_when = None; ignore_errors = None }) (no_steps)); post_tasks = (no_steps); handlers = ([]) } ∷ [])
 
-abbrev rules_039_inventory : Inventory
-rules_039_inventory = record { hosts = (record { name = (codes "h1"); variables = (no_fields) } ∷ []); groups = (record { name = (codes "all"); hosts = ((codes "h1") ∷ []) } ∷ record { name = (codes "ungrouped"); hosts = ((codes "h1") ∷ []) } ∷ []) }
+abbrev rules_095_inventory : Inventory
+rules_095_inventory = record { hosts = (record { name = (codes "h1"); variables = (no_fields) } ∷ []); groups = (record { name = (codes "all"); hosts = ((codes "h1") ∷ []) } ∷ record { name = (codes "ungrouped"); hosts = ((codes "h1") ∷ []) } ∷ []) }
 
-abbrev rules_039_registry : Registry
-rules_039_registry = (builtins ++ ([]))
+abbrev rules_095_registry : Registry
+rules_095_registry = (builtins ++ ([]))
 
-rules_039 : judged rules_039_registry rules_039_inventory rules_039_book ≡ refused (record { code = 8; line = 2; host = None })
-rules_039 = refl
+rules_095 : judged rules_095_registry rules_095_inventory rules_095_book ≡ accepted 1
+rules_095 = refl
 
--- rules_041: register ansible_play_batch
-abbrev rules_041_book : Book
-rules_041_book = (record { line = 1; pattern = ((codes "all") ∷ []); gathering = None; vars = (no_parts); is_linear = true; serial = ([]); pre_tasks = (no_steps); tasks = (task_step (record { line = 2; work = (module_work (codes "ping") (no_parts)); condition = (no_expressions); loop = None; register = (Some (codes "ansible_play_batch")); vars = (no_parts); notify = ([]); changed_when = None; failed_when = None; ignore_errors = None }) (no_steps)); post_tasks = (no_steps); handlers = ([]) } ∷ [])
+-- rules_096: set_fact play_hosts
+abbrev rules_096_book : Book
+rules_096_book = (record { line = 1; pattern = ((codes "all") ∷ []); gathering = None; vars = (no_parts); is_linear = true; serial = ([]); pre_tasks = (no_steps); tasks = (task_step (record { line = 2; work = (set_fact_work (part (codes "play_hosts") (literal (int (pos 1))) (no_parts))); condition = (no_expressions); loop = None; register = None; vars = (no_parts); notify = ([]); changed_when = None; failed_when = None; ignore_errors = None }) (no_steps)); post_tasks = (no_steps); handlers = ([]) } ∷ [])
 
-abbrev rules_041_inventory : Inventory
-rules_041_inventory = record { hosts = (record { name = (codes "h1"); variables = (no_fields) } ∷ []); groups = (record { name = (codes "all"); hosts = ((codes "h1") ∷ []) } ∷ record { name = (codes "ungrouped"); hosts = ((codes "h1") ∷ []) } ∷ []) }
+abbrev rules_096_inventory : Inventory
+rules_096_inventory = record { hosts = (record { name = (codes "h1"); variables = (no_fields) } ∷ []); groups = (record { name = (codes "all"); hosts = ((codes "h1") ∷ []) } ∷ record { name = (codes "ungrouped"); hosts = ((codes "h1") ∷ []) } ∷ []) }
 
-abbrev rules_041_registry : Registry
-rules_041_registry = (builtins ++ ([]))
+abbrev rules_096_registry : Registry
+rules_096_registry = (builtins ++ ([]))
 
-rules_041 : judged rules_041_registry rules_041_inventory rules_041_book ≡ refused (record { code = 8; line = 2; host = None })
-rules_041 = refl
+rules_096 : judged rules_096_registry rules_096_inventory rules_096_book ≡ accepted 0
+rules_096 = refl
 
--- rules_042: set_fact ansible_play_batch
-abbrev rules_042_book : Book
-rules_042_book = (record { line = 1; pattern = ((codes "all") ∷ []); gathering = None; vars = (no_parts); is_linear = true; serial = ([]); pre_tasks = (no_steps); tasks = (task_step (record { line = 2; work = (set_fact_work (part (codes "ansible_play_batch") (literal (int (pos 1))) (no_parts))); condition = (no_expressions); loop = None; register = None; vars = (no_parts); notify = ([]); changed_when = None; failed_when = None; ignore_errors = None }) (no_steps)); post_tasks = (no_steps); handlers = ([]) } ∷ [])
+-- rules_100: vars vars of a task
+abbrev rules_100_book : Book
+rules_100_book = (record { line = 1; pattern = ((codes "all") ∷ []); gathering = None; vars = (no_parts); is_linear = true; serial = ([]); pre_tasks = (no_steps); tasks = (task_step (record { line = 2; work = (module_work (codes "ping") (no_parts)); condition = (no_expressions); loop = None; register = None; vars = (part (codes "vars") (literal (int (pos 1))) (no_parts)); notify = ([]); changed_when = None; failed_when = None; ignore_errors = None }) (no_steps)); post_tasks = (no_steps); handlers = ([]) } ∷ [])
 
-abbrev rules_042_inventory : Inventory
-rules_042_inventory = record { hosts = (record { name = (codes "h1"); variables = (no_fields) } ∷ []); groups = (record { name = (codes "all"); hosts = ((codes "h1") ∷ []) } ∷ record { name = (codes "ungrouped"); hosts = ((codes "h1") ∷ []) } ∷ []) }
+abbrev rules_100_inventory : Inventory
+rules_100_inventory = record { hosts = (record { name = (codes "h1"); variables = (no_fields) } ∷ []); groups = (record { name = (codes "all"); hosts = ((codes "h1") ∷ []) } ∷ record { name = (codes "ungrouped"); hosts = ((codes "h1") ∷ []) } ∷ []) }
 
-abbrev rules_042_registry : Registry
-rules_042_registry = (builtins ++ ([]))
+abbrev rules_100_registry : Registry
+rules_100_registry = (builtins ++ ([]))
 
-rules_042 : judged rules_042_registry rules_042_inventory rules_042_book ≡ refused (record { code = 8; line = 2; host = None })
-rules_042 = refl
+rules_100 : judged rules_100_registry rules_100_inventory rules_100_book ≡ accepted 1
+rules_100 = refl
 
--- rules_043: vars ansible_play_batch of a task
-abbrev rules_043_book : Book
-rules_043_book = (record { line = 1; pattern = ((codes "all") ∷ []); gathering = None; vars = (no_parts); is_linear = true; serial = ([]); pre_tasks = (no_steps); tasks = (task_step (record { line = 2; work = (module_work (codes "ping") (no_parts)); condition = (no_expressions); loop = None; register = None; vars = (part (codes "ansible_play_batch") (literal (int (pos 1))) (no_parts)); notify = ([]); changed_when = None; failed_when = None; ignore_errors = None }) (no_steps)); post_tasks = (no_steps); handlers = ([]) } ∷ [])
+-- rules_108: V10 a cycle
+abbrev rules_108_book : Book
+rules_108_book = (record { line = 1; pattern = ((codes "all") ∷ []); gathering = None; vars = (part (codes "a") (path (variable (codes "b")) ([])) (part (codes "b") (path (variable (codes "a")) ([])) (no_parts))); is_linear = true; serial = ([]); pre_tasks = (no_steps); tasks = (task_step (record { line = 2; work = (module_work (codes "ping") (no_parts)); condition = (no_expressions); loop = None; register = None; vars = (no_parts); notify = ([]); changed_when = None; failed_when = None; ignore_errors = None }) (no_steps)); post_tasks = (no_steps); handlers = ([]) } ∷ [])
 
-abbrev rules_043_inventory : Inventory
-rules_043_inventory = record { hosts = (record { name = (codes "h1"); variables = (no_fields) } ∷ []); groups = (record { name = (codes "all"); hosts = ((codes "h1") ∷ []) } ∷ record { name = (codes "ungrouped"); hosts = ((codes "h1") ∷ []) } ∷ []) }
+abbrev rules_108_inventory : Inventory
+rules_108_inventory = record { hosts = (record { name = (codes "h1"); variables = (no_fields) } ∷ []); groups = (record { name = (codes "all"); hosts = ((codes "h1") ∷ []) } ∷ record { name = (codes "ungrouped"); hosts = ((codes "h1") ∷ []) } ∷ []) }
 
-abbrev rules_043_registry : Registry
-rules_043_registry = (builtins ++ ([]))
+abbrev rules_108_registry : Registry
+rules_108_registry = (builtins ++ ([]))
 
-rules_043 : judged rules_043_registry rules_043_inventory rules_043_book ≡ refused (record { code = 8; line = 2; host = None })
-rules_043 = refl
+rules_108 : judged rules_108_registry rules_108_inventory rules_108_book ≡ refused (record { code = 10; line = 2; host = None })
+rules_108 = refl
 
--- rules_045: set_fact item
-abbrev rules_045_book : Book
-rules_045_book = (record { line = 1; pattern = ((codes "all") ∷ []); gathering = None; vars = (no_parts); is_linear = true; serial = ([]); pre_tasks = (no_steps); tasks = (task_step (record { line = 2; work = (set_fact_work (part (codes "item") (literal (int (pos 1))) (no_parts))); condition = (no_expressions); loop = None; register = None; vars = (no_parts); notify = ([]); changed_when = None; failed_when = None; ignore_errors = None }) (no_steps)); post_tasks = (no_steps); handlers = ([]) } ∷ [])
+-- rules_110: V10 no task: nothing is asked
+abbrev rules_110_book : Book
+rules_110_book = (record { line = 1; pattern = ((codes "all") ∷ []); gathering = None; vars = (part (codes "a") (path (variable (codes "a")) ([])) (no_parts)); is_linear = true; serial = ([]); pre_tasks = (no_steps); tasks = (no_steps); post_tasks = (no_steps); handlers = ([]) } ∷ [])
 
-abbrev rules_045_inventory : Inventory
-rules_045_inventory = record { hosts = (record { name = (codes "h1"); variables = (no_fields) } ∷ []); groups = (record { name = (codes "all"); hosts = ((codes "h1") ∷ []) } ∷ record { name = (codes "ungrouped"); hosts = ((codes "h1") ∷ []) } ∷ []) }
+abbrev rules_110_inventory : Inventory
+rules_110_inventory = record { hosts = (record { name = (codes "h1"); variables = (no_fields) } ∷ []); groups = (record { name = (codes "all"); hosts = ((codes "h1") ∷ []) } ∷ record { name = (codes "ungrouped"); hosts = ((codes "h1") ∷ []) } ∷ []) }
 
-abbrev rules_045_registry : Registry
-rules_045_registry = (builtins ++ ([]))
+abbrev rules_110_registry : Registry
+rules_110_registry = (builtins ++ ([]))
 
-rules_045 : judged rules_045_registry rules_045_inventory rules_045_book ≡ refused (record { code = 8; line = 2; host = None })
-rules_045 = refl
+rules_110 : judged rules_110_registry rules_110_inventory rules_110_book ≡ accepted 0
+rules_110 = refl
 
--- rules_047: register ansible_failed_result
-abbrev rules_047_book : Book
-rules_047_book = (record { line = 1; pattern = ((codes "all") ∷ []); gathering = None; vars = (no_parts); is_linear = true; serial = ([]); pre_tasks = (no_steps); tasks = (task_step (record { line = 2; work = (module_work (codes "ping") (no_parts)); condition = (no_expressions); loop = None; register = (Some (codes "ansible_failed_result")); vars = (no_parts); notify = ([]); changed_when = None; failed_when = None; ignore_errors = None }) (no_steps)); post_tasks = (no_steps); handlers = ([]) } ∷ [])
+-- rules_111: V10 asked at the gathering
+abbrev rules_111_book : Book
+rules_111_book = (record { line = 1; pattern = ((codes "all") ∷ []); gathering = (Some 2); vars = (part (codes "a") (path (variable (codes "a")) ([])) (no_parts)); is_linear = true; serial = ([]); pre_tasks = (no_steps); tasks = (no_steps); post_tasks = (no_steps); handlers = ([]) } ∷ [])
 
-abbrev rules_047_inventory : Inventory
-rules_047_inventory = record { hosts = (record { name = (codes "h1"); variables = (no_fields) } ∷ []); groups = (record { name = (codes "all"); hosts = ((codes "h1") ∷ []) } ∷ record { name = (codes "ungrouped"); hosts = ((codes "h1") ∷ []) } ∷ []) }
+abbrev rules_111_inventory : Inventory
+rules_111_inventory = record { hosts = (record { name = (codes "h1"); variables = (no_fields) } ∷ []); groups = (record { name = (codes "all"); hosts = ((codes "h1") ∷ []) } ∷ record { name = (codes "ungrouped"); hosts = ((codes "h1") ∷ []) } ∷ []) }
 
-abbrev rules_047_registry : Registry
-rules_047_registry = (builtins ++ ([]))
+abbrev rules_111_registry : Registry
+rules_111_registry = (builtins ++ ([]))
 
-rules_047 : judged rules_047_registry rules_047_inventory rules_047_book ≡ refused (record { code = 8; line = 2; host = None })
-rules_047 = refl
+rules_111 : judged rules_111_registry rules_111_inventory rules_111_book ≡ refused (record { code = 10; line = 2; host = None })
+rules_111 = refl

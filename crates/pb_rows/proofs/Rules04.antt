@@ -1,169 +1,165 @@
 -- Cases of rules, computed.
-use Rattle.std.specs.Prelude.{◌≡◌, refl, ℕ, zero, suc, pos, negsuc, List, [], ◌∷◌, ◌++◌, true, false, Option, Some, None, codes}
-use Rattle.std.specs.Fmt.{digits}
-use Rattle.pb_semantics.specs.Data.{Data, null, boolean, int, text, list, rec, opaque, no_items, item, no_fields, field}
-use Rattle.pb_semantics.specs.Kind.{booleans, ints, texts, lists, recs, no_slots, slot}
-use Rattle.pb_language.specs.Expression.{equal, less, at_most, more, at_least, is_failed, is_changed, is_skipped, named_host, this_host, item_host, group_member, literal, path, hostvars_alone, negation, conjunction, disjunction, comparison, membership, in_batch, defined, undefinable, path_status, value_status, path_or, value_or, length_of, joined_by, concatenation, list_of, record_of, variable, other, member, no_expressions, expression, no_parts, part}
-use Rattle.pb_language.specs.Book.{not_given, not_well_formed, conditions_are, module_work, debug_work, set_fact_work, assert_work, fail_work, no_steps, task_step, block_step, flush_step, host_count, percentage, Book, Registry}
+use Rattle.std.specs.Prelude.{◌≡◌, refl, pos, [], ◌∷◌, ◌++◌, true, Some, None, codes}
+use Rattle.pb_semantics.specs.Data.{int, text, no_fields, field}
+use Rattle.pb_language.specs.Expression.{equal, named_host, literal, path, comparison, in_batch, defined, variable, other, no_expressions, expression, no_parts, part}
+use Rattle.pb_language.specs.Book.{module_work, debug_work, no_steps, task_step, Book, Registry}
 use Rattle.pb_language.specs.Builtins.{builtins}
-use Rattle.pb_language.specs.Give.{object, unreachable}
 use Rattle.pb_language.specs.Judged.{judged}
 use Rattle.pb_language.specs.Program.{Inventory}
-use Rattle.pb_language.specs.Verdict.{accepted, refused}
-use Rattle.pb_rows.specs.Recaps.{recaps_of}
+use Rattle.pb_language.specs.Verdict.{refused}
 
--- rules_065: register None
-abbrev rules_065_book : Book
-rules_065_book = (record { line = 1; pattern = ((codes "all") ∷ []); gathering = None; vars = (no_parts); is_linear = true; serial = ([]); pre_tasks = (no_steps); tasks = (task_step (record { line = 2; work = (module_work (codes "ping") (no_parts)); condition = (no_expressions); loop = None; register = (Some (codes "None")); vars = (no_parts); notify = ([]); changed_when = None; failed_when = None; ignore_errors = None }) (no_steps)); post_tasks = (no_steps); handlers = ([]) } ∷ [])
+-- rules_156: V05 before V12 on one line
+abbrev rules_156_book : Book
+rules_156_book = (record { line = 1; pattern = ((codes "all") ∷ []); gathering = None; vars = (no_parts); is_linear = true; serial = ([]); pre_tasks = (no_steps); tasks = (task_step (record { line = 2; work = (module_work (codes "ping") (no_parts)); condition = (no_expressions); loop = None; register = None; vars = (no_parts); notify = ([]); changed_when = None; failed_when = None; ignore_errors = None }) (no_steps)); post_tasks = (no_steps); handlers = (record { work = (record { line = 3; work = (module_work (codes "ping") (no_parts)); condition = (no_expressions); loop = None; register = None; vars = (no_parts); notify = ((codes "a") ∷ (codes "zz") ∷ []); changed_when = None; failed_when = None; ignore_errors = None }); name = (Some (codes "a")); topics = ([]) } ∷ []) } ∷ [])
 
-abbrev rules_065_inventory : Inventory
-rules_065_inventory = record { hosts = (record { name = (codes "h1"); variables = (no_fields) } ∷ []); groups = (record { name = (codes "all"); hosts = ((codes "h1") ∷ []) } ∷ record { name = (codes "ungrouped"); hosts = ((codes "h1") ∷ []) } ∷ []) }
+abbrev rules_156_inventory : Inventory
+rules_156_inventory = record { hosts = (record { name = (codes "h1"); variables = (no_fields) } ∷ []); groups = (record { name = (codes "all"); hosts = ((codes "h1") ∷ []) } ∷ record { name = (codes "ungrouped"); hosts = ((codes "h1") ∷ []) } ∷ []) }
 
-abbrev rules_065_registry : Registry
-rules_065_registry = (builtins ++ ([]))
+abbrev rules_156_registry : Registry
+rules_156_registry = (builtins ++ ([]))
 
-rules_065 : judged rules_065_registry rules_065_inventory rules_065_book ≡ refused (record { code = 8; line = 2; host = None })
-rules_065 = refl
+rules_156 : judged rules_156_registry rules_156_inventory rules_156_book ≡ refused (record { code = 5; line = 3; host = None })
+rules_156 = refl
 
--- rules_066: set_fact None
-abbrev rules_066_book : Book
-rules_066_book = (record { line = 1; pattern = ((codes "all") ∷ []); gathering = None; vars = (no_parts); is_linear = true; serial = ([]); pre_tasks = (no_steps); tasks = (task_step (record { line = 2; work = (set_fact_work (part (codes "None") (literal (int (pos 1))) (no_parts))); condition = (no_expressions); loop = None; register = None; vars = (no_parts); notify = ([]); changed_when = None; failed_when = None; ignore_errors = None }) (no_steps)); post_tasks = (no_steps); handlers = ([]) } ∷ [])
+-- rules_157: V09 hostvars
+abbrev rules_157_book : Book
+rules_157_book = (record { line = 1; pattern = ((codes "all") ∷ []); gathering = None; vars = (no_parts); is_linear = true; serial = ([]); pre_tasks = (no_steps); tasks = (task_step (record { line = 2; work = (module_work (codes "command") (part (codes "cmd") (literal (text (codes "x"))) (no_parts))); condition = (no_expressions); loop = None; register = (Some (codes "out")); vars = (no_parts); notify = ([]); changed_when = None; failed_when = (Some (expression (comparison equal (path (other (named_host (codes "h1")) (codes "inv")) ([])) (literal (int (pos 1)))) (no_expressions))); ignore_errors = None }) (no_steps)); post_tasks = (no_steps); handlers = ([]) } ∷ [])
 
-abbrev rules_066_inventory : Inventory
-rules_066_inventory = record { hosts = (record { name = (codes "h1"); variables = (no_fields) } ∷ []); groups = (record { name = (codes "all"); hosts = ((codes "h1") ∷ []) } ∷ record { name = (codes "ungrouped"); hosts = ((codes "h1") ∷ []) } ∷ []) }
+abbrev rules_157_inventory : Inventory
+rules_157_inventory = record { hosts = (record { name = (codes "h1"); variables = (no_fields) } ∷ []); groups = (record { name = (codes "all"); hosts = ((codes "h1") ∷ []) } ∷ record { name = (codes "ungrouped"); hosts = ((codes "h1") ∷ []) } ∷ []) }
 
-abbrev rules_066_registry : Registry
-rules_066_registry = (builtins ++ ([]))
+abbrev rules_157_registry : Registry
+rules_157_registry = (builtins ++ ([]))
 
-rules_066 : judged rules_066_registry rules_066_inventory rules_066_book ≡ refused (record { code = 8; line = 2; host = None })
-rules_066 = refl
+rules_157 : judged rules_157_registry rules_157_inventory rules_157_book ≡ refused (record { code = 9; line = 2; host = None })
+rules_157 = refl
 
--- rules_070: vars if of a task
-abbrev rules_070_book : Book
-rules_070_book = (record { line = 1; pattern = ((codes "all") ∷ []); gathering = None; vars = (no_parts); is_linear = true; serial = ([]); pre_tasks = (no_steps); tasks = (task_step (record { line = 2; work = (module_work (codes "ping") (no_parts)); condition = (no_expressions); loop = None; register = None; vars = (part (codes "if") (literal (int (pos 1))) (no_parts)); notify = ([]); changed_when = None; failed_when = None; ignore_errors = None }) (no_steps)); post_tasks = (no_steps); handlers = ([]) } ∷ [])
+-- rules_158: V09 ansible_play_batch
+abbrev rules_158_book : Book
+rules_158_book = (record { line = 1; pattern = ((codes "all") ∷ []); gathering = None; vars = (no_parts); is_linear = true; serial = ([]); pre_tasks = (no_steps); tasks = (task_step (record { line = 2; work = (module_work (codes "command") (part (codes "cmd") (literal (text (codes "x"))) (no_parts))); condition = (no_expressions); loop = None; register = (Some (codes "out")); vars = (no_parts); notify = ([]); changed_when = (Some (expression (in_batch (named_host (codes "h1"))) (no_expressions))); failed_when = None; ignore_errors = None }) (no_steps)); post_tasks = (no_steps); handlers = ([]) } ∷ [])
 
-abbrev rules_070_inventory : Inventory
-rules_070_inventory = record { hosts = (record { name = (codes "h1"); variables = (no_fields) } ∷ []); groups = (record { name = (codes "all"); hosts = ((codes "h1") ∷ []) } ∷ record { name = (codes "ungrouped"); hosts = ((codes "h1") ∷ []) } ∷ []) }
+abbrev rules_158_inventory : Inventory
+rules_158_inventory = record { hosts = (record { name = (codes "h1"); variables = (no_fields) } ∷ []); groups = (record { name = (codes "all"); hosts = ((codes "h1") ∷ []) } ∷ record { name = (codes "ungrouped"); hosts = ((codes "h1") ∷ []) } ∷ []) }
 
-abbrev rules_070_registry : Registry
-rules_070_registry = (builtins ++ ([]))
+abbrev rules_158_registry : Registry
+rules_158_registry = (builtins ++ ([]))
 
-rules_070 : judged rules_070_registry rules_070_inventory rules_070_book ≡ refused (record { code = 8; line = 2; host = None })
-rules_070 = refl
+rules_158 : judged rules_158_registry rules_158_inventory rules_158_book ≡ refused (record { code = 9; line = 2; host = None })
+rules_158 = refl
 
--- rules_071: register else
-abbrev rules_071_book : Book
-rules_071_book = (record { line = 1; pattern = ((codes "all") ∷ []); gathering = None; vars = (no_parts); is_linear = true; serial = ([]); pre_tasks = (no_steps); tasks = (task_step (record { line = 2; work = (module_work (codes "ping") (no_parts)); condition = (no_expressions); loop = None; register = (Some (codes "else")); vars = (no_parts); notify = ([]); changed_when = None; failed_when = None; ignore_errors = None }) (no_steps)); post_tasks = (no_steps); handlers = ([]) } ∷ [])
+-- rules_161: V09 through vars
+abbrev rules_161_book : Book
+rules_161_book = (record { line = 1; pattern = ((codes "all") ∷ []); gathering = None; vars = (part (codes "v") (defined (other (named_host (codes "h1")) (codes "x")) ([])) (no_parts)); is_linear = true; serial = ([]); pre_tasks = (no_steps); tasks = (task_step (record { line = 2; work = (module_work (codes "command") (part (codes "cmd") (literal (text (codes "x"))) (no_parts))); condition = (no_expressions); loop = None; register = (Some (codes "out")); vars = (no_parts); notify = ([]); changed_when = None; failed_when = (Some (expression (path (variable (codes "v")) ([])) (no_expressions))); ignore_errors = None }) (no_steps)); post_tasks = (no_steps); handlers = ([]) } ∷ [])
 
-abbrev rules_071_inventory : Inventory
-rules_071_inventory = record { hosts = (record { name = (codes "h1"); variables = (no_fields) } ∷ []); groups = (record { name = (codes "all"); hosts = ((codes "h1") ∷ []) } ∷ record { name = (codes "ungrouped"); hosts = ((codes "h1") ∷ []) } ∷ []) }
+abbrev rules_161_inventory : Inventory
+rules_161_inventory = record { hosts = (record { name = (codes "h1"); variables = (no_fields) } ∷ []); groups = (record { name = (codes "all"); hosts = ((codes "h1") ∷ []) } ∷ record { name = (codes "ungrouped"); hosts = ((codes "h1") ∷ []) } ∷ []) }
 
-abbrev rules_071_registry : Registry
-rules_071_registry = (builtins ++ ([]))
+abbrev rules_161_registry : Registry
+rules_161_registry = (builtins ++ ([]))
 
-rules_071 : judged rules_071_registry rules_071_inventory rules_071_book ≡ refused (record { code = 8; line = 2; host = None })
-rules_071 = refl
+rules_161 : judged rules_161_registry rules_161_inventory rules_161_book ≡ refused (record { code = 9; line = 2; host = None })
+rules_161 = refl
 
--- rules_073: vars else of a task
-abbrev rules_073_book : Book
-rules_073_book = (record { line = 1; pattern = ((codes "all") ∷ []); gathering = None; vars = (no_parts); is_linear = true; serial = ([]); pre_tasks = (no_steps); tasks = (task_step (record { line = 2; work = (module_work (codes "ping") (no_parts)); condition = (no_expressions); loop = None; register = None; vars = (part (codes "else") (literal (int (pos 1))) (no_parts)); notify = ([]); changed_when = None; failed_when = None; ignore_errors = None }) (no_steps)); post_tasks = (no_steps); handlers = ([]) } ∷ [])
+-- rules_162: V09 through vars, twice
+abbrev rules_162_book : Book
+rules_162_book = (record { line = 1; pattern = ((codes "all") ∷ []); gathering = None; vars = (part (codes "v") (defined (other (named_host (codes "h1")) (codes "x")) ([])) (part (codes "w") (path (variable (codes "v")) ([])) (no_parts))); is_linear = true; serial = ([]); pre_tasks = (no_steps); tasks = (task_step (record { line = 2; work = (module_work (codes "command") (part (codes "cmd") (literal (text (codes "x"))) (no_parts))); condition = (no_expressions); loop = None; register = (Some (codes "out")); vars = (no_parts); notify = ([]); changed_when = None; failed_when = (Some (expression (path (variable (codes "w")) ([])) (no_expressions))); ignore_errors = None }) (no_steps)); post_tasks = (no_steps); handlers = ([]) } ∷ [])
 
-abbrev rules_073_inventory : Inventory
-rules_073_inventory = record { hosts = (record { name = (codes "h1"); variables = (no_fields) } ∷ []); groups = (record { name = (codes "all"); hosts = ((codes "h1") ∷ []) } ∷ record { name = (codes "ungrouped"); hosts = ((codes "h1") ∷ []) } ∷ []) }
+abbrev rules_162_inventory : Inventory
+rules_162_inventory = record { hosts = (record { name = (codes "h1"); variables = (no_fields) } ∷ []); groups = (record { name = (codes "all"); hosts = ((codes "h1") ∷ []) } ∷ record { name = (codes "ungrouped"); hosts = ((codes "h1") ∷ []) } ∷ []) }
 
-abbrev rules_073_registry : Registry
-rules_073_registry = (builtins ++ ([]))
+abbrev rules_162_registry : Registry
+rules_162_registry = (builtins ++ ([]))
 
-rules_073 : judged rules_073_registry rules_073_inventory rules_073_book ≡ refused (record { code = 8; line = 2; host = None })
-rules_073 = refl
+rules_162 : judged rules_162_registry rules_162_inventory rules_162_book ≡ refused (record { code = 9; line = 2; host = None })
+rules_162 = refl
 
--- rules_074: register is
-abbrev rules_074_book : Book
-rules_074_book = (record { line = 1; pattern = ((codes "all") ∷ []); gathering = None; vars = (no_parts); is_linear = true; serial = ([]); pre_tasks = (no_steps); tasks = (task_step (record { line = 2; work = (module_work (codes "ping") (no_parts)); condition = (no_expressions); loop = None; register = (Some (codes "is")); vars = (no_parts); notify = ([]); changed_when = None; failed_when = None; ignore_errors = None }) (no_steps)); post_tasks = (no_steps); handlers = ([]) } ∷ [])
+-- rules_165: V12 before V09 on one line
+abbrev rules_165_book : Book
+rules_165_book = (record { line = 1; pattern = ((codes "all") ∷ []); gathering = None; vars = (no_parts); is_linear = true; serial = ([]); pre_tasks = (no_steps); tasks = (task_step (record { line = 2; work = (module_work (codes "ping") (no_parts)); condition = (no_expressions); loop = None; register = None; vars = (no_parts); notify = ([]); changed_when = None; failed_when = None; ignore_errors = None }) (no_steps)); post_tasks = (no_steps); handlers = (record { work = (record { line = 3; work = (module_work (codes "command") (part (codes "cmd") (literal (text (codes "x"))) (no_parts))); condition = (no_expressions); loop = None; register = (Some (codes "out")); vars = (no_parts); notify = ((codes "a") ∷ []); changed_when = None; failed_when = (Some (expression (in_batch (named_host (codes "a"))) (no_expressions))); ignore_errors = None }); name = (Some (codes "a")); topics = ([]) } ∷ []) } ∷ [])
 
-abbrev rules_074_inventory : Inventory
-rules_074_inventory = record { hosts = (record { name = (codes "h1"); variables = (no_fields) } ∷ []); groups = (record { name = (codes "all"); hosts = ((codes "h1") ∷ []) } ∷ record { name = (codes "ungrouped"); hosts = ((codes "h1") ∷ []) } ∷ []) }
+abbrev rules_165_inventory : Inventory
+rules_165_inventory = record { hosts = (record { name = (codes "h1"); variables = (no_fields) } ∷ []); groups = (record { name = (codes "all"); hosts = ((codes "h1") ∷ []) } ∷ record { name = (codes "ungrouped"); hosts = ((codes "h1") ∷ []) } ∷ []) }
 
-abbrev rules_074_registry : Registry
-rules_074_registry = (builtins ++ ([]))
+abbrev rules_165_registry : Registry
+rules_165_registry = (builtins ++ ([]))
 
-rules_074 : judged rules_074_registry rules_074_inventory rules_074_book ≡ refused (record { code = 8; line = 2; host = None })
-rules_074 = refl
+rules_165 : judged rules_165_registry rules_165_inventory rules_165_book ≡ refused (record { code = 12; line = 3; host = None })
+rules_165 = refl
 
--- rules_077: register true
-abbrev rules_077_book : Book
-rules_077_book = (record { line = 1; pattern = ((codes "all") ∷ []); gathering = None; vars = (no_parts); is_linear = true; serial = ([]); pre_tasks = (no_steps); tasks = (task_step (record { line = 2; work = (module_work (codes "ping") (no_parts)); condition = (no_expressions); loop = None; register = (Some (codes "true")); vars = (no_parts); notify = ([]); changed_when = None; failed_when = None; ignore_errors = None }) (no_steps)); post_tasks = (no_steps); handlers = ([]) } ∷ [])
+-- rules_166: the least line of all
+abbrev rules_166_book : Book
+rules_166_book = (record { line = 1; pattern = ((codes "all") ∷ []); gathering = None; vars = (no_parts); is_linear = true; serial = ([]); pre_tasks = (no_steps); tasks = (task_step (record { line = 2; work = (debug_work (part (codes "msg") (path (variable (codes "zz")) ([])) (no_parts))); condition = (no_expressions); loop = None; register = None; vars = (no_parts); notify = ([]); changed_when = None; failed_when = None; ignore_errors = None }) (task_step (record { line = 3; work = (module_work (codes "ping") (no_parts)); condition = (no_expressions); loop = None; register = None; vars = (no_parts); notify = ((codes "zz") ∷ []); changed_when = None; failed_when = None; ignore_errors = None }) (task_step (record { line = 4; work = (module_work (codes "ping") (part (codes "zz") (literal (int (pos 1))) (no_parts))); condition = (no_expressions); loop = None; register = None; vars = (no_parts); notify = ([]); changed_when = None; failed_when = None; ignore_errors = None }) (no_steps)))); post_tasks = (no_steps); handlers = ([]) } ∷ [])
 
-abbrev rules_077_inventory : Inventory
-rules_077_inventory = record { hosts = (record { name = (codes "h1"); variables = (no_fields) } ∷ []); groups = (record { name = (codes "all"); hosts = ((codes "h1") ∷ []) } ∷ record { name = (codes "ungrouped"); hosts = ((codes "h1") ∷ []) } ∷ []) }
+abbrev rules_166_inventory : Inventory
+rules_166_inventory = record { hosts = (record { name = (codes "h1"); variables = (no_fields) } ∷ []); groups = (record { name = (codes "all"); hosts = ((codes "h1") ∷ []) } ∷ record { name = (codes "ungrouped"); hosts = ((codes "h1") ∷ []) } ∷ []) }
 
-abbrev rules_077_registry : Registry
-rules_077_registry = (builtins ++ ([]))
+abbrev rules_166_registry : Registry
+rules_166_registry = (builtins ++ ([]))
 
-rules_077 : judged rules_077_registry rules_077_inventory rules_077_book ≡ refused (record { code = 8; line = 2; host = None })
-rules_077 = refl
+rules_166 : judged rules_166_registry rules_166_inventory rules_166_book ≡ refused (record { code = 5; line = 3; host = None })
+rules_166 = refl
 
--- rules_078: set_fact true
-abbrev rules_078_book : Book
-rules_078_book = (record { line = 1; pattern = ((codes "all") ∷ []); gathering = None; vars = (no_parts); is_linear = true; serial = ([]); pre_tasks = (no_steps); tasks = (task_step (record { line = 2; work = (set_fact_work (part (codes "true") (literal (int (pos 1))) (no_parts))); condition = (no_expressions); loop = None; register = None; vars = (no_parts); notify = ([]); changed_when = None; failed_when = None; ignore_errors = None }) (no_steps)); post_tasks = (no_steps); handlers = ([]) } ∷ [])
+-- rules_169: V10 before V06 on one line
+abbrev rules_169_book : Book
+rules_169_book = (record { line = 1; pattern = ((codes "all") ∷ []); gathering = None; vars = (no_parts); is_linear = true; serial = ([]); pre_tasks = (no_steps); tasks = (task_step (record { line = 2; work = (debug_work (part (codes "msg") (path (variable (codes "groups")) ((codes "zz") ∷ [])) (no_parts))); condition = (no_expressions); loop = None; register = None; vars = (part (codes "a") (path (variable (codes "a")) ([])) (no_parts)); notify = ([]); changed_when = None; failed_when = None; ignore_errors = None }) (no_steps)); post_tasks = (no_steps); handlers = ([]) } ∷ [])
 
-abbrev rules_078_inventory : Inventory
-rules_078_inventory = record { hosts = (record { name = (codes "h1"); variables = (no_fields) } ∷ []); groups = (record { name = (codes "all"); hosts = ((codes "h1") ∷ []) } ∷ record { name = (codes "ungrouped"); hosts = ((codes "h1") ∷ []) } ∷ []) }
+abbrev rules_169_inventory : Inventory
+rules_169_inventory = record { hosts = (record { name = (codes "h1"); variables = (no_fields) } ∷ []); groups = (record { name = (codes "all"); hosts = ((codes "h1") ∷ []) } ∷ record { name = (codes "ungrouped"); hosts = ((codes "h1") ∷ []) } ∷ []) }
 
-abbrev rules_078_registry : Registry
-rules_078_registry = (builtins ++ ([]))
+abbrev rules_169_registry : Registry
+rules_169_registry = (builtins ++ ([]))
 
-rules_078 : judged rules_078_registry rules_078_inventory rules_078_book ≡ refused (record { code = 8; line = 2; host = None })
-rules_078 = refl
+rules_169 : judged rules_169_registry rules_169_inventory rules_169_book ≡ refused (record { code = 10; line = 2; host = None })
+rules_169 = refl
 
--- rules_079: vars true of a task
-abbrev rules_079_book : Book
-rules_079_book = (record { line = 1; pattern = ((codes "all") ∷ []); gathering = None; vars = (no_parts); is_linear = true; serial = ([]); pre_tasks = (no_steps); tasks = (task_step (record { line = 2; work = (module_work (codes "ping") (no_parts)); condition = (no_expressions); loop = None; register = None; vars = (part (codes "true") (literal (int (pos 1))) (no_parts)); notify = ([]); changed_when = None; failed_when = None; ignore_errors = None }) (no_steps)); post_tasks = (no_steps); handlers = ([]) } ∷ [])
+-- rules_174: host order: only the second lacks it
+abbrev rules_174_book : Book
+rules_174_book = (record { line = 1; pattern = ((codes "all") ∷ []); gathering = None; vars = (no_parts); is_linear = true; serial = ([]); pre_tasks = (no_steps); tasks = (task_step (record { line = 2; work = (debug_work (part (codes "msg") (path (variable (codes "x")) ([])) (no_parts))); condition = (no_expressions); loop = None; register = None; vars = (no_parts); notify = ([]); changed_when = None; failed_when = None; ignore_errors = None }) (no_steps)); post_tasks = (no_steps); handlers = ([]) } ∷ [])
 
-abbrev rules_079_inventory : Inventory
-rules_079_inventory = record { hosts = (record { name = (codes "h1"); variables = (no_fields) } ∷ []); groups = (record { name = (codes "all"); hosts = ((codes "h1") ∷ []) } ∷ record { name = (codes "ungrouped"); hosts = ((codes "h1") ∷ []) } ∷ []) }
+abbrev rules_174_inventory : Inventory
+rules_174_inventory = record { hosts = (record { name = (codes "b"); variables = (field (codes "x") (int (pos 1)) (no_fields)) } ∷ record { name = (codes "a"); variables = (no_fields) } ∷ []); groups = (record { name = (codes "all"); hosts = ((codes "b") ∷ (codes "a") ∷ []) } ∷ record { name = (codes "ungrouped"); hosts = ((codes "b") ∷ (codes "a") ∷ []) } ∷ []) }
 
-abbrev rules_079_registry : Registry
-rules_079_registry = (builtins ++ ([]))
+abbrev rules_174_registry : Registry
+rules_174_registry = (builtins ++ ([]))
 
-rules_079 : judged rules_079_registry rules_079_inventory rules_079_book ≡ refused (record { code = 8; line = 2; host = None })
-rules_079 = refl
+rules_174 : judged rules_174_registry rules_174_inventory rules_174_book ≡ refused (record { code = 1; line = 2; host = (Some (codes "a")) })
+rules_174 = refl
 
--- rules_080: register False
-abbrev rules_080_book : Book
-rules_080_book = (record { line = 1; pattern = ((codes "all") ∷ []); gathering = None; vars = (no_parts); is_linear = true; serial = ([]); pre_tasks = (no_steps); tasks = (task_step (record { line = 2; work = (module_work (codes "ping") (no_parts)); condition = (no_expressions); loop = None; register = (Some (codes "False")); vars = (no_parts); notify = ([]); changed_when = None; failed_when = None; ignore_errors = None }) (no_steps)); post_tasks = (no_steps); handlers = ([]) } ∷ [])
+-- rules_175: least line before host order
+abbrev rules_175_book : Book
+rules_175_book = (record { line = 1; pattern = ((codes "all") ∷ []); gathering = None; vars = (no_parts); is_linear = true; serial = ([]); pre_tasks = (no_steps); tasks = (task_step (record { line = 2; work = (debug_work (part (codes "msg") (path (variable (codes "y")) ([])) (no_parts))); condition = (no_expressions); loop = None; register = None; vars = (no_parts); notify = ([]); changed_when = None; failed_when = None; ignore_errors = None }) (task_step (record { line = 3; work = (debug_work (part (codes "msg") (path (variable (codes "x")) ([])) (no_parts))); condition = (no_expressions); loop = None; register = None; vars = (no_parts); notify = ([]); changed_when = None; failed_when = None; ignore_errors = None }) (no_steps))); post_tasks = (no_steps); handlers = ([]) } ∷ [])
 
-abbrev rules_080_inventory : Inventory
-rules_080_inventory = record { hosts = (record { name = (codes "h1"); variables = (no_fields) } ∷ []); groups = (record { name = (codes "all"); hosts = ((codes "h1") ∷ []) } ∷ record { name = (codes "ungrouped"); hosts = ((codes "h1") ∷ []) } ∷ []) }
+abbrev rules_175_inventory : Inventory
+rules_175_inventory = record { hosts = (record { name = (codes "b"); variables = (field (codes "y") (int (pos 1)) (no_fields)) } ∷ record { name = (codes "a"); variables = (no_fields) } ∷ []); groups = (record { name = (codes "all"); hosts = ((codes "b") ∷ (codes "a") ∷ []) } ∷ record { name = (codes "ungrouped"); hosts = ((codes "b") ∷ (codes "a") ∷ []) } ∷ []) }
 
-abbrev rules_080_registry : Registry
-rules_080_registry = (builtins ++ ([]))
+abbrev rules_175_registry : Registry
+rules_175_registry = (builtins ++ ([]))
 
-rules_080 : judged rules_080_registry rules_080_inventory rules_080_book ≡ refused (record { code = 8; line = 2; host = None })
-rules_080 = refl
+rules_175 : judged rules_175_registry rules_175_inventory rules_175_book ≡ refused (record { code = 1; line = 2; host = (Some (codes "a")) })
+rules_175 = refl
 
--- rules_081: set_fact False
-abbrev rules_081_book : Book
-rules_081_book = (record { line = 1; pattern = ((codes "all") ∷ []); gathering = None; vars = (no_parts); is_linear = true; serial = ([]); pre_tasks = (no_steps); tasks = (task_step (record { line = 2; work = (set_fact_work (part (codes "False") (literal (int (pos 1))) (no_parts))); condition = (no_expressions); loop = None; register = None; vars = (no_parts); notify = ([]); changed_when = None; failed_when = None; ignore_errors = None }) (no_steps)); post_tasks = (no_steps); handlers = ([]) } ∷ [])
+-- rules_176: order: loop before when
+abbrev rules_176_book : Book
+rules_176_book = (record { line = 1; pattern = ((codes "all") ∷ []); gathering = None; vars = (no_parts); is_linear = true; serial = ([]); pre_tasks = (no_steps); tasks = (task_step (record { line = 2; work = (module_work (codes "ping") (no_parts)); condition = (expression (path (variable (codes "zz")) ([])) (no_expressions)); loop = (Some (literal (int (pos 5)))); register = None; vars = (no_parts); notify = ([]); changed_when = None; failed_when = None; ignore_errors = None }) (no_steps)); post_tasks = (no_steps); handlers = ([]) } ∷ [])
 
-abbrev rules_081_inventory : Inventory
-rules_081_inventory = record { hosts = (record { name = (codes "h1"); variables = (no_fields) } ∷ []); groups = (record { name = (codes "all"); hosts = ((codes "h1") ∷ []) } ∷ record { name = (codes "ungrouped"); hosts = ((codes "h1") ∷ []) } ∷ []) }
+abbrev rules_176_inventory : Inventory
+rules_176_inventory = record { hosts = (record { name = (codes "h1"); variables = (no_fields) } ∷ []); groups = (record { name = (codes "all"); hosts = ((codes "h1") ∷ []) } ∷ record { name = (codes "ungrouped"); hosts = ((codes "h1") ∷ []) } ∷ []) }
 
-abbrev rules_081_registry : Registry
-rules_081_registry = (builtins ++ ([]))
+abbrev rules_176_registry : Registry
+rules_176_registry = (builtins ++ ([]))
 
-rules_081 : judged rules_081_registry rules_081_inventory rules_081_book ≡ refused (record { code = 8; line = 2; host = None })
-rules_081 = refl
+rules_176 : judged rules_176_registry rules_176_inventory rules_176_book ≡ refused (record { code = 4; line = 2; host = (Some (codes "h1")) })
+rules_176 = refl
 
--- rules_082: vars False of a task
-abbrev rules_082_book : Book
-rules_082_book = (record { line = 1; pattern = ((codes "all") ∷ []); gathering = None; vars = (no_parts); is_linear = true; serial = ([]); pre_tasks = (no_steps); tasks = (task_step (record { line = 2; work = (module_work (codes "ping") (no_parts)); condition = (no_expressions); loop = None; register = None; vars = (part (codes "False") (literal (int (pos 1))) (no_parts)); notify = ([]); changed_when = None; failed_when = None; ignore_errors = None }) (no_steps)); post_tasks = (no_steps); handlers = ([]) } ∷ [])
+-- rules_177: order: when before arguments
+abbrev rules_177_book : Book
+rules_177_book = (record { line = 1; pattern = ((codes "all") ∷ []); gathering = None; vars = (no_parts); is_linear = true; serial = ([]); pre_tasks = (no_steps); tasks = (task_step (record { line = 2; work = (debug_work (part (codes "msg") (path (variable (codes "zz")) ([])) (no_parts))); condition = (expression (literal (int (pos 1))) (no_expressions)); loop = None; register = None; vars = (no_parts); notify = ([]); changed_when = None; failed_when = None; ignore_errors = None }) (no_steps)); post_tasks = (no_steps); handlers = ([]) } ∷ [])
 
-abbrev rules_082_inventory : Inventory
-rules_082_inventory = record { hosts = (record { name = (codes "h1"); variables = (no_fields) } ∷ []); groups = (record { name = (codes "all"); hosts = ((codes "h1") ∷ []) } ∷ record { name = (codes "ungrouped"); hosts = ((codes "h1") ∷ []) } ∷ []) }
+abbrev rules_177_inventory : Inventory
+rules_177_inventory = record { hosts = (record { name = (codes "h1"); variables = (no_fields) } ∷ []); groups = (record { name = (codes "all"); hosts = ((codes "h1") ∷ []) } ∷ record { name = (codes "ungrouped"); hosts = ((codes "h1") ∷ []) } ∷ []) }
 
-abbrev rules_082_registry : Registry
-rules_082_registry = (builtins ++ ([]))
+abbrev rules_177_registry : Registry
+rules_177_registry = (builtins ++ ([]))
 
-rules_082 : judged rules_082_registry rules_082_inventory rules_082_book ≡ refused (record { code = 8; line = 2; host = None })
-rules_082 = refl
+rules_177 : judged rules_177_registry rules_177_inventory rules_177_book ≡ refused (record { code = 4; line = 2; host = (Some (codes "h1")) })
+rules_177 = refl

@@ -1,7 +1,7 @@
 -- What the hosts of a book's run come to.
 use Rattle.std.specs.Prelude.{ℕ, List, [], ◌∷◌}
 use Rattle.pb_language.specs.Book.{Book, Registry}
-use Rattle.pb_language.specs.Drive.{Driven, drive}
+use Rattle.pb_language.specs.Drive.{drive}
 use Rattle.pb_language.specs.Give.{Answer}
 use Rattle.pb_language.specs.Machine.{Recap, Host, opening}
 use Rattle.pb_language.specs.Plays.{program_of}

@@ -1,5 +1,5 @@
 -- What the join of two slots says of each name.
-use Rattle.std.proofs.Common.{◌≡◌, ℕ, List, Bool, true, false, not, ◌&&◌, cond, bytes_eq, refl, ap, ◌∙◌}
+use Rattle.std.proofs.Common.{◌≡◌, ℕ, List, Bool, true, false, not, cond, bytes_eq, refl, ap, ◌∙◌}
 use Rattle.pb_semantics.specs.Kind.{KindData, Slots, Spot, no_slots, slot, nowhere, spot, slot_at, is_listed, put_slot}
 use Rattle.pb_semantics.specs.Join.{with_others, presence_with, kind_with, join, joined, join_slots, join_spot}
 use Rattle.pb_semantics.specs.Well.{are_once, Well, WellSlots}

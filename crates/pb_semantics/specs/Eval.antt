@@ -1,6 +1,6 @@
 -- The value of an expression, where it has one.
 use Rattle.std.specs.Prelude.{ℕ, List, [], ◌∷◌, Bool, true, false, not, ◌||◌, cond, Option, Some, None, is_some}
-use Rattle.pb_semantics.specs.Data.{Data, Items, Fields, null, boolean, int, text, list, rec, opaque, no_items, item, no_fields, field, field_value}
+use Rattle.pb_semantics.specs.Data.{Data, boolean, text, list, rec, opaque, no_items, item, no_fields, field, field_value}
 use Rattle.pb_semantics.specs.Equal.{data_eq, has_opaque, any_opaque, is_item, is_part}
 use Rattle.pb_semantics.specs.Expr.{ExprData, Exprs, Parts, literal, path, negation, conjunction, disjunction, equality, inequality, membership, list_of, record_of, no_exprs, expr, no_parts, part}
 

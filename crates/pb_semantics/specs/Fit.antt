@@ -1,5 +1,5 @@
 -- Which expressions have a value in every run that an environment describes, and of which kind.
-use Rattle.std.specs.Prelude.{ℕ, suc, List, [], ◌∷◌, Bool, true, false, ◌&&◌, ◌||◌, cond}
+use Rattle.std.specs.Prelude.{ℕ, suc, List, [], ◌∷◌, Bool, true, false, ◌||◌, cond}
 use Rattle.pb_semantics.specs.Data.{Data, Items, Fields, null, boolean, int, text, list, rec, opaque, no_items, item, no_fields, field, count_of}
 use Rattle.pb_semantics.specs.Kind.{KindData, Slots, Cases, Spot, never, nulls, booleans, ints, texts, hosts, lists, recs, results, anything, no_slots, slot, no_cases, one, nowhere, spot, slot_at}
 use Rattle.pb_semantics.specs.Join.{join}

@@ -1,0 +1,111 @@
+-- Cuts of batches, counts of steps, and histories, computed.
+use Rattle.std.specs.Prelude.{◌≡◌, refl, ℕ, zero, suc, List, [], ◌∷◌, true, Some, None, codes, map, length}
+use Rattle.pb_semantics.specs.Data.{text, rec, no_fields, field}
+use Rattle.pb_language.specs.Expression.{no_expressions, no_parts}
+use Rattle.pb_language.specs.Book.{module_work, TaskData, Steps, no_steps, task_step, block_step, host_count, percentage, PlayData, Book}
+use Rattle.pb_language.specs.Builtins.{builtins}
+use Rattle.pb_language.specs.Drive.{next_start}
+use Rattle.pb_language.specs.Give.{Answer, object}
+use Rattle.pb_language.specs.Machine.{start, give, turn, stop, State, history, opening, run_from}
+use Rattle.pb_language.specs.Plays.{batches_for, program_of}
+use Rattle.pb_language.specs.Program.{Inventory}
+use Rattle.pb_language.specs.Sites.{steps_of}
+
+abbrev five : List (List ℕ)
+five = codes "a" ∷ codes "b" ∷ codes "c" ∷ codes "d" ∷ codes "e" ∷ []
+
+abbrev three : List (List ℕ)
+three = codes "a" ∷ codes "b" ∷ codes "c" ∷ []
+
+-- the last entry repeats, and a percentage is of all hosts
+cuts : map length (batches_for (host_count 1 ∷ percentage 50 ∷ []) five) ≡ 1 ∷ 2 ∷ 2 ∷ []
+cuts = refl
+
+-- rounded down, and at least one
+small_cuts : map length (batches_for (percentage 30 ∷ []) three) ≡ 1 ∷ 1 ∷ 1 ∷ []
+small_cuts = refl
+
+no_cuts : batches_for [] [] ≡ []
+no_cuts = refl
+
+abbrev ping : ℕ → TaskData
+ping l = record {
+  line = l;
+  work = module_work (codes "ping") no_parts;
+  condition = no_expressions;
+  loop = None;
+  register = None;
+  vars = no_parts;
+  notify = [];
+  changed_when = None;
+  failed_when = None;
+  ignore_errors = None;
+}
+
+abbrev play : Steps → PlayData
+play ss = record {
+  line = 1;
+  pattern = codes "all" ∷ [];
+  gathering = None;
+  vars = no_parts;
+  is_linear = true;
+  serial = [];
+  pre_tasks = no_steps;
+  tasks = ss;
+  post_tasks = no_steps;
+  handlers = [];
+}
+
+abbrev nested : ℕ → Steps → Steps
+nested zero ss = ss
+nested (suc n) ss = block_step (record { line = 2; condition = no_expressions; vars = no_parts; ignore_errors = None }) no_steps no_steps (nested n ss) no_steps
+
+-- two tasks in twelve `always` parts, one in another
+steps : steps_of (play (nested 12 (task_step (ping 14) (task_step (ping 15) no_steps)))) ≡ 8192
+steps = refl
+
+abbrev two : Inventory
+two = record {
+  hosts = record { name = codes "db1"; variables = no_fields } ∷ record { name = codes "web1"; variables = no_fields } ∷ [];
+  groups = record { name = codes "all"; hosts = codes "db1" ∷ codes "web1" ∷ [] } ∷ [];
+}
+
+abbrev pinged : Answer
+pinged = object (rec (field (codes "ping") (text (codes "pong")) no_fields))
+
+abbrev pings : Book
+pings = play (task_step (ping 2) (task_step (ping 3) no_steps)) ∷ []
+
+abbrev opened : ℕ → State
+opened forks = opening (program_of builtins two pings) two forks
+
+-- with two forks both hosts start; then nobody can until both gave, since under `linear` nobody runs ahead
+both_start : next_start (run_from (opened 2) (start 0 ∷ start 1 ∷ [])) ≡ None
+both_start = refl
+
+waits_for_the_other : next_start (run_from (opened 2) (start 0 ∷ start 1 ∷ give 0 (pinged ∷ []) ∷ [])) ≡ None
+waits_for_the_other = refl
+
+goes_on : next_start (run_from (opened 2) (start 0 ∷ start 1 ∷ give 0 (pinged ∷ []) ∷ give 1 (pinged ∷ []) ∷ [])) ≡ Some (record { number = 0; place = 1 })
+goes_on = refl
+
+-- with one fork the second waits
+one_at_a_time : next_start (run_from (opened 1) (start 0 ∷ [])) ≡ None
+one_at_a_time = refl
+
+-- a job is given once, and after a Stop nothing happens
+given_once : history (opened 1) (start 0 ∷ give 0 (pinged ∷ []) ∷ give 0 (pinged ∷ []) ∷ []) ≡ start 0 ∷ give 0 (pinged ∷ []) ∷ []
+given_once = refl
+
+stopped : history (opened 2) (start 0 ∷ start 1 ∷ stop ∷ give 0 (pinged ∷ []) ∷ []) ≡ start 0 ∷ start 1 ∷ stop ∷ []
+stopped = refl
+
+abbrev one_ping : Book
+one_ping = play (task_step (ping 2) no_steps) ∷ []
+
+abbrev one_host : Inventory
+one_host = record { hosts = record { name = codes "h1"; variables = no_fields } ∷ []; groups = record { name = codes "all"; hosts = codes "h1" ∷ [] } ∷ [] }
+
+-- the run ends with the Turn of its last batch
+ends : history (opening (program_of builtins one_host one_ping) one_host 1) (start 0 ∷ give 0 (pinged ∷ []) ∷ turn ∷ turn ∷ stop ∷ []) ≡ start 0 ∷ give 0 (pinged ∷ []) ∷ turn ∷ []
+ends = refl

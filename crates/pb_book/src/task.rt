@@ -142,7 +142,7 @@ fn register_of(fields: &Fields) -> Result<Option<Arc<String>>, FormFault> {
 }
 
 /// Whether a variable can have that name: 1 to 128 ASCII letters, digits or `_`, the first no digit.
-fn is_variable(name: &str) -> bool {
+pub fn is_variable(name: &str) -> bool {
     let Some(first) = name.as_bytes().first() else {
         return false;
     };

@@ -81,12 +81,10 @@ fn fields_fit(fields: &Fields, levels: usize) -> bool {
     true
 }
 
+/// Whether the text is short enough: a template is one expression, and other texts may be longer.
 fn text_fits(text: &str) -> bool {
-    if has_opening(text) {
-        text.len() <= MOST_EXPRESSION_BYTES + BRACES
-    } else {
-        text.len() <= MOST_TEXT_BYTES
-    }
+    text.len() <= MOST_EXPRESSION_BYTES + BRACES
+        || (text.len() <= MOST_TEXT_BYTES && !has_opening(text))
 }
 
 /// Whether a template, a statement or a comment begins in the text.

@@ -12,6 +12,7 @@ use pb_sig::registry::Registry;
 use pb_value::read::read_json;
 use pb_value::value::{Fields, Value};
 use std::alloc::Global;
+use std::sync::Arc;
 
 /// The most bytes of a book's text.
 const MOST_BYTES: usize = 4_194_304;
@@ -35,38 +36,43 @@ impl Book {
             return Err(BookFault::NotBuilt);
         }
         let value = read_json(alloc, bytes)?;
-        Ok(Book::of_plays(plays_in(alloc, &value, registry)?))
+        Ok(Book::of_plays(plays_in(alloc, value, registry)?))
     }
 }
 
-fn plays_in(alloc: Global, value: &Value, registry: &Registry) -> Result<Vec<Play>, FormFault>
+// What was read is used up, so that the tasks find its memory.
+fn plays_in(alloc: Global, value: Value, registry: &Registry) -> Result<Vec<Play>, FormFault>
     ensures numbered { IfOk result (λ ps. is_numbered ps.items ≡ true) }
     ensures known { IfOk result (λ ps. names_known (modules_of registry.now) ps.items ≡ true) }
 {
     let Value::List(items) = value else {
         return Err(FormFault::NotBuilt);
     };
-    match items.as_slice() {
-        [] => Ok(Vec::new(alloc)),
-        [item] => Ok(vec![in alloc; play_of(alloc, item, registry)?]?),
-        _ => Err(FormFault::NotBuilt),
+    let mut items = Arc::unwrap_or_clone(items)?;
+    if items.len() > 1 {
+        return Err(FormFault::NotBuilt);
+    }
+    match items.pop() {
+        None => Ok(Vec::new(alloc)),
+        Some(item) => Ok(vec![in alloc; play_of(alloc, item, registry)?]?),
     }
 }
 
-fn play_of(alloc: Global, value: &Value, registry: &Registry) -> Result<Play, FormFault>
+fn play_of(alloc: Global, value: Value, registry: &Registry) -> Result<Play, FormFault>
     ensures numbered { IfOk result (λ p. is_numbered (p ∷ []) ≡ true) }
     ensures known { IfOk result (λ p. are_known (modules_of registry.now) p.tasks.items ≡ true) }
 {
     let Value::Rec(fields) = value else {
         return Err(FormFault::NotBuilt);
     };
-    if !is_play(fields) {
+    if !is_play(&fields) {
         return Err(FormFault::NotBuilt);
     }
-    match fields.get("tasks") {
+    let mut fields = Arc::unwrap_or_clone(fields)?;
+    match fields.remove("tasks") {
         Some(Value::List(items)) => Ok(Play {
             line: FIRST_LINE,
-            tasks: tasks_of(alloc, items.as_slice(), registry)?,
+            tasks: tasks_of(alloc, Arc::unwrap_or_clone(items)?, registry)?,
         }),
         _ => Err(FormFault::NotBuilt),
     }

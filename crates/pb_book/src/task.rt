@@ -25,7 +25,7 @@ const MOST_NAME_BYTES: usize = 128;
 /// The tasks that a list describes.
 pub(crate) fn tasks_of(
     alloc: Global,
-    items: &[Value],
+    items: Vec<Value>,
     registry: &Registry,
 ) -> Result<Vec<Task>, FormFault>
     ensures lines { IfOk result (λ ts. are_from 2 ts.items ≡ true) }
@@ -44,25 +44,26 @@ pub(crate) fn tasks_of(
     Ok(tasks)
 }
 
-fn task_of(alloc: Global, value: &Value, line: u32, registry: &Registry) -> Result<Task, FormFault>
+/// The task that a record describes, which is let go.
+fn task_of(alloc: Global, value: Value, line: u32, registry: &Registry) -> Result<Task, FormFault>
     ensures line { IfOk result (λ t. t.line ≡ line) }
     ensures known { IfOk result (λ t. is_known (modules_of registry.now) t.work ≡ true) }
 {
     let Value::Rec(fields) = value else {
         return Err(FormFault::NotBuilt);
     };
-    if !is_named(fields) {
+    if !is_named(&fields) {
         return Err(FormFault::NotBuilt);
     }
-    let (key, given) = work_entry(fields).ok_or(FormFault::NotBuilt)?;
+    let (key, given) = work_entry(&fields).ok_or(FormFault::NotBuilt)?;
     let work = work_of(key, registry)?;
     let arguments = given_arguments(alloc, key, given)?;
     Ok(Task {
         line,
         work,
         arguments,
-        when: condition_of(alloc, fields)?,
-        register: register_of(fields)?,
+        when: condition_of(alloc, &fields)?,
+        register: register_of(&fields)?,
     })
 }
 
@@ -141,7 +142,7 @@ fn register_of(fields: &Fields) -> Result<Option<Arc<String>>, FormFault> {
 }
 
 /// Whether a variable can have that name: 1 to 128 ASCII letters, digits or `_`, the first no digit.
-fn is_variable(name: &str) -> bool {
+pub fn is_variable(name: &str) -> bool {
     let Some(first) = name.as_bytes().first() else {
         return false;
     };

@@ -11,8 +11,8 @@ use pb_strategy::run::Run;
 use pb_strategy::script::{ScriptFault, ScriptRunner};
 use pb_verify::checked::Checked;
 use pb_verify::refusal::Code;
-use std::io;
 use std::rt::Files;
+use std::{io, mem};
 
 const FINE: u8 = 0;
 
@@ -92,7 +92,9 @@ fn check<R: Files + AllocGlobal + Print + Eprint>(rt: &R, subject: &Subject) -> 
     match read_all(rt, subject, None) {
         Ok(bytes) => {
             let verdict = verdict_of(rt, &bytes);
-            print_verdict(rt, &verdict)
+            let status = print_verdict(rt, &verdict);
+            leave(verdict);
+            status
         }
         Err(status) => status,
     }
@@ -109,13 +111,20 @@ fn execute<R: Files + AllocGlobal + Print + Eprint>(
         Err(status) => return status,
     };
     let verdict = verdict_of(rt, &bytes);
-    match (&verdict, &bytes.answers) {
+    let status = match (&verdict, &bytes.answers) {
         (Ok(checked), Some(answers)) => match ScriptRunner::read(rt.alloc(), answers.as_slice()) {
-            Ok(mut runner) => run_book(rt, checked, forks, &mut runner),
+            Ok(runner) => run_book(rt, checked, forks, runner),
             Err(fault) => print_verdict(rt, &Err(fault_of(fault))),
         },
         _ => print_verdict(rt, &verdict),
-    }
+    };
+    leave(verdict);
+    status
+}
+
+// Lets go of a value without taking it apart, as the process ends and its memory with it.
+fn leave<T: Drop>(value: T) {
+    mem::forget(value);
 }
 
 fn fault_of(fault: ScriptFault) -> Fault {
@@ -161,20 +170,24 @@ fn run_book<R: AllocGlobal + Print + Eprint>(
     rt: &R,
     checked: &Checked,
     forks: u16,
-    runner: &mut ScriptRunner,
+    runner: ScriptRunner,
 ) -> u8
-    requires { ⟦<ScriptRunner as Runner>⟧.calls runner.old < 2 ^ 63 }
+    requires { ⟦<ScriptRunner as Runner>⟧.calls runner < 2 ^ 63 }
 {
+    let mut runner = runner;
     let Ok(mut run) = Run::open(rt.alloc(), checked, workers_of(forks, checked.hosts())) else {
         return no_memory(rt);
     };
-    if drive(&mut run, runner).is_err() {
+    if drive(&mut run, &mut runner).is_err() {
         return no_memory(rt);
     }
-    match recap_text(rt.alloc(), &run) {
+    let status = match recap_text(rt.alloc(), &run) {
         Ok(text) => print_text(rt, text.as_str(), status_of(&run)),
         Err(_) => no_memory(rt),
-    }
+    };
+    leave(run);
+    leave(runner);
+    status
 }
 
 // The files in the order book, inventory, signatures, answers; or the status where one can't be read.

@@ -1,4 +1,3 @@
-pub mod Slots
 pub mod Found
 pub mod Copies
 pub mod Ended

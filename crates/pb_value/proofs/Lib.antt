@@ -1,6 +1,6 @@
 pub mod Views
 pub mod Fields
-pub mod JsonViews
+pub mod Reading
 pub mod Slots
 pub mod KeptLists
 pub mod Projections

@@ -9,6 +9,9 @@ abbrev pub int_or_opaque : Option ℤ → Data
 int_or_opaque None = opaque
 int_or_opaque (Some z) = int z
 
+abbrev pub number_data : json.Num → Data
+number_data n = int_or_opaque (as_i64 n)
+
 abbrev mutual
   pub data_of : json.Data → Data
   data_of json.null = null

@@ -5,6 +5,7 @@ pub mod below;
 pub mod join;
 pub mod keeps;
 pub mod kind;
+mod number;
 pub mod project;
 pub mod read;
 pub mod render;

@@ -1,11 +1,9 @@
 // The rules that need no following of hosts: parameters and reserved names.
 use crate::refusal::{Code, Refusal};
 use pb_book::book::{Argument, Book, Task, Work};
+use pb_book::task::is_variable;
 use pb_sig::registry::Registry;
 use pb_sig::signature::{Module, Parameter};
-
-/// The most bytes of a variable's name.
-const NAME_LIMIT: usize = 128;
 
 /// The names that no task may register or set.
 const RESERVED: [&str; 25] = [
@@ -97,23 +95,8 @@ fn are_variables(arguments: &Vec<Argument>) -> bool {
     arguments.len() > 0
         && arguments.iter().all(|argument| {
             let name = argument.name.as_str();
-            name != "cacheable" && is_variable_name(name)
+            name != "cacheable" && is_variable(name)
         })
-}
-
-// A letter or `_`, then letters, digits and `_`, at most 128 bytes in all.
-fn is_variable_name(name: &str) -> bool {
-    let bytes = name.as_bytes();
-    match bytes.first() {
-        Some(first) => {
-            bytes.len() <= NAME_LIMIT
-                && !first.is_ascii_digit()
-                && bytes
-                    .iter()
-                    .all(|byte| byte.is_ascii_alphanumeric() || *byte == b'_')
-        }
-        None => false,
-    }
 }
 
 fn has_reserved(task: &Task) -> bool {

@@ -1,5 +1,6 @@
-use Rattle.std.proofs.Common.{◌≡◌, ◌+◌, ◌++◌, ◌∷◌, [], ◌∙◌, List, length, ap, arith}
+use Rattle.std.proofs.Common.{◌≡◌, ◌+◌, ◌++◌, ◌∷◌, [], ◌∙◌, sym, List, length, ap, arith}
 use Rattle.std.proofs.lemmas.List.{length-append}
+use Rattle.std.specs.Vec.Iter.{into_iter_len}
 use Rattle.pb_sig.specs.Modules.{modules_of}
 use Rattle.pb_book.specs.Lines.{are_from, are_known}
 use Rattle.pb_book.specs.declared.book.Task.{Task}
@@ -14,10 +15,10 @@ loop-item-preserved c =
     let ms = modules_of c.args.registry.now in
     let pushed : c.push.new.self.items ≡ ts ++ t ∷ [] = c.in_ok-push.ensures.items in
     let longer : length c.push.new.self.items ≡ length ts + 1 = ap (λ (xs : List Task). length xs) pushed ∙ length-append ts (t ∷ []) in
+    let left : into_iter_len l.item-iterator ≡ into_iter_len c.next.new.self + 1 = sym c.in-Some.ensures.steps.1 in
     record {
-      short = l.invariant.short;
+      short = omega (arith, longer, l.invariant.short, left);
       line = omega (arith, longer);
-      count = omega (arith, longer);
       numbered = ap (are_from 2) pushed ∙ are_from-push 2 ts t l.invariant.numbered (c.in_ok-task_of.ensures.line ∙ l.invariant.line);
       known = ap (are_known ms) pushed ∙ are_known-push ms ts t l.invariant.known c.in_ok-task_of.ensures.known;
     }

@@ -1,13 +1,13 @@
 use Rattle.std.proofs.Common.{◌≡◌, ◌+◌, ◌≤◌, length, true}
+use Rattle.std.specs.Vec.Iter.{into_iter_len}
 use Rattle.pb_sig.specs.Modules.{modules_of}
 use Rattle.pb_book.specs.Lines.{are_from, are_known}
 use Rattle.pb_book.proofs.task.tasks_of.Given as goal
 
 abbrev pub invariant-loop-item : goal.invariant-loop-item
 invariant-loop-item l = record {
-  short : length l.items ≤ 4095;
+  short : length l.tasks.items + into_iter_len l.item-iterator ≤ 4095;
   line : l.line ≡ 2 + length l.tasks.items;
-  count : length l.tasks.items ≡ l.item-index;
   numbered : are_from 2 l.tasks.items ≡ true;
   known : are_known (modules_of l.registry) l.tasks.items ≡ true;
 }

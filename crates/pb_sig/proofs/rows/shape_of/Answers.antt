@@ -2,9 +2,9 @@ use Rattle.std.proofs.Common.{◌≡◌, ◌+◌, ◌<◌, ◌∷◌, arith, dro
 use Rattle.std.proofs.lemmas.List.{drop_all}
 use Rattle.pb_semantics.specs.Kind.{recs, put_slot}
 use Rattle.pb_value.specs.KindView.{kind_view, slots_view, is_always}
+use Rattle.pb_value.proofs.JoinLemmas.{slots_view-insert_entry}
 use Rattle.pb_value.proofs.Views.{kind_view-Rec}
 use Rattle.pb_sig.specs.Rows.{with_rows}
-use Rattle.pb_sig.proofs.Slots.{slots_view-insert_entry}
 use Rattle.pb_sig.proofs.rows.shape_of.Goals as goal
 
 pub loop-row-preserved : goal.loop-row-preserved

@@ -10,6 +10,7 @@ pub mod Knows
 pub mod Notify
 pub mod Task
 pub mod Rest
+pub mod Unwinding
 pub mod Cases
 pub mod Setting
 pub mod Judgement

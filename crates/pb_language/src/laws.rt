@@ -1,6 +1,7 @@
 // The laws of the definitions, each on a function that does nothing.
 ghost use Rattle.pb_language.specs.Knows.{FitHasValue, ValueKeepsKind, TestTeaches, KindsAreWell};
 ghost use Rattle.pb_language.specs.Theorem.{NeverStuck, WithinBudget};
+ghost use Rattle.pb_language.specs.Unwinding.{UnwindingWalks};
 
 /// An expression that is fit has a value in each world that knows the scope, and the value is of the expression's kind.
 pub fn fit_has_value()
@@ -30,4 +31,9 @@ pub fn never_stuck()
 /// And the calls that were handed out are at most the budget.
 pub fn within_budget()
     ensures { WithinBudget }
+{}
+
+/// The rules by which blocks unwind, said of a row and the blocks open round it, walk the tree of ways that a run follows.
+pub fn unwinding_walks()
+    ensures { UnwindingWalks }
 {}

@@ -1,0 +1,23 @@
+-- Unwinding walks the tree of ways.
+use Rattle.std.proofs.Common.{◌≡◌, List, [], ◌∷◌, true, false, refl}
+use Rattle.pb_language.specs.Task.{Row, end, task, flush, block}
+use Rattle.pb_language.specs.Unwinding.{Part, block_part, rescue_part, always_part, failed_always_part, Place, before, failing, unwound, ways_at, with_text, UnwindingWalks}
+
+unwinds : (x : Place) → ways_at x ≡ with_text x (ways_at (unwound x))
+unwinds (before (block d body saves rescued always row) ps) = refl
+unwinds (before end []) = refl
+unwinds (before end (block_part d saves rescued always row ∷ ps)) = refl
+unwinds (before end (rescue_part always row ∷ ps)) = refl
+unwinds (before end (always_part row ∷ ps)) = refl
+unwinds (before end (failed_always_part ∷ ps)) = refl
+unwinds (before (task t row) ps) = refl
+unwinds (before (flush hs row) ps) = refl
+unwinds (failing []) = refl
+unwinds (failing (block_part d true rescued always row ∷ ps)) = refl
+unwinds (failing (block_part d false rescued always row ∷ ps)) = refl
+unwinds (failing (rescue_part always row ∷ ps)) = refl
+unwinds (failing (always_part row ∷ ps)) = refl
+unwinds (failing (failed_always_part ∷ ps)) = refl
+
+pub unwinding_walks : UnwindingWalks
+unwinding_walks = (unwinds, λ t row ps. refl)

@@ -27,3 +27,4 @@ pub mod Accepted
 pub mod Cuts
 pub mod Sound
 pub mod Started
+pub mod Least

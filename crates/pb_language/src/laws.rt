@@ -1,6 +1,6 @@
 // The laws of the definitions, each on a function that does nothing.
 ghost use Rattle.pb_language.specs.Knows.{FitHasValue, ValueKeepsKind, TestTeaches, KindsAreWell};
-ghost use Rattle.pb_language.specs.Theorem.{NeverStuck, WithinBudget};
+ghost use Rattle.pb_language.specs.Theorem.{NeverStuck, WithinBudget, Progress};
 
 /// An expression that is fit has a value in each world that knows the scope, and the value is of the expression's kind.
 pub fn fit_has_value()
@@ -30,4 +30,9 @@ pub fn never_stuck()
 /// And the calls that were handed out are at most the budget.
 pub fn within_budget()
     ensures { WithinBudget }
+{}
+
+/// A run of a book that hasn't ended, isn't stopped and has no job out can go on: a host can start its task, or the next batch can begin.
+pub fn progress()
+    ensures { Progress }
 {}

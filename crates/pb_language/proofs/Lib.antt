@@ -28,3 +28,4 @@ pub mod Cuts
 pub mod Sound
 pub mod Started
 pub mod Least
+pub mod Short

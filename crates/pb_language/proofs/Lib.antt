@@ -28,3 +28,5 @@ pub mod Cuts
 pub mod Sound
 pub mod Started
 pub mod Unwound
+pub mod Least
+pub mod Short

@@ -1,7 +1,7 @@
 -- Unwinding walks the tree of ways.
-use Rattle.std.proofs.Common.{◌≡◌, List, [], ◌∷◌, true, false, refl}
-use Rattle.pb_language.specs.Task.{Row, end, task, flush, block}
-use Rattle.pb_language.specs.Unwinding.{Part, block_part, rescue_part, always_part, failed_always_part, Place, before, failing, unwound, ways_at, with_text, UnwindingWalks}
+use Rattle.std.proofs.Common.{◌≡◌, [], ◌∷◌, true, false, refl}
+use Rattle.pb_language.specs.Task.{end, task, flush, block}
+use Rattle.pb_language.specs.Unwinding.{block_part, rescue_part, always_part, failed_always_part, Place, before, failing, unwound, ways_at, with_text, UnwindingWalks}
 
 unwinds : (x : Place) → ways_at x ≡ with_text x (ways_at (unwound x))
 unwinds (before (block d body saves rescued always row) ps) = refl

@@ -1,6 +1,6 @@
 // The laws of the definitions, each on a function that does nothing.
 ghost use Rattle.pb_language.specs.Knows.{FitHasValue, ValueKeepsKind, TestTeaches, KindsAreWell};
-ghost use Rattle.pb_language.specs.Theorem.{NeverStuck, WithinBudget};
+ghost use Rattle.pb_language.specs.Theorem.{NeverStuck, Progress, ShortHistory, WithinBudget};
 ghost use Rattle.pb_language.specs.Unwinding.{UnwindingWalks};
 
 /// An expression that is fit has a value in each world that knows the scope, and the value is of the expression's kind.
@@ -36,4 +36,14 @@ pub fn within_budget()
 /// The rules by which blocks unwind, said of a row and the blocks open round it, walk the tree of ways that a run follows.
 pub fn unwinding_walks()
     ensures { UnwindingWalks }
+{}
+
+/// With at least one fork, a run that hasn't ended, isn't stopped and has no job out can go on: a host can start its task, or the run can turn to the next batch or to its end.
+pub fn progress()
+    ensures { Progress }
+{}
+
+/// Few events of a run of an accepted book are enabled: at most two for each host of a batch and each place of its play, one for each batch, and one Stop.
+pub fn short_history()
+    ensures { ShortHistory }
 {}

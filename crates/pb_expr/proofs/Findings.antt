@@ -1,20 +1,15 @@
 -- The kind of a form beside the kinds of its operands.
-use Rattle.std.proofs.Common.{◌≡◌, ℕ, suc, List, [], ◌∷◌, ◌++◌, length, Bool, true, false, ◌&&◌, cond, Some, None, String, Global, Ordering, Less, Equal, Greater, string_bytes, string_cmp, nat_cmp, refl, sym, ap, ◌∙◌}
+use Rattle.std.proofs.Common.{◌≡◌, ℕ, suc, List, [], ◌∷◌, ◌++◌, length, Bool, true, false, ◌&&◌, cond, Some, None, String, Global, Less, Greater, string_bytes, string_cmp, nat_cmp, refl, sym, ap, ◌∙◌}
 use Rattle.std.proofs.lemmas.Cmp.{nat_list_cmp_total}
 use Rattle.std.specs.Cmp.Lexicographic.{slice_cmp}
 use Rattle.std.specs.List.{AllByRecursion}
 use Rattle.std.specs.List.Sorted.{IsStrictlySortedBy}
 use Rattle.std.specs.Map.{keys_of}
-use Rattle.std.specs.Ordering.{match_ordering, ordering_reverse}
-use Rattle.std.specs.BTreeMap.{insert_entry}
+use Rattle.std.specs.Ordering.{ordering_reverse}
 use Rattle.pb_semantics.specs.Kind.{KindData, Slots, Spot, never, recs, no_slots, slot, nowhere, spot, put_slot}
 use Rattle.pb_semantics.specs.Fit.{Fault, Finding, fits, unfit, wrong_kind, kind_below, where_certain, is_boolean, is_any, on_fit, as_part, asking, with_operand, with_first_slot, length_of, data_kind, fields_kind}
-use Rattle.pb_value.specs.KindView.{kind_view, slots_view, is_always}
 use Rattle.pb_value.specs.View.{view, fields_view}
 use Rattle.pb_value.specs.declared.value.Value.{Value}
-use Rattle.pb_value.specs.declared.kind.Slot.{Slot}
-use Rattle.pb_value.specs.declared.kind.Kind.{Kind}
-use Rattle.pb_value.proofs.KindLemmas.{SlotEntry}
 use Rattle.pb_expr.specs.ExprView.{exprs_view}
 use Rattle.pb_expr.specs.FitView.{Fails, certain, part_found}
 use Rattle.pb_expr.specs.declared.expr.Expr.{Expr}

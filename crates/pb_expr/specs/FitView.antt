@@ -3,8 +3,7 @@ use Rattle.std.specs.Prelude.{◌≡◌, true, false, Option, Some, None, Result
 use Rattle.pb_semantics.specs.Kind.{KindData, Spot, nowhere, spot}
 use Rattle.pb_semantics.specs.Fit.{Fault, Finding, fits, unfit, perhaps_undefined, perhaps_missing, wrong_kind, on_fit, as_part}
 use Rattle.pb_value.specs.declared.kind.Kind.{Kind}
-use Rattle.pb_value.specs.declared.kind.Slot.{Slot}
-use Rattle.pb_value.specs.KindView.{kind_view, is_always}
+use Rattle.pb_value.specs.KindView.{kind_view}
 use Rattle.pb_expr.specs.declared.fit.Unfit.{Unfit}
 use Rattle.pb_expr.specs.declared.fit.Unfit.TheVariants.{Undefined, MissingField, WrongKind}
 use Rattle.pb_expr.specs.declared.fit.KindFault.{KindFault}

@@ -1,5 +1,5 @@
 -- A map of values beside the fields that it stands for.
-use Rattle.std.proofs.Common.{◌≡◌, ℕ, suc, Bor, List, [], ◌∷◌, ◌++◌, length, Bool, true, false, Option, Some, None, option_map, is_some, cond, is_eq, String, Global, Ordering, Less, Equal, Greater, string_bytes, string_cmp, nat_cmp, map, refl, sym, ap, ◌∙◌}
+use Rattle.std.proofs.Common.{◌≡◌, ℕ, suc, Bor, List, [], ◌∷◌, ◌++◌, length, Bool, true, false, Option, Some, None, option_map, is_some, cond, String, Global, Ordering, Less, Equal, Greater, string_bytes, string_cmp, nat_cmp, map, refl, ap, ◌∙◌}
 use Rattle.std.proofs.lemmas.Cmp.{nat_list_cmp_total}
 use Rattle.std.proofs.lemmas.Map.Text.{is_eq-slice_cmp}
 use Rattle.std.specs.Cmp.Lexicographic.{slice_cmp}
@@ -9,7 +9,7 @@ use Rattle.std.specs.Map.{keys_of, lookup}
 use Rattle.std.specs.Ordering.{match_ordering, ordering_reverse}
 use Rattle.std.specs.BTreeMap.{insert_entry, is_at}
 use Rattle.std.specs.Str.{bytes_eq}
-use Rattle.pb_semantics.specs.Data.{Data, Fields, field, put_field, field_value, count_of}
+use Rattle.pb_semantics.specs.Data.{Data, field, put_field, field_value, count_of}
 use Rattle.pb_value.specs.View.{view, items_view, fields_view, fields_of}
 use Rattle.pb_value.specs.declared.value.Value.{Value}
 

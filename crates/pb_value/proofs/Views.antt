@@ -1,5 +1,5 @@
 -- What the layers of a value and of a kind mean.
-use Rattle.std.proofs.Common.{◌≡◌, ℕ, List, Vec, BTreeMap, String, Global, string_bytes}
+use Rattle.std.proofs.Common.{◌≡◌, ℕ, Vec, BTreeMap, String, Global, string_bytes}
 use Rattle.std.specs.declared.sync.Arc.{Arc}
 use Rattle.pb_semantics.specs.Data.{list, rec, text}
 use Rattle.pb_semantics.specs.Kind.{recs, lists, results}

@@ -1,10 +1,9 @@
-use Rattle.std.proofs.Common.{◌≡◌, ◌≤◌, ◌<◌, List, [], ◌∷◌, ◌++◌, ◌+◌, length, drop, map, nat_le, true, false, Some, None, option_map, string_bytes, refl, sym, ap, ◌∙◌, subst, append_assoc, arith}
-use Rattle.std.proofs.lemmas.List.{append-nil}
+use Rattle.std.proofs.Common.{◌≡◌, ◌≤◌, ◌<◌, [], ◌∷◌, ◌++◌, ◌+◌, length, drop, map, true, false, Some, None, string_bytes, refl, sym, ap, ◌∙◌, subst, append_assoc, arith}
 use Rattle.std.proofs.lemmas.Grind.{common_steps}
 use Rattle.std.specs.List.Sorted.{IsStrictlySortedBy}
 use Rattle.std.specs.Map.{keys_of}
 use Rattle.std.specs.String.{string_cmp}
-use Rattle.pb_semantics.specs.Data.{list, rec, item, no_items, field, no_fields}
+use Rattle.pb_semantics.specs.Data.{item, no_items, field, no_fields}
 use Rattle.pb_semantics.specs.Keeps.{is_among}
 use Rattle.pb_semantics.specs.Project.{projected, projected_items, projected_fields, with_field}
 use Rattle.pb_value.specs.KindView.{kind_view, slots_view, is_always}
@@ -14,7 +13,7 @@ use Rattle.pb_value.proofs.KindLemmas.{SlotEntry}
 use Rattle.pb_value.proofs.Views.{view-List, view-Rec, view-Text, kind_view-List, kind_view-Rec}
 use Rattle.pb_value.proofs.KindLemmas.{kind_view-Host}
 use Rattle.pb_value.proofs.KeptLists.{projected-short, projected-long}
-use Rattle.pb_value.proofs.Projections.{each_step, items_view-push, and_items, and_fields, append_fields, append_items, append_items-none, and_items-step, and_fields-nothing, and_items-nothing, and_fields-step, append_fields-none, put_field-above, IsAbove, IsAbove-further, IsAbove-append, neighbours, projected_fields-there, projected_fields-missing}
+use Rattle.pb_value.proofs.Projections.{each_step, items_view-push, and_items, and_fields, append_fields, append_items, append_items-none, and_fields-nothing, and_fields-step, append_fields-none, put_field-above, IsAbove, IsAbove-further, IsAbove-append, neighbours, projected_fields-there, projected_fields-missing}
 use Rattle.pb_value.proofs.project.+project.Goals as goal
 
 pub project_fields-loop-name-init : goal.project_fields-loop-name-init

@@ -17,7 +17,7 @@ from expressions import codes
 
 PER_FILE = 12
 HERE = Path(__file__).resolve().parent
-HEADER = HERE / "header.antt"
+HEADER = HERE / "imports.txt"
 ROWS = HERE.parent.parent / "crates" / "pb_rows" / "proofs"
 
 

@@ -1,4 +1,4 @@
--- Books as they are read.
+-- Books as they are read (Ansible's page on playbook keywords).
 use Rattle.std.specs.Prelude.{ℕ, List, Bool, Option}
 use Rattle.pb_semantics.specs.Signature.{ModuleData}
 use Rattle.pb_language.specs.Expression.{Name, Expression, Expressions, Parts}

@@ -1,4 +1,4 @@
--- The modules that are there in every book.
+-- The modules that are there in every book (this project's profile of Ansible's modules).
 use Rattle.std.specs.Prelude.{ℕ, List, [], ◌∷◌, Bool, true, false, codes}
 use Rattle.pb_semantics.specs.Kind.{KindData, Slots, booleans, ints, texts, lists, recs, no_slots, put_slot}
 use Rattle.pb_semantics.specs.Signature.{ParameterData, ModuleData}

@@ -1,4 +1,4 @@
--- What a task registers and sets, and of which kind.
+-- What a task registers and sets, and of which kind (Ansible's pages on return values and on error handling).
 use Rattle.std.specs.Prelude.{ℕ, [], ◌∷◌, Bool, true, false, not, ◌&&◌, ◌||◌, cond, Option, Some, None, is_some, codes}
 use Rattle.std.specs.Str.{bytes_eq}
 use Rattle.pb_semantics.specs.Kind.{KindData, Slots, Cases, Spot, never, booleans, texts, lists, recs, results, anything, no_slots, slot, no_cases, one, spot, slot_at, is_listed, ok_shape, failure_shape, skipped_shape}

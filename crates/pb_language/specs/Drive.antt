@@ -1,4 +1,4 @@
--- Which host starts next, and a run whose jobs are answered one after the other.
+-- Which host starts next, and a run whose jobs are answered one after the other (Ansible's page on strategies; one job at a time is this project's own).
 use Rattle.std.specs.Prelude.{ℕ, zero, suc, List, [], ◌∷◌, nat_lt, cond, Option, Some, None, take, drop}
 use Rattle.pb_language.specs.Start.{call_count}
 use Rattle.pb_language.specs.Give.{Answer}

@@ -1,4 +1,4 @@
--- The value of an expression in a world, where it has one.
+-- The value of an expression in a world, where it has one (Ansible's pages on templating, tests, filters and conditionals).
 use Rattle.std.specs.Prelude.{ℕ, ℤ, suc, pos, List, [], ◌∷◌, ◌++◌, Bool, true, false, not, ◌&&◌, ◌||◌, cond, Option, Some, None, is_some, nat_le, nat_lt, int_le, int_lt, codes}
 use Rattle.pb_semantics.specs.Data.{Data, Items, Fields, boolean, int, text, list, rec, opaque, no_items, item, no_fields, field, field_value, count_of}
 use Rattle.pb_semantics.specs.Equal.{data_eq, is_item, is_part}

@@ -1,4 +1,4 @@
--- The trees of expressions and templates.
+-- The trees of expressions and templates (Ansible's pages on templating, tests and filters).
 use Rattle.std.specs.Prelude.{ℕ, List, Option}
 use Rattle.pb_semantics.specs.Data.{Data}
 

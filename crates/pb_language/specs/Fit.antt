@@ -1,4 +1,4 @@
--- Which expressions have a value in every world that the scope describes.
+-- Which expressions have a value in every world that the scope describes (this project's own).
 use Rattle.std.specs.Prelude.{List, [], ◌∷◌, Bool, true, false, not, ◌&&◌, ◌||◌, Option, Some, None, is_some, codes}
 use Rattle.pb_semantics.specs.Kind.{KindData, Spot, never, booleans, ints, texts, hosts, lists, recs, results, anything, nowhere, spot, slot_at}
 use Rattle.pb_semantics.specs.Fit.{holds_any}

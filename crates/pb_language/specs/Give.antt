@@ -1,4 +1,4 @@
--- What is made of the answers to a task's calls.
+-- What is made of the answers to a task's calls (Ansible's pages on return values and on error handling; admission is this project's own).
 use Rattle.std.specs.Prelude.{ℕ, List, [], ◌∷◌, Bool, true, false, not, ◌&&◌, ◌||◌, cond, Option, Some, None, codes}
 use Rattle.pb_semantics.specs.Data.{Data, Items, Fields, boolean, text, list, rec, no_items, item, no_fields, field, field_value, put_field}
 use Rattle.pb_semantics.specs.Kind.{Slots, Spot, recs, no_slots, slot, spot, slot_at, Shape, ok_shape, failure_shape, skipped_shape, is_skipped}

@@ -1,4 +1,4 @@
--- What is asked of a task in an environment.
+-- What is asked of a task in an environment (this project's own).
 use Rattle.std.specs.Prelude.{ℕ, List, [], ◌∷◌, Bool, true, false, not, ◌&&◌, cond, Option, Some, None}
 use Rattle.std.specs.Str.{bytes_eq}
 use Rattle.pb_semantics.specs.Kind.{KindData, Slots, Cases, never, no_cases}

@@ -1,4 +1,4 @@
--- The kind of an expression in a scope, fit or not.
+-- The kind of an expression in a scope, fit or not (this project's own).
 use Rattle.std.specs.Prelude.{ℕ, suc, List, [], ◌∷◌, Bool, true, false, Option, Some, None, unwrap_or}
 use Rattle.pb_semantics.specs.Data.{Data, Items, Fields, null, boolean, int, text, list, rec, opaque, no_items, item, no_fields, field, count_of}
 use Rattle.pb_semantics.specs.Kind.{KindData, Slots, Spot, never, nulls, booleans, ints, texts, hosts, lists, recs, results, anything, no_slots, nowhere, spot, slot_at}

@@ -1,4 +1,4 @@
--- A run as a machine over events.
+-- A run as a machine over events (Ansible's page on strategies).
 use Rattle.std.specs.Prelude.{ℕ, zero, suc, ◌+◌, ◌-◌, List, [], ◌∷◌, ◌++◌, Bool, true, false, not, ◌&&◌, ◌||◌, nat_le, nat_lt, nat_eq, cond, Option, Some, None, length, drop}
 use Rattle.std.specs.Str.{bytes_eq}
 use Rattle.pb_semantics.specs.Data.{Fields}

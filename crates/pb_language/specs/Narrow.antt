@@ -1,4 +1,4 @@
--- What a test teaches.
+-- What a test teaches (Ansible's page on conditionals).
 use Rattle.std.specs.Prelude.{List, [], ◌∷◌, Bool, true, false, not, ◌||◌, cond, Option, Some, None, codes}
 use Rattle.pb_semantics.specs.Data.{bool_eq}
 use Rattle.pb_semantics.specs.Kind.{KindData, Cases, Shape, Spot, never, recs, results, anything, no_cases, one, nowhere, spot, slot_at, is_listed, is_skipped as is_skip}

@@ -1,4 +1,4 @@
--- How a book runs on an inventory: the rows of its plays, with their places and batches.
+-- How a book runs on an inventory: the rows of its plays, with their places and batches (Ansible's pages on plays, on patterns and on strategies).
 use Rattle.std.specs.Prelude.{ℕ, zero, suc, ◌+◌, ◌-◌, ◌*◌, ◌/◌, max, List, [], ◌∷◌, ◌++◌, Bool, true, false, ◌||◌, cond, Option, Some, None, codes, length, unwrap_or}
 use Rattle.std.specs.Str.{bytes_eq}
 use Rattle.pb_semantics.specs.Data.{null}

@@ -1,4 +1,4 @@
--- Inventories, and books as they run: plays with their rows, their handlers and their batches.
+-- Inventories, and books as they run: plays with their rows, their handlers and their batches (Ansible's pages on inventories and on plays).
 use Rattle.std.specs.Prelude.{ℕ, List, [], ◌∷◌, ◌++◌, Bool, not, ◌&&◌, cond, codes}
 use Rattle.std.specs.Str.{bytes_eq}
 use Rattle.pb_semantics.specs.Keeps.{is_among}

@@ -1,4 +1,4 @@
--- What a host still has to do: the ways through a row.
+-- What a host still has to do: the ways through a row (Ansible's pages on blocks and on handlers).
 use Rattle.std.specs.Prelude.{ℕ, suc, Bool, cond}
 use Rattle.pb_language.specs.Task.{Task, Handlers, no_handlers, handler, Row, end, task, flush, block}
 

@@ -1,4 +1,4 @@
--- The rules that need no flow.
+-- The rules that need no flow (this project's own).
 use Rattle.std.specs.Prelude.{ℕ, ◌+◌, List, [], ◌∷◌, ◌++◌, Bool, true, false, not, ◌&&◌, ◌||◌, nat_le, nat_lt, cond, Option, Some, None, is_some, codes, length}
 use Rattle.std.specs.Str.{bytes_eq}
 use Rattle.pb_semantics.specs.Keeps.{is_among}

@@ -1,4 +1,4 @@
--- What is known at a Start: of the host's own variables, of those of each host, and what tests have taught.
+-- What is known at a Start: of the host's own variables, of those of each host, and what tests have taught (this project's own).
 use Rattle.std.specs.Prelude.{ℕ, List, [], ◌∷◌, Bool, true, false, ◌&&◌, ◌||◌, cond, nat_le, Option, Some, None, codes}
 use Rattle.std.specs.Str.{bytes_eq}
 use Rattle.pb_semantics.specs.Kind.{KindData, Slots, Spot, never, texts, hosts, anything, no_slots, slot, nowhere, spot, slot_at, put_slot}

@@ -1,4 +1,4 @@
--- What a host's task is judged in: the names that are always there, and those of the task.
+-- What a host's task is judged in: the names that are always there, and those of the task (Ansible's page on special variables).
 use Rattle.std.specs.Prelude.{ℕ, zero, suc, List, [], ◌∷◌, true, false, Option, Some, None, codes, length}
 use Rattle.pb_semantics.specs.Data.{Data, Items, Fields, text, list, rec, no_items, item, no_fields, field}
 use Rattle.pb_semantics.specs.Kind.{KindData, Slots, Cases, texts, hosts, lists, recs, no_slots, slot}

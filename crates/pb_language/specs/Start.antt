@@ -1,4 +1,4 @@
--- What a task does at its Start: for each item a skip, a call of its module with the arguments, or what its action does.
+-- What a task does at its Start: for each item a skip, a call of its module with the arguments, or what its action does (Ansible's pages on loops and conditionals).
 use Rattle.std.specs.Prelude.{ℕ, ◌+◌, List, [], ◌∷◌, Bool, true, false, Option, Some, None, codes}
 use Rattle.pb_semantics.specs.Data.{Data, Items, Fields, boolean, text, list, rec, no_items, item, no_fields, field}
 use Rattle.pb_semantics.specs.Kind.{Shape, ok_shape, failure_shape}

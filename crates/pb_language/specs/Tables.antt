@@ -1,4 +1,4 @@
--- What the walks of all hosts give: each host's variables as others see them, what a host has at its later places, and how long loops are.
+-- What the walks of all hosts give: each host's variables as others see them, what a host has at its later places, and how long loops are (this project's own).
 use Rattle.std.specs.Prelude.{ℕ, zero, suc, ◌+◌, max, List, [], ◌∷◌, Bool, true, false, not, ◌&&◌, ◌||◌, nat_le, nat_eq, cond, Option, Some, None}
 use Rattle.pb_semantics.specs.Kind.{KindData, Slots, Spot, no_slots, slot, nowhere, spot, slot_at}
 use Rattle.pb_semantics.specs.Join.{join}

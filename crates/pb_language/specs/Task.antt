@@ -1,4 +1,4 @@
--- The tasks of a play as they run: a block's keywords stand at each task in it.
+-- The tasks of a play as they run: a block's keywords stand at each task in it (Ansible's pages on tasks and blocks).
 use Rattle.std.specs.Prelude.{ℕ, List, Bool, Option}
 use Rattle.pb_semantics.specs.Signature.{ModuleData}
 use Rattle.pb_language.specs.Expression.{Name, Expression, Expressions, Parts}

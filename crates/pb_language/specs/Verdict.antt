@@ -1,4 +1,4 @@
--- Verdicts, and the one on the ways of all hosts.
+-- Verdicts, and the one on the ways of all hosts (this project's own).
 use Rattle.std.specs.Prelude.{ℕ, List, [], ◌∷◌, Bool, true, false, ◌&&◌, ◌||◌, nat_lt, nat_eq, cond, Option, Some, None, option_map}
 use Rattle.pb_language.specs.Expression.{Name}
 use Rattle.pb_language.specs.Fit.{Fault, perhaps_undefined, perhaps_undefined_there, perhaps_missing, wrong_kind, unknown_name, unknown_handler, malformed}

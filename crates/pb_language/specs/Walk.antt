@@ -1,4 +1,4 @@
--- The environments of a row: one for each way to a task, and those of its two exits.
+-- The environments of a row: one for each way to a task, and those of its two exits (this project's own).
 use Rattle.std.specs.Prelude.{List, [], ◌∷◌, ◌++◌, Bool, cond}
 use Rattle.pb_semantics.specs.Kind.{Slots}
 use Rattle.pb_semantics.specs.Join.{join_slots}

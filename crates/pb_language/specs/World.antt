@@ -1,4 +1,4 @@
--- What an expression is evaluated in.
+-- What an expression is evaluated in (Ansible's pages on special variables and on facts and magic variables).
 use Rattle.std.specs.Prelude.{ℕ, zero, suc, List, [], ◌∷◌, cond, Option, Some, None}
 use Rattle.std.specs.Str.{bytes_eq}
 use Rattle.pb_semantics.specs.Data.{Fields, no_fields}

@@ -1,4 +1,4 @@
-# Runs the cases of tests/cases and the checks of program_checks.py: python3 tests/run_cases.py [PROGRAM]
+# Runs the cases of tests/cases and the checks of program_checks.py and memory_checks.py: python3 tests/run_cases.py [PROGRAM]
 import json
 import os
 import sys
@@ -8,6 +8,7 @@ from pathlib import Path
 sys.dont_write_bytecode = True
 
 from check import Check, exactly, outcome_of
+from memory_checks import memory_failures
 from program_checks import program_checks
 
 TESTS = Path(__file__).resolve().parent
@@ -81,13 +82,18 @@ def within_limit(count):
 def main():
     program = os.path.abspath(sys.argv[1] if len(sys.argv) > 1 else PROGRAM)
     designed = list(cases())
+    try:
+        limits, failures = memory_failures(program)
+    except OSError as fault:  # a program that can't be run
+        limits, failures = 0, [f"memory\n  got: {fault!r}"]
     results = run_all(program, designed + program_checks(TESTS.parent))
-    failures = [said for kind, said in results if kind == FAILED]
+    memory = max(limits - len(failures), 0)
+    failures += [said for kind, said in results if kind == FAILED]
     for said in failures[:SHOWN]:
         print(f"FAILED: {said}")
     if len(failures) > SHOWN:
         print(f"and {len(failures) - SHOWN} more")
-    passed = sum(kind == PASSED for kind, _ in results)
+    passed = memory + sum(kind == PASSED for kind, _ in results)
     failed = len(failures)
     if not within_limit(sum(kind == NOT_BUILT for kind, _ in results)):
         failed += 1

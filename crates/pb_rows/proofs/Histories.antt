@@ -1,4 +1,4 @@
--- Cuts of batches, counts of steps, and histories, computed.
+-- Cuts of batches, counts of steps, a budget of deep blocks, and histories, computed.
 use Rattle.std.specs.Prelude.{◌≡◌, refl, ℕ, zero, suc, List, [], ◌∷◌, true, Some, None, codes, map, length}
 use Rattle.pb_semantics.specs.Data.{text, rec, no_fields, field}
 use Rattle.pb_language.specs.Expression.{no_expressions, no_parts}
@@ -6,10 +6,12 @@ use Rattle.pb_language.specs.Book.{module_work, TaskData, Steps, no_steps, task_
 use Rattle.pb_language.specs.Builtins.{builtins}
 use Rattle.pb_language.specs.Drive.{next_start}
 use Rattle.pb_language.specs.Give.{Answer, object}
+use Rattle.pb_language.specs.Judged.{judged}
 use Rattle.pb_language.specs.Machine.{start, give, turn, stop, State, history, opening, run_from}
 use Rattle.pb_language.specs.Plays.{batches_for, program_of}
 use Rattle.pb_language.specs.Program.{Inventory}
 use Rattle.pb_language.specs.Sites.{steps_of}
+use Rattle.pb_language.specs.Verdict.{accepted}
 
 abbrev five : List (List ℕ)
 five = codes "a" ∷ codes "b" ∷ codes "c" ∷ codes "d" ∷ codes "e" ∷ []
@@ -64,6 +66,13 @@ nested (suc n) ss = block_step (record { line = 2; condition = no_expressions; v
 steps : steps_of (play (nested 12 (task_step (ping 14) (task_step (ping 15) no_steps)))) ≡ 8192
 steps = refl
 
+abbrev one_host : Inventory
+one_host = record { hosts = record { name = codes "h1"; variables = no_fields } ∷ []; groups = record { name = codes "all"; hosts = codes "h1" ∷ [] } ∷ [] }
+
+-- each task has one place, however many modes it has
+deep_budget : judged builtins one_host (play (nested 12 (task_step (ping 14) (task_step (ping 15) no_steps))) ∷ []) ≡ accepted 2
+deep_budget = refl
+
 abbrev two : Inventory
 two = record {
   hosts = record { name = codes "db1"; variables = no_fields } ∷ record { name = codes "web1"; variables = no_fields } ∷ [];
@@ -102,9 +111,6 @@ stopped = refl
 
 abbrev one_ping : Book
 one_ping = play (task_step (ping 2) no_steps) ∷ []
-
-abbrev one_host : Inventory
-one_host = record { hosts = record { name = codes "h1"; variables = no_fields } ∷ []; groups = record { name = codes "all"; hosts = codes "h1" ∷ [] } ∷ [] }
 
 -- the run ends with the Turn of its last batch
 ends : history (opening (program_of builtins one_host one_ping) one_host 1) (start 0 ∷ give 0 (pinged ∷ []) ∷ turn ∷ turn ∷ stop ∷ []) ≡ start 0 ∷ give 0 (pinged ∷ []) ∷ turn ∷ []

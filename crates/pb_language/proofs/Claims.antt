@@ -1,5 +1,5 @@
 -- What is claimed of a task at its Start and at its Give.
-use Rattle.std.proofs.Common.{◌≡◌, ◌≤◌, ◌&&◌, ℕ, List, [], ◌∷◌, true, false, not, Option, Some, None, length, is_some}
+use Rattle.std.proofs.Common.{◌≡◌, ◌≤◌, ◌&&◌, ℕ, List, [], ◌∷◌, true, false, not, Option, Some, None, length, is_some, arith}
 use Rattle.pb_semantics.specs.Data.{Data, Fields, field_value}
 use Rattle.pb_semantics.specs.Kind.{Slots, recs}
 use Rattle.pb_semantics.specs.Keeps.{keeps, cases_kept, is_among, Models}
@@ -39,6 +39,13 @@ action_calls (debug e) n = 0
 action_calls (set_fact ps) n = 0
 action_calls (assertion es o) n = 0
 action_calls (failure_of o) n = 0
+
+pub more_calls : (a : Action) (n m : ℕ) → n ≤ m → action_calls a n ≤ action_calls a m
+more_calls (call_of p ps) n m h = h
+more_calls (debug e) n m h = omega arith
+more_calls (set_fact ps) n m h = omega arith
+more_calls (assertion es o) n m h = omega arith
+more_calls (failure_of o) n m h = omega arith
 
 abbrev pub IsCall : Action → Type 0
 IsCall (call_of m ps) = Unit {0}

@@ -25,15 +25,15 @@ use Rattle.pb_language.proofs.Values.{other_ok, present_there, kept_eval, root_o
 use Rattle.pb_language.proofs.Tests.{teaches}
 
 -- no fault
-no_first : (f g : Option Fault) → first f g ≡ None → f ≡ None
+pub no_first : (f g : Option Fault) → first f g ≡ None → f ≡ None
 no_first None g h = refl
 no_first (Some x) g h = absurd (cc)
 
-no_second : (f g : Option Fault) → first f g ≡ None → g ≡ None
+pub no_second : (f g : Option Fault) → first f g ≡ None → g ≡ None
 no_second None g h = h
 no_second (Some x) g h = absurd (cc)
 
-not_asked : (f : Fault) (q : Bool) → asks f q ≡ None → q ≡ true
+pub not_asked : (f : Fault) (q : Bool) → asks f q ≡ None → q ≡ true
 not_asked f true h = refl
 not_asked f false h = absurd (cc)
 

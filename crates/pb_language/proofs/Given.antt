@@ -1,6 +1,5 @@
 -- A Give of a fit task is not stuck, and what it writes is known.
 use Rattle.std.proofs.Common.{◌≡◌, ◌≤◌, ℕ, List, [], ◌∷◌, Bool, true, false, not, ◌&&◌, ◌||◌, ⊎_elim, cond, nat_le, Option, Some, None, is_some, length, codes, refl, sym, ap, subst, ◌∙◌, true≢false, arith}
-use Rattle.std.proofs.lemmas.Bool.Decides.{nat_tests}
 use Rattle.pb_semantics.specs.Data.{Data, Fields, boolean, rec, field_value, count_of}
 use Rattle.pb_semantics.specs.Kind.{KindData, Slots, Cases, recs, no_cases, spot, slot_at}
 use Rattle.pb_semantics.specs.Keeps.{keeps, all_items, cases_kept, Models}
@@ -24,6 +23,7 @@ use Rattle.pb_language.proofs.After.{well_task_sets, well_going_register}
 use Rattle.pb_language.proofs.GivenFields.{models_put, models_put_with, kept_status, kept_has}
 use Rattle.pb_language.proofs.GivenSets.{Uncertain, uncertain_run, uncertain_models, Holds, holds_models, follows_holds, follows_models, below_ok, follows_view}
 use Rattle.pb_language.proofs.GivenResults.{EndedFine, AllEnded, AllOwn, ResultsEnd, AdmittedEnd, passes_fine, lawful, owns_end}
+use Rattle.pb_language.proofs.Named.{le_from}
 
 -- without a loop there is one result
 abbrev SingleEnded : Option Expression → List Ended → Type 0
@@ -41,8 +41,6 @@ single_ended st t env None (p ∷ q ∷ ps) es h e = untrue h
 single_ended st t env (Some l) ps es h e = tt
 
 -- a loop's results
-le_from : (n m : ℕ) → n ≤ m → nat_le n m ≡ true
-le_from n m h = grind (arith, nat_tests)
 
 count_results : (es : List Ended) → count_of (result_items es) ≡ length es
 count_results [] = refl

@@ -18,16 +18,8 @@ use Rattle.pb_language.specs.Scope.{with_slot, with_spot}
 use Rattle.pb_language.specs.Narrow.{cases_with}
 use Rattle.pb_language.specs.Cases.{ended_kind, either_status}
 use Rattle.pb_language.specs.Judgement.{has_case}
-use Rattle.pb_language.proofs.WithSlot.{at_with, once_with, record_models, models_kept}
-
-twice : {X : Type 0} (q : Bool) (x y z : X) → cond q x z ≡ cond q x (cond q y z)
-twice true x y z = refl
-twice false x y z = refl
-
-swapped : {X : Type 0} (q r : Bool) (x y z : X) → (q ≡ true → r ≡ true → x ≡ y) → cond q x (cond r y z) ≡ cond r y (cond q x z)
-swapped true true x y z f = f refl refl
-swapped true false x y z f = refl
-swapped false r x y z f = refl
+use Rattle.pb_language.proofs.WithSlot.{at_with, once_with, record_models, models_kept, swapped, twice}
+use Rattle.pb_language.proofs.Taught.{failed_flag, left_one, later_one}
 
 -- a field that is put in
 at_put_step : (o : Ordering) (p n m : Name) (d e : Data) (fs gs : Fields) → slice_cmp nat_cmp n m ≡ o → field_value p gs ≡ cond (bytes_eq p n) (Some d) (field_value p fs)
@@ -98,12 +90,6 @@ has_ended ok_shape f fs h e = rw e (own_flag f)
 has_ended failure_shape f fs h e = rw e (own_flag f)
 has_ended skipped_shape f fs h e = absurd (true≢false h)
 
-failed_flag : (sh : Shape) (fl : Bool) (fs : Fields) → has_status sh fl fs ≡ true → flag_is fl (field_value (codes "failed") fs) ≡ true
-failed_flag ok_shape fl fs h = h
-failed_flag failure_shape fl fs h = h
-failed_flag skipped_shape fl fs h =
-    and-left (flag_is fl (field_value (codes "failed") fs)) (flag_is true (field_value (codes "skipped") fs) && flag_is false (field_value (codes "changed") fs)) h
-
 either_one : (f : Bool) (m : Name) (sh : Shape) (k : KindData) (fs : Fields) (cs : Cases) → has_status sh f fs ≡ true → keeps (rec fs) k ≡ true → cases_kept fs (one m sh false k (one m sh true k cs)) ≡ true
 either_one false m sh k fs cs h i = or-left (has_status sh false fs && keeps (rec fs) k) _ (and-both (has_status sh false fs) (keeps (rec fs) k) h i)
 either_one true m sh k fs cs h i =
@@ -151,14 +137,6 @@ kept_left fs (one m sh fl k cs) ds h =
 pub kept_right : (fs : Fields) (cs ds : Cases) → cases_kept fs ds ≡ true → cases_kept fs (append_cases cs ds) ≡ true
 kept_right fs no_cases ds h = h
 kept_right fs (one m sh fl k cs) ds h = or-right (has_status sh fl fs && keeps (rec fs) k) (cases_kept fs (append_cases cs ds)) (kept_right fs cs ds h)
-
-left_one : (q : Bool) (m : Name) (sh : Shape) (fl : Bool) (k : KindData) (fs : Fields) (cs : Cases) → q ≡ true → has_status sh fl fs && keeps (rec fs) k ≡ true → cases_kept fs (cond q (one m sh fl k cs) cs) ≡ true
-left_one true m sh fl k fs cs e h = or-left (has_status sh fl fs && keeps (rec fs) k) (cases_kept fs cs) h
-left_one false m sh fl k fs cs e h = untrue e
-
-later_one : (q : Bool) (m : Name) (sh : Shape) (fl : Bool) (k : KindData) (fs : Fields) (cs : Cases) → cases_kept fs cs ≡ true → cases_kept fs (cond q (one m sh fl k cs) cs) ≡ true
-later_one true m sh fl k fs cs h = or-right (has_status sh fl fs && keeps (rec fs) k) (cases_kept fs cs) h
-later_one false m sh fl k fs cs h = h
 
 -- those with its own failed status
 pub kept_status : (f : Bool → Bool) (b : Bool) (fs : Fields) (cs : Cases) → f b ≡ true → field_value (codes "failed") fs ≡ Some (boolean b) → cases_kept fs cs ≡ true → cases_kept fs (cases_with (λ sh fl k. f fl) cs) ≡ true

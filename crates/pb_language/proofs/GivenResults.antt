@@ -17,7 +17,7 @@ use Rattle.pb_language.specs.Evaluation.{Outcome, value, then_go, and_then, eval
 use Rattle.pb_language.specs.Scope.{Scope, Later, with_slot}
 use Rattle.pb_language.specs.Kinds.{kind_of}
 use Rattle.pb_language.specs.Narrow.{narrow, results_of}
-use Rattle.pb_language.specs.Fit.{Fault, wrong_kind, malformed, unknown_handler, first, asks, is_boolean, fault}
+use Rattle.pb_language.specs.Fit.{wrong_kind, malformed, unknown_handler, first, asks, is_boolean, fault}
 use Rattle.pb_language.specs.Knows.{Knows}
 use Rattle.pb_language.specs.Notify.{all_notified, names_something}
 use Rattle.pb_language.specs.Task.{Action, call_of, debug, set_fact, assertion, failure_of, Task}
@@ -28,7 +28,7 @@ use Rattle.pb_language.specs.Start.{Changes, no_changes, Entry, skips, calls, ac
 use Rattle.pb_language.specs.Give.{Answer, object, unreachable, Own, Admitted, admitted, breached, unreached, with_own, facts_of, set_by_answer, own_of, admit_answer, is_failure, acted, skipped_own, admit_entry, admit_passes, Ended, Results, results_are, no_results, ended_with, keyword_of, with_own_field, own_world, with_status, with_ended, end_own, end_all}
 use Rattle.pb_language.proofs.WithSlot.{at_with, models_written, record_models, well_with}
 use Rattle.pb_language.proofs.WellKinds.{well_slot, well_results}
-use Rattle.pb_language.proofs.Fits.{fit_has_value}
+use Rattle.pb_language.proofs.Fits.{fit_has_value, no_first, no_second, not_asked}
 use Rattle.pb_language.proofs.Tests.{test_teaches}
 use Rattle.pb_language.proofs.Claims.{Around, Follows, IsCall, ItemFine, EntryFine, AllPasses}
 use Rattle.pb_language.proofs.After.{well_scope, shape_well, well_answered_cases, well_own_item}
@@ -36,17 +36,6 @@ use Rattle.pb_language.proofs.GivenFields.{kept_put_with, ended_fields, failed_f
 use Rattle.pb_language.proofs.GivenSets.{Uncertain, uncertain_run, uncertain_going, gathered_follows}
 
 -- no fault
-pub no_first : (f g : Option Fault) → first f g ≡ None → f ≡ None
-no_first None g h = refl
-no_first (Some x) g h = absurd (cc)
-
-pub no_second : (f g : Option Fault) → first f g ≡ None → g ≡ None
-no_second None g h = h
-no_second (Some x) g h = absurd (cc)
-
-pub not_asked : (f : Fault) (q : Bool) → asks f q ≡ None → q ≡ true
-not_asked f true h = refl
-not_asked f false h = absurd (cc)
 
 -- the laws of a module
 abbrev Lawful : Action → Type 0

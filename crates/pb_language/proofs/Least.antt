@@ -11,6 +11,7 @@ use Rattle.pb_language.specs.Program.{Inventory, Batch, Program, all_batches}
 use Rattle.pb_language.specs.Plays.{program_of}
 use Rattle.pb_language.specs.Theorem.{none_out, CanGoOn, Progress}
 use Rattle.pb_language.specs.Machine.{Event, start, give, turn, stop, over, gone, begins as at_task, Stage, waits, runs, Host, State, still_active, world_of, host_at, is_out, running, stands_at, all_stand, can_start, is_idle, all_idle, of_host, is_possible, enabled, notified_by, on_plan, on_start, on_notified, on_results, on_admitted, on_give, any_names, with_batches, on_host, happened, step, opening_hosts, opening, run_from}
+use Rattle.pb_semantics.proofs.KeepsUp.{le_through}
 
 -- a host whose place no other's is below
 record Least (hs : List Host) : Type 0 where
@@ -28,9 +29,6 @@ idle_stands p (runs t ps a b) h = untrue h
 idle_stand : (p : ℕ) (hs : List Host) → all_idle hs ≡ true → all_stand p hs ≡ true
 idle_stand p [] e = refl
 idle_stand p (h ∷ hs) e = and-both (stands_at p h.stage) (all_stand p hs) (idle_stands p h.stage (and-left (is_idle h.stage) (all_idle hs) e)) (idle_stand p hs (and-right (is_idle h.stage) (all_idle hs) e))
-
-le_through : (a b c : ℕ) → nat_le a b ≡ true → nat_le b c ≡ true → nat_le a c ≡ true
-le_through a b c h i = grind (arith, nat_tests)
 
 stage_lower : (p q : ℕ) (g : Stage) → nat_le p q ≡ true → stands_at q g ≡ true → stands_at p g ≡ true
 stage_lower p q (waits over) l h = refl

@@ -14,7 +14,7 @@ use Rattle.pb_language.specs.World.{Group}
 use Rattle.pb_language.specs.Setting.{Setting, group_slots, with_failure_slot, named_slots, names_list, group_fields, with_failure, named_fields}
 use Rattle.pb_language.proofs.WithSlot.{models_written, kept_written, once_with}
 
-le_from : (n m : ℕ) → n ≤ m → nat_le n m ≡ true
+pub le_from : (n m : ℕ) → n ≤ m → nat_le n m ≡ true
 le_from n m h = grind (arith, nat_tests)
 
 count_names : (ns : List Name) → count_of (names_list ns) ≡ length ns

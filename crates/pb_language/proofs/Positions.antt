@@ -1,6 +1,5 @@
 -- Where a run stands in its program, and what each host owes and knows there.
 use Rattle.std.proofs.Common.{◌≡◌, ◌≤◌, ◌+◌, ℕ, suc, max, List, [], ◌∷◌, Bool, true, false, not, ◌&&◌, ◌||◌, cond, nat_le, Option, Some, None, is_some, refl, arith, true≢false, bytes_eq, ⊎_elim}
-use Rattle.std.proofs.lemmas.Bool.Decides.{nat_tests}
 use Rattle.pb_semantics.specs.Data.{Data, Fields, field_value}
 use Rattle.pb_semantics.specs.Kind.{Slots, Spot, nowhere, spot, slot_at}
 use Rattle.pb_semantics.specs.Keeps.{is_among, spot_ok, Models}
@@ -19,6 +18,7 @@ use Rattle.pb_language.specs.Start.{Pass}
 use Rattle.pb_language.specs.Machine.{over, gone, begins, Stage, waits, runs, Host, is_marked, unmarked, outermost, innermost, settled, stands_at, is_on_stage}
 use Rattle.pb_language.proofs.Claims.{PassesFine}
 use Rattle.pb_language.proofs.Ways.{Above, WellEnv, VisitFine, Typed}
+use Rattle.pb_semantics.proofs.KeepsUp.{le_through}
 
 -- the variables are those of the exit's environment
 abbrev pub ExitModels : Fields → Exit → Type 0
@@ -39,9 +39,6 @@ due : (x y : Bool) → (x ≡ true → y ≡ true) → not y || false ≡ true �
 due true true f h e = h
 due true false f h e = f refl
 due false y f h e = e
-
-le_through : (a b c : ℕ) → nat_le a b ≡ true → nat_le b c ≡ true → nat_le a c ≡ true
-le_through a b c h i = grind (arith, nat_tests)
 
 not-or : (a b : Bool) → not a || b ≡ true → a ≡ true → b ≡ true
 not-or true b h e = h

@@ -1,11 +1,11 @@
 -- The tables of views are well formed, and the inventory's variables keep them.
-use Rattle.std.proofs.Common.{◌≡◌, ℕ, zero, suc, List, [], ◌∷◌, ◌++◌, Bool, true, false, not, ◌||◌, cond, Option, Some, None, refl, sym, subst, ◌∙◌, bytes_eq, true≢false}
+use Rattle.std.proofs.Common.{◌≡◌, ℕ, zero, suc, List, [], ◌∷◌, ◌++◌, Bool, true, false, not, ◌||◌, cond, Option, Some, None, refl, subst, bytes_eq, true≢false}
 use Rattle.pb_semantics.specs.Data.{Data, Fields, rec, field_value}
 use Rattle.pb_semantics.specs.Kind.{KindData, Slots, Spot, no_slots, nowhere, spot, slot_at, recs}
 use Rattle.pb_semantics.specs.Keeps.{is_among, spot_ok, Models}
 use Rattle.pb_semantics.specs.Join.{join}
 use Rattle.pb_semantics.specs.Well.{Well}
-use Rattle.pb_semantics.proofs.Bools.{untrue, and-left, and-right, or-left, or-right, true-false, not-true}
+use Rattle.pb_semantics.proofs.Bools.{untrue, and-left, and-right, or-left, or-right, true-false}
 use Rattle.pb_semantics.proofs.Names.{same_name, own_name}
 use Rattle.pb_semantics.proofs.JoinWell.{joins_well}
 use Rattle.pb_semantics.proofs.JoinAbove.{joins_above}
@@ -29,6 +29,7 @@ use Rattle.pb_language.proofs.WellKinds.{WellSpot, well_slot, well_known_slots}
 use Rattle.pb_language.proofs.Taught.{well_with_spot}
 use Rattle.pb_language.proofs.Values.{kept_known_value}
 use Rattle.pb_language.proofs.Ways.{WellEnv, WellExit, meet_well, AllVisits}
+use Rattle.pb_language.proofs.Seen.{apart_names}
 
 -- each environment of a walk is well formed
 abbrev pub WellVisit : Visit → Type 0
@@ -220,10 +221,6 @@ pub at_named : (k : ℕ) (xs : List HostVariables) (x : HostVariables) → varia
 at_named k [] x e = absurd (true≢false (cc))
 at_named zero (y ∷ xs) x e = let j : y ≡ x = cc in subst (λ z. is_among z.name (y.name ∷ host_names xs) ≡ true) j (or-left (bytes_eq y.name y.name) (is_among y.name (host_names xs)) (own_name y.name))
 at_named (suc k) (y ∷ xs) x e = or-right (bytes_eq x.name y.name) (is_among x.name (host_names xs)) (at_named k xs x e)
-
-apart_names : (q : Bool) (n m : Name) (ns : List Name) → bytes_eq n m ≡ q → is_among n ns ≡ true → not (is_among m ns) ≡ true → q ≡ false
-apart_names true n m ns e i d = untrue (sym (not-true (is_among m ns) d) ∙ subst (λ z. is_among z ns ≡ true) (same_name n m e) i)
-apart_names false n m ns e i d = refl
 
 other_at : (k : ℕ) (y x : HostVariables) (xs : List HostVariables) → are_distinct (host_names (y ∷ xs)) ≡ true → variables_at k xs ≡ Some x → bytes_eq x.name y.name ≡ false
 other_at k y x xs d e = apart_names (bytes_eq x.name y.name) x.name y.name (host_names xs) refl (at_named k xs x e) (and-left (not (is_among y.name (host_names xs))) (are_distinct (host_names xs)) d)

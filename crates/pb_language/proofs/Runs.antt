@@ -1,5 +1,5 @@
 -- What every step of a run keeps.
-use Rattle.std.proofs.Common.{◌≡◌, ◌≤◌, ◌+◌, ⊎_elim, ℕ, suc, max, List, [], ◌∷◌, Bool, true, false, not, ◌&&◌, ◌||◌, cond, nat_lt, Option, Some, None, is_some, length, refl, sym, ap, subst, ◌∙◌, arith, true≢false}
+use Rattle.std.proofs.Common.{◌≡◌, ◌≤◌, ◌+◌, ⊎_elim, ℕ, suc, max, List, [], ◌∷◌, Bool, true, false, not, ◌&&◌, ◌||◌, cond, nat_lt, Some, None, is_some, length, refl, sym, ap, subst, ◌∙◌, arith}
 use Rattle.pb_semantics.specs.Data.{Fields, no_fields, field_value}
 use Rattle.pb_semantics.specs.Kind.{Slots, no_slots, recs}
 use Rattle.pb_semantics.specs.Keeps.{is_among, Models}
@@ -13,7 +13,7 @@ use Rattle.pb_language.specs.Notify.{Notified, handlers_are, names_nothing, all_
 use Rattle.pb_language.specs.Task.{Action, call_of, debug, set_fact, assertion, failure_of, Task}
 use Rattle.pb_language.specs.Rest.{Rest, done, left, next, ask, rescue, hold, release}
 use Rattle.pb_language.specs.Cases.{failing_cases}
-use Rattle.pb_language.specs.Fit.{Fault, first, asks, unknown_handler}
+use Rattle.pb_language.specs.Fit.{unknown_handler}
 use Rattle.pb_language.specs.Setting.{Setting, named_slots, start_scope, item_scope, action_scope, give_scope}
 use Rattle.pb_language.specs.Judgement.{Exit, live, task_fault, live_if, has_case, has_going, going_slots, failing_slots, going_exit, failing_exit, loop_fault, conditions_fault, action_fault, keyword_fault}
 use Rattle.pb_language.specs.Program.{Inventory, Play, Program, Batch, setting_of}
@@ -22,29 +22,22 @@ use Rattle.pb_language.specs.Theorem.{are_distinct, host_names}
 use Rattle.pb_language.specs.Start.{Pass, Plan, planned, halted, plan_of, call_count}
 use Rattle.pb_language.specs.Give.{Answer, Admitted, admitted, breached, unreached, admit_passes, Ended, Results, results_are, no_results, end_all, any_failed, any_changed, written_variables}
 use Rattle.pb_language.specs.Machine.{over, gone, begins, Stage, waits, runs, Host, Recap, State, is_marked, unmarked, outermost, innermost, settled, still_active, variables_seen, world_of, host_at, put_host, is_out, running, all_stand, can_start, with_host, on_plan, on_start, notified_by, after_task, on_notified, on_results, on_admitted, on_give}
-use Rattle.pb_language.proofs.Claims.{Around, StartClaim, GiveClaim, PlanFine, AdmittedFine, ResultsFine, Written, action_calls}
+use Rattle.pb_language.proofs.Claims.{Around, StartClaim, GiveClaim, PlanFine, AdmittedFine, ResultsFine, Written, action_calls, more_calls}
 use Rattle.pb_language.proofs.Ways.{WellEnv}
 use Rattle.pb_language.proofs.Named.{named_models}
 use Rattle.pb_language.proofs.Seen.{names_of, names_put, put_at, seen_at, seen, active_at, still_among, all_still, few_still, stand_at, total, total_put}
 use Rattle.pb_language.proofs.Positions.{walked, most, FineVisit, TypedAt, Running, in_any, StageFine, owes, settled_fine, settled_owes, stage_there}
-
-pub first_none : (f g : Option Fault) → first f g ≡ None → (f ≡ None) × (g ≡ None)
-first_none None g h = (refl, h)
-first_none (Some f) g h = absurd (true≢false (cc))
-
-asked : (f : Fault) (q : Bool) → asks f q ≡ None → q ≡ true
-asked f true h = refl
-asked f false h = absurd (true≢false (cc))
+use Rattle.pb_language.proofs.Fits.{no_second, not_asked}
 
 -- the texts that a fit task notifies name handlers
 pub handlers_named : (s : Setting) (t : Task) (env : Slots) → task_fault s t env ≡ None → names_something (all_notified s.handlers t.notifies) ≡ true
 handlers_named s t env h =
-    let a = (first_none (loop_fault (start_scope s t env) t.loop) _ h).1 in
-    let b = (first_none (conditions_fault (item_scope s t env) t.conditions) _ a).1 in
-    let c = (first_none (action_fault (action_scope s t env) t.action) _ b).1 in
-    let d = (first_none (keyword_fault (give_scope s t env) t.changed_when) _ c).1 in
-    let e = (first_none (keyword_fault (give_scope s t env) t.failed_when) _ d).1 in
-    asked unknown_handler (names_something (all_notified s.handlers t.notifies)) e
+    let a = no_second (loop_fault (start_scope s t env) t.loop) _ h in
+    let b = no_second (conditions_fault (item_scope s t env) t.conditions) _ a in
+    let c = no_second (action_fault (action_scope s t env) t.action) _ b in
+    let d = no_second (keyword_fault (give_scope s t env) t.changed_when) _ c in
+    let e = no_second (keyword_fault (give_scope s t env) t.failed_when) _ d in
+    not_asked unknown_handler (names_something (all_notified s.handlers t.notifies)) e
 
 calls_at : (vs : List _) (t : Task) (a : Action) → place_calls vs t a ≡ action_calls a (place_length t t.loop vs)
 calls_at vs t (call_of m ps) = refl
@@ -52,13 +45,6 @@ calls_at vs t (debug e) = refl
 calls_at vs t (set_fact ps) = refl
 calls_at vs t (assertion es o) = refl
 calls_at vs t (failure_of o) = refl
-
-more_calls : (a : Action) (n m : ℕ) → n ≤ m → action_calls a n ≤ action_calls a m
-more_calls (call_of p ps) n m h = h
-more_calls (debug e) n m h = omega arith
-more_calls (set_fact ps) n m h = omega arith
-more_calls (assertion es o) n m h = omega arith
-more_calls (failure_of o) n m h = omega arith
 
 -- an exit that is there
 there_exit : (q : Bool) (env : Slots) (Q : Exit → Type 0) → q ≡ true → Q (live_if q env) → Q (live env)

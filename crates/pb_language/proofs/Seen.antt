@@ -32,7 +32,7 @@ at_among k [] h e = absurd (true≢false (cc))
 at_among zero (y ∷ hs) h e = let j : y ≡ h = cc in subst (λ z. is_among z.name (y.name ∷ names_of hs) ≡ true) j (or-left (bytes_eq y.name y.name) (is_among y.name (names_of hs)) (own_name y.name))
 at_among (suc k) (y ∷ hs) h e = or-right (bytes_eq h.name y.name) (is_among h.name (names_of hs)) (at_among k hs h e)
 
-apart_names : (q : Bool) (n m : Name) (ns : List Name) → bytes_eq n m ≡ q → is_among n ns ≡ true → not (is_among m ns) ≡ true → q ≡ false
+pub apart_names : (q : Bool) (n m : Name) (ns : List Name) → bytes_eq n m ≡ q → is_among n ns ≡ true → not (is_among m ns) ≡ true → q ≡ false
 apart_names true n m ns e i d = untrue (sym (not-true (is_among m ns) d) ∙ subst (λ z. is_among z ns ≡ true) (same_name n m e) i)
 apart_names false n m ns e i d = refl
 

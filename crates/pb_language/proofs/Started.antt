@@ -25,11 +25,11 @@ use Rattle.pb_language.specs.Setting.{Setting, named_slots, start_scope, item_sc
 use Rattle.pb_language.specs.Judgement.{keyword_fault, is_lawful, conditions_fault, loop_fault, text_fault, parameter_kind, arguments_fault, action_fault, task_fault, loop_length}
 use Rattle.pb_language.specs.Start.{no_changes, Entry, skips, calls, acts, Pass, Plan, planned, halted, kept_argument, eval_arguments, only_text, eval_text_or, unchanged, unchanged_with, Made, made, unmade, made_with, asserted, all_changes, set_by, eval_action, on_condition, eval_item, with_local_item, with_pass, plan_items, plan_loop, plan_of, is_call, call_count}
 use Rattle.pb_language.specs.Give.{acted}
-use Rattle.pb_language.proofs.Claims.{Around, Follows, action_calls, IsCall, ItemFine, EntryFine, AllPasses, Single, PlanFine, StartClaim}
+use Rattle.pb_language.proofs.Claims.{Around, Follows, action_calls, IsCall, ItemFine, EntryFine, AllPasses, Single, PlanFine, StartClaim, more_calls}
 use Rattle.pb_language.proofs.Tests.{test_teaches}
-use Rattle.pb_language.proofs.Fits.{fit_has_value}
+use Rattle.pb_language.proofs.Fits.{fit_has_value, no_first, no_second, not_asked}
 use Rattle.pb_language.proofs.After.{well_named, well_own_item}
-use Rattle.pb_language.proofs.GivenResults.{no_first, no_second, not_asked, conditions_decided, knows_at, local_models}
+use Rattle.pb_language.proofs.GivenResults.{conditions_decided, knows_at, local_models}
 
 abbrev is_opaque : Data → Bool
 is_opaque opaque = true
@@ -256,13 +256,6 @@ module _ (st : Setting) (t : Task) (env : Slots) (w : World) (r : Around w st st
   calls_few : (ps : List Pass) → AllPasses st t env ps → call_count ps ≤ action_calls t.action (length ps)
   calls_few [] f = omega arith
   calls_few (p ∷ ps) f = call_one p.entry t.action (length ps) (call_count ps) (of_entry p.entry f.0.entry) (calls_few ps f.1)
-
-  more_calls : (a : Action) (n m : ℕ) → n ≤ m → action_calls a n ≤ action_calls a m
-  more_calls (call_of p ps) n m h = h
-  more_calls (debug e) n m h = omega arith
-  more_calls (set_fact ps) n m h = omega arith
-  more_calls (assertion es o) n m h = omega arith
-  more_calls (failure_of o) n m h = omega arith
 
   passes_fine : (n : ℕ) (p : Plan) → ((ps : List Pass) → length ps ≡ n → Single st t env t.loop ps) → n ≤ loop_length st t env t.loop → PlannedFine n p → PlanFine st t env p
   passes_fine n (halted s) one l f = f

@@ -88,11 +88,11 @@ kept_changed (n ∷ ns) f (rec fs) (recs ss) g w h =
 kept_changed (n ∷ ns) f d (recs ss) g w h = untrue h
 kept_changed (n ∷ ns) f d k g w h = h
 
-left_one : (q : Bool) (m : List ℕ) (sh : Shape) (fl : Bool) (k : KindData) (fs : Fields) (cs : Cases) → q ≡ true → has_status sh fl fs && keeps (rec fs) k ≡ true → cases_kept fs (cond q (one m sh fl k cs) cs) ≡ true
+pub left_one : (q : Bool) (m : List ℕ) (sh : Shape) (fl : Bool) (k : KindData) (fs : Fields) (cs : Cases) → q ≡ true → has_status sh fl fs && keeps (rec fs) k ≡ true → cases_kept fs (cond q (one m sh fl k cs) cs) ≡ true
 left_one true m sh fl k fs cs e h = or-left (has_status sh fl fs && keeps (rec fs) k) (cases_kept fs cs) h
 left_one false m sh fl k fs cs e h = untrue e
 
-later_one : (q : Bool) (m : List ℕ) (sh : Shape) (fl : Bool) (k : KindData) (fs : Fields) (cs : Cases) → cases_kept fs cs ≡ true → cases_kept fs (cond q (one m sh fl k cs) cs) ≡ true
+pub later_one : (q : Bool) (m : List ℕ) (sh : Shape) (fl : Bool) (k : KindData) (fs : Fields) (cs : Cases) → cases_kept fs cs ≡ true → cases_kept fs (cond q (one m sh fl k cs) cs) ≡ true
 later_one true m sh fl k fs cs h = or-right (has_status sh fl fs && keeps (rec fs) k) (cases_kept fs cs) h
 later_one false m sh fl k fs cs h = h
 
@@ -111,7 +111,7 @@ flag_same None b fl h i = untrue i
 flag_same (Some (boolean c)) b fl h i = let x : c ≡ b = cc in rw (same_flag fl c i, x) (own_flag b)
 flag_same (Some d) b fl h i = untrue i
 
-failed_flag : (sh : Shape) (fl : Bool) (fs : Fields) → has_status sh fl fs ≡ true → flag_is fl (field_value (codes "failed") fs) ≡ true
+pub failed_flag : (sh : Shape) (fl : Bool) (fs : Fields) → has_status sh fl fs ≡ true → flag_is fl (field_value (codes "failed") fs) ≡ true
 failed_flag ok_shape fl fs h = h
 failed_flag failure_shape fl fs h = h
 failed_flag skipped_shape fl fs h =

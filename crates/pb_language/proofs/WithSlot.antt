@@ -12,11 +12,11 @@ use Rattle.pb_semantics.proofs.Kept.{kept_models}
 use Rattle.pb_language.specs.Scope.{without_slot, with_slot, with_spot}
 
 -- a test made twice
-twice : {X : Type 0} (q : Bool) (x y z : X) → cond q x z ≡ cond q x (cond q y z)
+pub twice : {X : Type 0} (q : Bool) (x y z : X) → cond q x z ≡ cond q x (cond q y z)
 twice true x y z = refl
 twice false x y z = refl
 
-swapped : {X : Type 0} (q r : Bool) (x y z : X) → (q ≡ true → r ≡ true → x ≡ y) → cond q x (cond r y z) ≡ cond r y (cond q x z)
+pub swapped : {X : Type 0} (q r : Bool) (x y z : X) → (q ≡ true → r ≡ true → x ≡ y) → cond q x (cond r y z) ≡ cond r y (cond q x z)
 swapped true true x y z f = f refl refl
 swapped true false x y z f = refl
 swapped false r x y z f = refl

@@ -41,7 +41,6 @@ single_ended st t env None (p ∷ q ∷ ps) es h e = untrue h
 single_ended st t env (Some l) ps es h e = tt
 
 -- a loop's results
-
 count_results : (es : List Ended) → count_of (result_items es) ≡ length es
 count_results [] = refl
 count_results (e ∷ es) = let y = count_results es in omega (arith, y)

@@ -35,8 +35,6 @@ use Rattle.pb_language.proofs.After.{well_scope, shape_well, well_answered_cases
 use Rattle.pb_language.proofs.GivenFields.{kept_put_with, ended_fields, failed_field, Ends, ends_kind, EndsEach, ends_either, ends_own, kept_left, kept_right}
 use Rattle.pb_language.proofs.GivenSets.{Uncertain, uncertain_run, uncertain_going, gathered_follows}
 
--- no fault
-
 -- the laws of a module
 abbrev Lawful : Action → Type 0
 Lawful (call_of m ps) = is_lawful m ≡ true

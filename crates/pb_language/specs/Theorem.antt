@@ -5,9 +5,10 @@ use Rattle.pb_language.specs.Expression.{Name}
 use Rattle.pb_language.specs.World.{HostVariables}
 use Rattle.pb_language.specs.Book.{Book, Registry}
 use Rattle.pb_language.specs.Plays.{program_of}
-use Rattle.pb_language.specs.Program.{Inventory, Batch, all_batches}
+use Rattle.pb_language.specs.Program.{Inventory, Program, Batch, all_batches}
 use Rattle.pb_language.specs.Task.{Handlers, no_handlers, handler, Row, end, task, flush, block}
-use Rattle.pb_language.specs.Verdict.{accepted}
+use Rattle.pb_language.specs.Tables.{all_walked, views_after}
+use Rattle.pb_language.specs.Verdict.{accepted, all_have, found_laters}
 use Rattle.pb_language.specs.Judged.{judged}
 use Rattle.pb_language.specs.Machine.{Event, start, turn, Host, State, is_out, enabled, history, opening, run}
 
@@ -63,3 +64,8 @@ occurrences (b ∷ bs) = length b.members * places_of b.play.row + occurrences b
 abbrev pub ShortHistory : Type 0
 ShortHistory = (ms : Registry) (inventory : Inventory) (b : Book) (n forks : ℕ) (es : List Event) → are_distinct (host_names inventory.hosts) ≡ true → judged ms inventory b ≡ accepted n
     → length (history (opening (program_of ms inventory b) inventory forks) es) ≤ 2 * occurrences (all_batches (program_of ms inventory b)) + length (all_batches (program_of ms inventory b)) + 1
+
+-- what the first walk says of later places is so in the walk with each table; so this never keeps a book from being accepted
+abbrev pub LatersHold : Type 0
+LatersHold = (ps : Program) (inventory : Inventory) (r : ℕ) → are_distinct (host_names inventory.hosts) ≡ true
+    → all_have ps (found_laters ps inventory) (all_walked inventory ps (views_after r inventory ps (found_laters ps inventory)) (found_laters ps inventory)) ≡ true

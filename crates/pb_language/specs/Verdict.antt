@@ -102,6 +102,10 @@ table_verdict inventory ps views ls = walked_verdict ps views ls (all_walked inv
 abbrev pub laters_verdict : Inventory → Program → List (List Later) → Verdict
 laters_verdict inventory ps ls = table_verdict inventory ps (views_after 4 inventory ps ls) ls
 
--- the verdict on the ways of all hosts: with the fourth table, and with what the environments say of later places, in which no kind plays a part
+-- what a first walk, with the inventory's kinds, says of later places; no kind plays a part in it
+abbrev pub found_laters : Program → Inventory → List (List Later)
+found_laters ps inventory = laters_of ps (all_walked inventory ps (known_views inventory.hosts) [])
+
+-- the verdict on the ways of all hosts, with the fourth table
 abbrev pub flow_verdict : Program → Inventory → Verdict
-flow_verdict ps inventory = laters_verdict inventory ps (laters_of ps (all_walked inventory ps (known_views inventory.hosts) []))
+flow_verdict ps inventory = laters_verdict inventory ps (found_laters ps inventory)

@@ -30,3 +30,4 @@ pub mod Started
 pub mod Unwound
 pub mod Least
 pub mod Short
+pub mod Certain

@@ -1,6 +1,6 @@
 // The laws of the definitions, each on a function that does nothing.
 ghost use Rattle.pb_language.specs.Knows.{FitHasValue, ValueKeepsKind, TestTeaches, KindsAreWell};
-ghost use Rattle.pb_language.specs.Theorem.{NeverStuck, Progress, ShortHistory, WithinBudget};
+ghost use Rattle.pb_language.specs.Theorem.{LatersHold, NeverStuck, Progress, ShortHistory, WithinBudget};
 ghost use Rattle.pb_language.specs.Unwinding.{UnwindingWalks};
 
 /// An expression that is fit has a value in each world that knows the scope, and the value is of the expression's kind.
@@ -46,4 +46,9 @@ pub fn progress()
 /// Few events of a run of an accepted book are enabled: at most two for each host of a batch and each place of its play, one for each batch, and one Stop.
 pub fn short_history()
     ensures { ShortHistory }
+{}
+
+/// What a first walk says of later places is so in the walk with each table of kinds: it never keeps a book from being accepted.
+pub fn laters_hold()
+    ensures { LatersHold }
 {}

@@ -1,7 +1,7 @@
 -- An accepted book is never stuck and stays within its budget.
-use Rattle.std.proofs.Common.{◌≡◌, ◌≤◌, ℕ, zero, suc, List, [], ◌∷◌, Bool, true, false, ◌&&◌, ◌||◌, cond, Option, Some, None, refl, sym, ap, subst, arith, true≢false, bytes_eq}
+use Rattle.std.proofs.Common.{◌≡◌, ◌≤◌, ℕ, zero, suc, List, [], ◌∷◌, Bool, true, false, ◌||◌, cond, Option, Some, None, refl, sym, ap, subst, arith, true≢false, bytes_eq}
 use Rattle.pb_semantics.specs.Keeps.{is_among, Models}
-use Rattle.pb_semantics.proofs.Bools.{untrue, and-left, and-right}
+use Rattle.pb_semantics.proofs.Bools.{untrue}
 use Rattle.pb_semantics.proofs.Names.{same_name}
 use Rattle.pb_language.specs.Expression.{Name}
 use Rattle.pb_language.specs.World.{HostVariables, variables_of}
@@ -10,7 +10,7 @@ use Rattle.pb_language.specs.Kinds.{known_slots}
 use Rattle.pb_language.specs.Judgement.{Exit, live}
 use Rattle.pb_language.specs.Program.{Inventory, Program}
 use Rattle.pb_language.specs.Tables.{HostWalk, plays_walked, plays_calls, hosts_walked, all_walked, known_views, views_after, are_settled, laters_of, play_laters, walks_after, budget_of}
-use Rattle.pb_language.specs.Verdict.{Refusal, Verdict, accepted, first_offence, all_have, offence_verdict, flow_verdict}
+use Rattle.pb_language.specs.Verdict.{Refusal, Verdict, accepted, first_offence, offence_verdict, flow_verdict}
 use Rattle.pb_language.specs.Plays.{program_of}
 use Rattle.pb_language.specs.Rules.{rules_offence}
 use Rattle.pb_language.specs.Theorem.{host_names, are_distinct, NeverStuck, WithinBudget}
@@ -23,6 +23,7 @@ use Rattle.pb_language.proofs.Turns.{PlansFine, Good}
 use Rattle.pb_language.proofs.Steps.{Fine, Resting, resting_owes, plays_begun, run_fine, fine_within}
 use Rattle.pb_language.proofs.Rounds.{absent_next, variables_at, found_at, known_models, views_well, views_models}
 use Rattle.pb_language.proofs.Accepted.{accepted_parts, AllGood, all_good}
+use Rattle.pb_language.proofs.Certain.{laters_hold}
 use Rattle.pb_language.proofs.Cuts.{AllCut, program_cut}
 
 -- under `free` nothing is said of later places
@@ -119,18 +120,17 @@ module _ (after_claim : AfterClaim) (start_claim : StartClaim) (give_claim : Giv
         subst (λ n. Models h.variables (view_of n views)) (sym o.name) (subst (λ vars. Models vars (view_of o.host.name views)) (sym o.variables) (views_models after_claim inventory program ls distinct 4 k o.host o.found));
   }
 
-  pub opening_fine : (forks : ℕ) → first_offence ways ≡ None → are_settled ways views && all_have program ls ways ≡ true → budget_of ways ≡ limit → Fine inventory views fixed start_claim give_claim after_claim limit (opening program inventory forks)
+  pub opening_fine : (forks : ℕ) → first_offence ways ≡ None → are_settled ways views ≡ true → budget_of ways ≡ limit → Fine inventory views fixed start_claim give_claim after_claim limit (opening program inventory forks)
   opening_fine forks o b m =
-      let settled = are_settled ways views in
-      let have = all_have program ls ways in
-      let good = all_good inventory views fixed start_claim give_claim after_claim limit program ls inventory.hosts o (and-left settled have b) (and-right settled have b) in
+      let have = laters_hold program inventory 4 distinct in
+      let good = all_good inventory views fixed start_claim give_claim after_claim limit program ls inventory.hosts o b have in
       let t = total_opening inventory.hosts (λ k x e. found_at k inventory.hosts x distinct e) in
       plays_begun inventory views fixed start_claim give_claim after_claim limit program ls exits (begin forks) (plans_fine program (all_walked inventory program (known_views inventory.hosts) []) cuts) (kept forks)
       (record { well = λ n i. well_known_slots (variables_of n inventory.hosts); good = λ n i. good_named n inventory.hosts good i }) (λ k h e. resting k h (opened inventory.hosts k h e)) (omega (arith, t, m))
 
   pub sound : (forks : ℕ) (es : List Event) → flow_verdict program inventory ≡ accepted limit → ((run_from (opening program inventory forks) es).is_stuck ≡ false) × ((run_from (opening program inventory forks) es).handed ≤ limit)
   sound forks es h =
-      let a = accepted_parts (first_offence ways) (are_settled ways views && all_have program ls ways) (budget_of ways) limit h in
+      let a = accepted_parts (first_offence ways) (are_settled ways views) (budget_of ways) limit h in
       let f = run_fine inventory views fixed start_claim give_claim after_claim limit es (opening program inventory forks) (opening_fine forks a.0 a.1 a.2) in
       (f.kept.fresh, fine_within inventory views fixed start_claim give_claim after_claim limit (run_from (opening program inventory forks) es) f)
 

@@ -93,11 +93,11 @@ abbrev pub offence_verdict : Option Refusal → Verdict → Verdict
 offence_verdict None v = v
 offence_verdict (Some r) v = refused r
 
-abbrev pub walked_verdict : Program → List View → List (List Later) → List HostWalk → Verdict
-walked_verdict ps views ls ws = offence_verdict (first_offence ws) (settled_verdict (are_settled ws views && all_have ps ls ws) (budget_of ws))
+abbrev pub walked_verdict : List View → List HostWalk → Verdict
+walked_verdict views ws = offence_verdict (first_offence ws) (settled_verdict (are_settled ws views) (budget_of ws))
 
 abbrev pub table_verdict : Inventory → Program → List View → List (List Later) → Verdict
-table_verdict inventory ps views ls = walked_verdict ps views ls (all_walked inventory ps views ls)
+table_verdict inventory ps views ls = walked_verdict views (all_walked inventory ps views ls)
 
 abbrev pub laters_verdict : Inventory → Program → List (List Later) → Verdict
 laters_verdict inventory ps ls = table_verdict inventory ps (views_after 4 inventory ps ls) ls

@@ -18,7 +18,7 @@ WORDS = ["run", "book", "-i", "inventory", "--answers", "answers"]
 ANSWER = Outcome(0, b"h1 : ok=60 changed=30 unreachable=0 failed=0 skipped=0 rescued=0 ignored=0\n", b"")
 WANT = Outcome(3, b"", b"playcheck: want of memory\n")
 NOT_STARTED = 127  # of the loader, which needs memory too
-KIBIBYTES = range(2800, 6800, 16)
+KIBIBYTES = [*range(2800, 6800, 16), 65536]
 
 
 def outcome_within(program, folder, kibibytes):

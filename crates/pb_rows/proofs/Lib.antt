@@ -41,3 +41,4 @@ pub mod Signatures01
 pub mod Steps01
 pub mod Template01
 pub mod Template02
+pub mod Large

@@ -6,10 +6,12 @@ use Rattle.pb_language.specs.Book.{module_work, TaskData, no_steps, task_step, B
 use Rattle.pb_language.specs.Builtins.{builtins}
 use Rattle.pb_language.specs.Drive.{next_start, drive}
 use Rattle.pb_language.specs.Give.{Answer, object}
+use Rattle.pb_language.specs.Judged.{judged}
 use Rattle.pb_language.specs.Machine.{Event, start, give, State, history, opening, run_from}
 use Rattle.pb_language.specs.Plays.{program_of}
 use Rattle.pb_language.specs.Program.{Inventory}
 use Rattle.pb_language.specs.Theorem.{host_names}
+use Rattle.pb_language.specs.Verdict.{accepted}
 use Rattle.pb_language.specs.World.{HostVariables}
 use Rattle.pb_rows.specs.Recaps.{all_recaps}
 
@@ -70,6 +72,9 @@ starts_from n (suc k) = start n ∷ starts_from (suc n) k
 
 abbrev opened : State
 opened = opening (program_of builtins many_hosts one_ping) many_hosts 256
+
+many_budget : judged builtins many_hosts one_ping ≡ accepted 1024
+many_budget = refl
 
 -- the hosts start in their order
 first_of_all : next_start opened ≡ Some (record { number = 0; place = 0 })

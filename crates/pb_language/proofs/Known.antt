@@ -13,7 +13,7 @@ use Rattle.pb_language.specs.World.{World, variables_of, member_of}
 use Rattle.pb_language.specs.Evaluation.{Outcome, value, stuck, Look, there, absent, failing, or_stuck, no_field, value_below, is_value, is_there, undefined, found, readable, name_in, member_named, look_there, is_text_among, member_among, is_active, eval, look}
 use Rattle.pb_language.specs.Scope.{Scope, Present, begins_with, is_present_path, resolved, both_present, Later, spot_kind, with_spot, view_of, later_of, is_later, learned_kind, host_spot, other_spot, both_scopes}
 use Rattle.pb_language.specs.Kinds.{root_spot}
-use Rattle.pb_language.specs.Narrow.{cases_with, answers, on_results, changed_spot, changed_at, there_spot, defined_at, teach_host, teach_member, teach, teach_present, active_member, teach_active, narrow, narrow_each, narrow_some}
+use Rattle.pb_language.specs.Narrow.{cases_with, answers, on_results, changed_spot, changed_at, there_spot, defined_at, teach_host, teach_member, teach, teach_present, active_member, teach_active, any_teaches, narrow, narrow_each, narrow_some}
 use Rattle.pb_language.specs.Knows.{WellScope, Knows}
 use Rattle.pb_language.proofs.Same.{equal_expression, equal_root}
 use Rattle.pb_language.proofs.WithSlot.{at_with, models_with}
@@ -21,7 +21,7 @@ use Rattle.pb_language.proofs.WellKinds.{WellSpot, well_slot, well_host, well_ot
 use Rattle.pb_language.proofs.Paths.{keeps_first, keeps_second, meets_first, meets_second}
 use Rattle.pb_language.proofs.Values.{host_ok, other_ok, resolved_look, root_ok}
 use Rattle.pb_language.proofs.Taught.{well_with_spot, well_changed_spot, well_there_spot, well_answered, well_defined_at}
-use Rattle.pb_language.proofs.Scopes.{put_view_at, no_view, both_view_at, SameGround, both_learned_at, both_spot, at_both, both_first, both_second, well_both}
+use Rattle.pb_language.proofs.Scopes.{put_view_at, no_view, both_view_at, SameGround, either_scope, both_learned_at, both_spot, at_both, both_first, both_second, well_both}
 
 abbrev pub WellsSpot : (Spot → Spot) → Type 0
 WellsSpot f = (s : Spot) → WellSpot s → WellSpot (f s)
@@ -88,8 +88,8 @@ mutual
   pub well_narrow : (e : Expression) (c : Scope) (b : Bool) → WellScope c → WellScope (narrow c e b)
   well_narrow (negation e) c b w = well_narrow e c (not b) w
   well_narrow (conjunction es) c true w = well_narrow_each es c true w
-  well_narrow (conjunction es) c false w = well_narrow_some es c false w
-  well_narrow (disjunction es) c true w = well_narrow_some es c true w
+  well_narrow (conjunction es) c false w = either_scope WellScope (any_teaches es) (narrow_some c es false) c (well_narrow_some es c false w) w
+  well_narrow (disjunction es) c true w = either_scope WellScope (any_teaches es) (narrow_some c es true) c (well_narrow_some es c true w) w
   well_narrow (disjunction es) c false w = well_narrow_each es c false w
   well_narrow (in_batch t) c true w = well_active c t w
   well_narrow (defined r ns) c true w = well_present c r ns w

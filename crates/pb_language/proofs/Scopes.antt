@@ -11,7 +11,7 @@ use Rattle.pb_language.specs.Expression.{Name, Expression, negation, conjunction
 use Rattle.pb_language.specs.Same.{same_expression}
 use Rattle.pb_language.specs.World.{member_of}
 use Rattle.pb_language.specs.Scope.{Scope, View, Learned, nothing, taught, with_spot, view_of, put_view, learned_kind, host_spot, with_both_kinds, both_learned, both_names, with_both_spots, both_slots, both_views, both_scopes}
-use Rattle.pb_language.specs.Narrow.{cases_with, answers, on_results, changed_spot, changed_at, there_spot, defined_at, teach_host, teach_member, teach, teach_present, active_member, teach_active, narrow, narrow_each, narrow_some}
+use Rattle.pb_language.specs.Narrow.{cases_with, answers, on_results, changed_spot, changed_at, there_spot, defined_at, teach_host, teach_member, teach, teach_present, active_member, teach_active, any_teaches, where_taught, narrow, narrow_each, narrow_some}
 use Rattle.pb_language.specs.Knows.{WellScope}
 use Rattle.pb_language.proofs.Same.{equal_expression}
 use Rattle.pb_language.proofs.WithSlot.{at_with, well_with}
@@ -116,12 +116,17 @@ ground_active c this_host = record { this = refl; groups = refl; laters = refl; 
 ground_active c item_host = record { this = refl; groups = refl; laters = refl; place = refl; views = λ g. refl }
 ground_active c (group_member g n) = ground_active_member c (member_of g n c.groups)
 
+-- of two scopes of which one is taken
+pub either_scope : (P : Scope → Type 0) (q : Bool) (c d : Scope) → P c → P d → P (where_taught q c d)
+either_scope P true c d x y = x
+either_scope P false c d x y = y
+
 mutual
   pub ground_narrow : (e : Expression) (c : Scope) (b : Bool) → SameGround c (narrow c e b)
   ground_narrow (negation e) c b = ground_narrow e c (not b)
   ground_narrow (conjunction es) c true = ground_each es c true
-  ground_narrow (conjunction es) c false = ground_some es c false
-  ground_narrow (disjunction es) c true = ground_some es c true
+  ground_narrow (conjunction es) c false = either_scope (λ d. SameGround c d) (any_teaches es) (narrow_some c es false) c (ground_some es c false) (own_ground c)
+  ground_narrow (disjunction es) c true = either_scope (λ d. SameGround c d) (any_teaches es) (narrow_some c es true) c (ground_some es c true) (own_ground c)
   ground_narrow (disjunction es) c false = ground_each es c false
   ground_narrow (in_batch t) c true = ground_active c t
   ground_narrow (defined r ns) c true = ground_present c r ns

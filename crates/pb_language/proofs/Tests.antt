@@ -7,10 +7,10 @@ use Rattle.pb_language.specs.Expression.{Name, Status, Expression, negation, con
 use Rattle.pb_language.specs.World.{World}
 use Rattle.pb_language.specs.Evaluation.{Outcome, value, stuck, Look, there, absent, failing, then_go, value_below, is_value, read, is_there, only_boolean, negated, and_then, or_then, status_of, eval, look, eval_all, eval_any}
 use Rattle.pb_language.specs.Scope.{Scope}
-use Rattle.pb_language.specs.Narrow.{cases_with, answers, on_results, changed_spot, changed_at, there_spot, defined_at, narrow, narrow_each, narrow_some}
+use Rattle.pb_language.specs.Narrow.{cases_with, answers, on_results, changed_spot, changed_at, there_spot, defined_at, any_teaches, narrow, narrow_each, narrow_some}
 use Rattle.pb_language.specs.Knows.{Knows, TestTeaches}
 use Rattle.pb_language.proofs.Taught.{kept_changed, kept_answered, kept_defined}
-use Rattle.pb_language.proofs.Scopes.{SameGround, turned_ground, ground_through, ground_narrow, ground_some}
+use Rattle.pb_language.proofs.Scopes.{SameGround, either_scope, turned_ground, ground_through, ground_narrow, ground_some}
 use Rattle.pb_language.proofs.Known.{Teaches, answered_wells, well_narrow, well_narrow_some, knows_first, knows_second, knows_active, knows_teach, knows_present}
 
 -- tests of a path
@@ -93,8 +93,8 @@ module _ (w : World) where
     pub teaches : (e : Expression) (c : Scope) (b : Bool) → Knows w c → eval w e ≡ value (boolean b) → Knows w (narrow c e b)
     teaches (negation e) c b m h = teaches e c (not b) m (negated_of (eval w e) b h)
     teaches (conjunction es) c true m h = all_teach es c m h
-    teaches (conjunction es) c false m h = not_all_teach es c m h
-    teaches (disjunction es) c true m h = any_teach es c m h
+    teaches (conjunction es) c false m h = either_scope (Knows w) (any_teaches es) (narrow_some c es false) c (not_all_teach es c m h) m
+    teaches (disjunction es) c true m h = either_scope (Knows w) (any_teaches es) (narrow_some c es true) c (any_teach es c m h) m
     teaches (disjunction es) c false m h = none_teach es c m h
     teaches (in_batch t) c true m h = knows_active w c t m h
     teaches (defined r ns) c true m h =

@@ -30,3 +30,4 @@ pub mod Judged
 pub mod Drive
 pub mod Builtins
 pub mod Theorem
+pub mod Simple

@@ -114,13 +114,33 @@ teach_active c this_host = record c { active = c.this ∷ c.active }
 teach_active c item_host = record c { item_active = true }
 teach_active c (group_member g n) = active_member c (member_of g n c.groups)
 
+-- whether a test may teach something
+abbrev mutual
+  pub teaches : Expression → Bool
+  teaches (negation e) = teaches e
+  teaches (conjunction es) = any_teaches es
+  teaches (disjunction es) = any_teaches es
+  teaches (in_batch t) = true
+  teaches (defined r ns) = true
+  teaches (path_status s r ns) = true
+  teaches e = false
+
+  pub any_teaches : Expressions → Bool
+  any_teaches no_expressions = false
+  any_teaches (expression e es) = teaches e || any_teaches es
+
+-- where nothing teaches, what is known stays as it is
+abbrev pub where_taught : Bool → Scope → Scope → Scope
+where_taught true d c = d
+where_taught false d c = c
+
 -- what is known after a test that had that answer
 abbrev mutual
   pub narrow : Scope → Expression → Bool → Scope
   narrow c (negation e) b = narrow c e (not b)
   narrow c (conjunction es) true = narrow_each c es true
-  narrow c (conjunction es) false = narrow_some c es false
-  narrow c (disjunction es) true = narrow_some c es true
+  narrow c (conjunction es) false = where_taught (any_teaches es) (narrow_some c es false) c
+  narrow c (disjunction es) true = where_taught (any_teaches es) (narrow_some c es true) c
   narrow c (disjunction es) false = narrow_each c es false
   narrow c (in_batch t) true = teach_active c t
   narrow c (defined r ns) true = teach_present c r ns

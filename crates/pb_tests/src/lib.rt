@@ -10,4 +10,6 @@ mod expressions;
 #[cfg(test)]
 mod inventories;
 #[cfg(test)]
+mod refusals;
+#[cfg(test)]
 mod runs;

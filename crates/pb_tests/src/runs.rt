@@ -15,21 +15,19 @@ use std::test::Fail;
 
 const ONE_HOST: &[u8] = b"{\"all\":{\"hosts\":[\"h1\"]}}";
 
-const ONE_PING: &[u8] = b"[{\"hosts\":\"all\",\"tasks\":[{\"ping\":null}]}]";
+pub const ONE_PING: &[u8] = b"[{\"hosts\":\"all\",\"tasks\":[{\"ping\":null}]}]";
 
-const PONG: &[u8] = b"{\"ping\":\"pong\"}";
+pub const PONG: &[u8] = b"{\"ping\":\"pong\"}";
 
-fn accepted(alloc: Global, book: &[u8]) -> Result<Checked, Fail> {
-    let registry = Registry::builtin(alloc)?;
-    let inventory = Inventory::read(alloc, ONE_HOST)?;
-    let book = Book::read(alloc, book, &registry)?;
-    match verify(alloc, book, inventory, registry) {
-        Ok(checked) => Ok(checked),
-        Err(_) => Err("refused")?,
-    }
+/// The book accepted for one host; none where it is refused, or memory is.
+pub fn accepted(alloc: Global, book: &[u8]) -> Option<Checked> {
+    let registry = Registry::builtin(alloc).ok()?;
+    let inventory = Inventory::read(alloc, ONE_HOST).ok()?;
+    let book = Book::read(alloc, book, &registry).ok()?;
+    verify(alloc, book, inventory, registry).ok()
 }
 
-fn job_of(taken: Taken) -> Result<Job, &'static str> {
+pub fn job_of(taken: Taken) -> Result<Job, &'static str> {
     match taken {
         Taken::Job(job) => Ok(job),
         _ => Err("no job"),
@@ -52,7 +50,7 @@ fn error_of(given: &Result<Given, (GiveError, Job, Vec<Answer>)>) -> Option<Give
 #[test]
 fn a_second_give_is_a_stranger(rt: HostRuntime) -> Result<(), Fail> {
     let alloc = rt.alloc();
-    let checked = accepted(alloc, ONE_PING)?;
+    let checked = accepted(alloc, ONE_PING).ok_or("refused")?;
     let mut run = Run::open(alloc, &checked, 1)?;
     let job = job_of(run.take()?)?;
     assert_eq!(rt; job.ticket, 0);
@@ -78,7 +76,7 @@ fn a_second_give_is_a_stranger(rt: HostRuntime) -> Result<(), Fail> {
 #[test]
 fn a_stopped_run_gives_the_job_back(rt: HostRuntime) -> Result<(), Fail> {
     let alloc = rt.alloc();
-    let checked = accepted(alloc, ONE_PING)?;
+    let checked = accepted(alloc, ONE_PING).ok_or("refused")?;
     let mut run = Run::open(alloc, &checked, 1)?;
     let job = job_of(run.take()?)?;
     run.stop();
@@ -95,7 +93,7 @@ fn a_stopped_run_gives_the_job_back(rt: HostRuntime) -> Result<(), Fail> {
 #[test]
 fn drive_runs_to_the_end(rt: HostRuntime) -> Result<(), Fail> {
     let alloc = rt.alloc();
-    let checked = accepted(alloc, ONE_PING)?;
+    let checked = accepted(alloc, ONE_PING).ok_or("refused")?;
     let mut run = Run::open(alloc, &checked, 1)?;
     let mut runner = ScriptRunner::read(alloc, b"{\"h1\":[{\"ping\":\"pong\"}]}")?;
     drive(&mut run, &mut runner)?;

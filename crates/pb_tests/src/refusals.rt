@@ -1,0 +1,113 @@
+// Runs by hand in which an allocation may be refused: the refusal is told by name and changes nothing, and the same call
+// made again is done. tests/refused_checks.py refuses each allocation in turn.
+use crate::runs::{ONE_PING, PONG, accepted, job_of};
+use pb_strategy::answer::{Answer, Job};
+use pb_strategy::event::{Event, GiveError, Taken};
+use pb_strategy::run::Run;
+use pb_value::read::read_json;
+use pb_verify::checked::Checked;
+use std::alloc::Global;
+use std::test::Fail;
+
+/// A command whose result is registered, and a debug of its output.
+const COMMAND_AND_DEBUG: &[u8] =
+    b"[{\"hosts\":\"all\",\"tasks\":[{\"command\":\"x\",\"register\":\"out\"},{\"debug\":{\"msg\":\"{{ out.stdout }}\"}}]}]";
+
+const DONE: &[u8] =
+    b"{\"changed\":true,\"rc\":0,\"stdout\":\"a\",\"stderr\":\"\",\"stdout_lines\":[\"a\"],\"stderr_lines\":[]}";
+
+// Each of these is asked a second time where memory was refused the first time.
+
+fn judged(alloc: Global, book: &[u8]) -> Option<Checked> {
+    accepted(alloc, book).or_else(|| accepted(alloc, book))
+}
+
+fn opened(alloc: Global, checked: &Checked) -> Result<Run, Fail> {
+    match Run::open(alloc, checked, 1) {
+        Ok(run) => Ok(run),
+        Err(_) => Ok(Run::open(alloc, checked, 1)?),
+    }
+}
+
+fn taken(run: &mut Run) -> Result<Taken, Fail> {
+    let events = run.history().len();
+    match run.take() {
+        Ok(taken) => Ok(taken),
+        Err(_) if run.history().len() == events => Ok(run.take()?),
+        Err(_) => Err("a refused take added an event")?,
+    }
+}
+
+fn answers(alloc: Global, answer: &[u8]) -> Option<Vec<Answer>> {
+    one_answer(alloc, answer).or_else(|| one_answer(alloc, answer))
+}
+
+fn one_answer(alloc: Global, answer: &[u8]) -> Option<Vec<Answer>> {
+    let mut answers = Vec::new(alloc);
+    answers
+        .push(Answer::Object(read_json(alloc, answer).ok()?))
+        .ok()?;
+    Some(answers)
+}
+
+fn give(run: &mut Run, job: Job, answers: Vec<Answer>) -> Result<(), Fail> {
+    let events = run.history().len();
+    let ticket = job.ticket;
+    let count = answers.len();
+    match run.give(job, answers) {
+        Ok(_) => Ok(()),
+        Err((GiveError::NoMemory, job, answers))
+            if job.ticket == ticket && answers.len() == count && run.history().len() == events => {
+            match run.give(job, answers) {
+                Ok(_) => Ok(()),
+                Err(_) => Err("the same give is refused again")?,
+            }
+        }
+        Err(_) => Err("a refused give changed something, or was refused for another cause")?,
+    }
+}
+
+#[test]
+fn a_command_and_a_debug(rt: HostRuntime) -> Result<(), Fail> {
+    let alloc = rt.alloc();
+    let checked = judged(alloc, COMMAND_AND_DEBUG).ok_or("refused")?;
+    assert_eq!(rt; checked.budget(), 1);
+    let mut run = opened(alloc, &checked)?;
+    let command = job_of(taken(&mut run)?)?;
+    assert_eq!(rt; command.ticket, 0);
+    assert_eq!(rt; command.calls.len(), 1);
+    give(&mut run, command, answers(alloc, DONE).ok_or("no answer")?)?;
+    let debug = job_of(taken(&mut run)?)?;
+    assert_eq!(rt; debug.ticket, 2);
+    assert_eq!(rt; debug.calls.len(), 0);
+    give(&mut run, debug, Vec::new(alloc))?;
+    assert!(rt; matches!(taken(&mut run)?, Taken::Finished));
+    assert_eq!(rt; run.history().len(), 5);
+    assert_eq!(rt; run.recap(0).ok, 2);
+    assert_eq!(rt; run.recap(0).changed, 1);
+    Ok(())
+}
+
+#[test]
+fn a_refused_give_and_a_stop(rt: HostRuntime) -> Result<(), Fail> {
+    let alloc = rt.alloc();
+    let checked = judged(alloc, ONE_PING).ok_or("refused")?;
+    let mut run = opened(alloc, &checked)?;
+    let job = job_of(taken(&mut run)?)?;
+    assert_eq!(rt; job.ticket, 0);
+    match run.give(job, answers(alloc, PONG).ok_or("no answer")?) {
+        Ok(_) => assert_eq!(rt; run.recap(0).ok, 1),
+        Err((GiveError::NoMemory, job, answers)) => {
+            eprintln!(rt; "give refused")?;
+            assert_eq!(rt; job.ticket, 0);
+            assert_eq!(rt; answers.len(), 1);
+            assert!(rt; matches!(run.history(), [Event::Start(0)]));
+            run.stop();
+            assert!(rt; matches!(run.history(), [Event::Start(0), Event::Stop]));
+            assert!(rt; matches!(run.give(job, answers), Err((GiveError::Stopped, _, _))));
+            assert!(rt; matches!(run.take()?, Taken::Stopped));
+        }
+        Err(_) => Err("refused for another cause")?,
+    }
+    Ok(())
+}

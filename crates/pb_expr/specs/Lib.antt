@@ -1,3 +1,4 @@
 pub mod Place
 pub mod ExprView
 pub mod FitView
+pub mod OwnWorld

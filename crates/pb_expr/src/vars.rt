@@ -1,21 +1,23 @@
 // What the names in an expression hold.
-ghost use Rattle.std.specs.Prelude.{◌≡◌, ℕ, List, Option, option_map};
-ghost use Rattle.pb_semantics.specs.Data.{Data, field_value};
+ghost use Rattle.std.specs.Prelude.{◌≡◌, option_map};
+ghost use Rattle.pb_semantics.specs.Data.{field_value};
+ghost use Rattle.pb_language.specs.World.{World};
 ghost use Rattle.pb_value.specs.View.{view, fields_view};
+ghost use Rattle.pb_expr.specs.OwnWorld.{own_world};
 
 use pb_value::value::{Fields, Value};
 
 /// What the names in an expression hold.
 pub trait Vars {
-    /// The value of each name that has one.
-    ghost holds: { Self → List ℕ → Option Data };
+    /// The world that an expression is evaluated in.
+    ghost world: { Self → World };
 
     fn value(&self, name: &str) -> Option<&Value>
-        ensures { option_map (λ v. view v.now) result ≡ holds self.now name.now };
+        ensures { option_map (λ v. view v.now) result ≡ field_value name.now (world self.now).mine };
 }
 
 impl Vars for Fields {
-    ghost holds = { λ m n. field_value n (fields_view m.entries) };
+    ghost world = { λ m. own_world (fields_view m.entries) };
 
     fn value(&self, name: &str) -> Option<&Value> {
         self.get(name)

@@ -31,3 +31,4 @@ pub mod Unwound
 pub mod Least
 pub mod Short
 pub mod Certain
+pub mod PlainPass

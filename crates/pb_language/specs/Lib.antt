@@ -31,3 +31,4 @@ pub mod Drive
 pub mod Builtins
 pub mod Theorem
 pub mod Simple
+pub mod Plain

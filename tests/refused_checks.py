@@ -1,0 +1,84 @@
+# Each allocation refused in turn, of the program and of the tests that make calls by hand: the answer, or want of memory
+# by name, and nothing else.
+import json
+import os
+import subprocess
+import tempfile
+from pathlib import Path
+
+from check import TIMEOUT, Outcome, write_files
+
+TESTS = Path(__file__).resolve().parent
+REFUSED = b"allocation refused\n"  # what refuse.c says
+MOST = 20_000  # more allocations than any of these makes
+
+OK = {"changed": True, "rc": 0, "stdout": "a", "stderr": "", "stdout_lines": ["a"], "stderr_lines": []}
+TASKS = [{"command": "x", "register": "out"}, {"debug": {"msg": "{{ out.stdout }}"}}]
+FILES = {
+    "book": json.dumps([{"hosts": "all", "tasks": TASKS}]),
+    "inventory": '{"all":{"hosts":["h1"]}}',
+    "answers": json.dumps({"h1": [OK]}),
+}
+CHECK = ["check", "book", "-i", "inventory"]
+RUN = ["run", "book", "-i", "inventory", "--answers", "answers"]
+
+ACCEPTED = Outcome(0, b"accepted budget 1\n", b"")
+RECAP = Outcome(0, b"h1 : ok=2 changed=1 unreachable=0 failed=0 skipped=0 rescued=0 ignored=0\n", b"")
+WANT = Outcome(3, b"", b"playcheck: want of memory\n")
+
+BY_HAND = ["refusals::a_command_and_a_debug", "refusals::a_refused_give_and_a_stop"]
+GIVE_REFUSED = b"give refused\n"  # what the second of these says
+
+
+def build(folder):
+    """The library that refuses an allocation of the program that it is loaded into, by the kit's own compiler."""
+    page = subprocess.run(["rt", "doc"], capture_output=True, text=True, check=True).stdout.strip()
+    clang = Path(page).parent / "toolchain/bin/clang"
+    library = os.path.join(folder, "refuse.so")
+    words = ["--target=x86_64-unknown-linux-gnu", "-shared", "-fPIC", "-nostdlib", "-fuse-ld=lld", "-O2"]
+    subprocess.run([clang, *words, "-o", library, TESTS / "refuse.c"], check=True)
+    return library
+
+
+def outcomes(library, folder, words):
+    """The outcome for each number of a refused allocation, and at the end, with none refused, the last."""
+    for number in range(1, MOST):
+        env = {"LD_PRELOAD": library, "REFUSE": str(number)}
+        done = subprocess.run(words, cwd=folder, env=env, capture_output=True, stdin=subprocess.DEVNULL, timeout=TIMEOUT)
+        yield number, Outcome(done.returncode, done.stdout, done.stderr.replace(REFUSED, b"", 1))
+        if REFUSED not in done.stderr:
+            return
+    raise RuntimeError(f"{words[0]} made more than {MOST} allocations")
+
+
+def program_failures(library, folder, words, answer):
+    """How many refusals were tried, and what is to be said of those that went wrong."""
+    seen = list(outcomes(library, folder, words))
+    said = [f"refused-{number} {words[1]}\n  got: {outcome}" for number, outcome in seen if outcome not in (answer, WANT)]
+    if WANT not in [outcome for _, outcome in seen]:
+        said.append(f"refused {words[1]}\n  never: {WANT}")
+    if seen[-1][1] != answer:
+        said.append(f"refused {words[1]}\n  wanted with none refused: {answer}\n  got: {seen[-1][1]}")
+    return len(seen), said
+
+
+def by_hand_failures(library, folder, tests, name):
+    """The same of a test by hand, which judges its calls itself."""
+    seen = list(outcomes(library, folder, [tests, name]))
+    said = [f"refused-{number} {name}\n  got: {outcome}" for number, outcome in seen if outcome.status != 0]
+    if name == BY_HAND[1] and not any(outcome.stderr == GIVE_REFUSED for _, outcome in seen):
+        said.append(f"refused {name}\n  never: a give that is refused")
+    return len(seen), said
+
+
+def refused_failures(program, tests):
+    """Of all of these."""
+    with tempfile.TemporaryDirectory() as folder:
+        write_files(folder, FILES)
+        library = build(folder)
+        counts = [
+            program_failures(library, folder, [program, *CHECK], ACCEPTED),
+            program_failures(library, folder, [program, *RUN], RECAP),
+            *(by_hand_failures(library, folder, tests, name) for name in BY_HAND),
+        ]
+    return sum(count for count, _ in counts), [text for _, texts in counts for text in texts]

@@ -1,5 +1,5 @@
 -- Tests that teach nothing leave a scope as it is.
-use Rattle.std.proofs.Common.{◌≡◌, Bool, true, false, not, ◌||◌, refl, ◌∙◌, true≢false}
+use Rattle.std.proofs.Common.{◌≡◌, Bool, true, false, not, ◌||◌, refl, true≢false}
 use Rattle.pb_language.specs.Expression.{Expression, negation, conjunction, disjunction, in_batch, defined, path_status, Expressions, no_expressions, expression}
 use Rattle.pb_language.specs.Scope.{Scope}
 use Rattle.pb_language.specs.Narrow.{teaches, any_teaches, narrow, narrow_each}

@@ -34,3 +34,4 @@ pub mod Certain
 pub mod PlainPass
 pub mod Untaught
 pub mod SameOwn
+pub mod PlainFlow

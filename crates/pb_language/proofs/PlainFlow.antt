@@ -1,7 +1,8 @@
 -- A host's way through plain tasks: one visit for each, with environments that no view plays a part in.
 use Rattle.std.proofs.Common.{◌≡◌, ◌≤◌, ◌+◌, ◌++◌, ℕ, suc, List, [], ◌∷◌, Bool, true, false, not, ◌&&◌, ◌||◌, cond, ◌==◌, nat_eq, nat_lt, codes, bytes_eq, Option, Some, None, option_map, refl, sym, ap, subst, ◌∙◌, arith}
 use Rattle.std.proofs.lemmas.Bool.Decides.{nat_tests}
-use Rattle.pb_semantics.specs.Kind.{Slots}
+use Rattle.pb_semantics.specs.Kind.{Slots, recs, no_cases, one, skipped_shape}
+use Rattle.pb_semantics.specs.Join.{append_cases}
 use Rattle.pb_semantics.proofs.Bools.{untrue, and-left, and-right}
 use Rattle.pb_language.specs.Expression.{Name, Expression, Expressions, no_expressions, expression, Parts, no_parts, part}
 use Rattle.pb_language.specs.Expansion.{part_named}
@@ -11,9 +12,10 @@ use Rattle.pb_language.specs.Task.{Action, call_of, debug, set_fact, Task, Row, 
 use Rattle.pb_language.specs.Book.{Work, module_work, debug_work, set_fact_work, assert_work, fail_work, Registry}
 use Rattle.pb_language.specs.Plain.{PlainTask, is_plain_work, is_plain_task, are_plain_tasks, are_lined}
 use Rattle.pb_language.specs.Plays.{argument_or}
-use Rattle.pb_language.specs.Cases.{action_sets, answered_cases, is_conditional, action_name}
+use Rattle.pb_language.specs.Narrow.{cases_with}
+use Rattle.pb_language.specs.Cases.{Sets, no_sets, append_sets, action_sets, answered_cases, is_conditional, action_name, skipped_slots, going_cases}
 use Rattle.pb_language.specs.Setting.{Setting, start_scope, item_scope, action_scope}
-use Rattle.pb_language.specs.Judgement.{Exit, live, action_fault, conditions_fault, task_fault, task_sets, task_writes, going_slots, has_going}
+use Rattle.pb_language.specs.Judgement.{Exit, live, action_fault, conditions_fault, task_fault, task_sets, task_writes, going_slots, has_case}
 use Rattle.pb_language.specs.Walk.{Visit, walk}
 use Rattle.pb_language.proofs.Untaught.{narrow_each_untaught}
 use Rattle.pb_language.proofs.SameOwn.{SameOwn, any_untaught, same_kind, same_fault, same_fields, same_conditions, same_arguments, same_sets}
@@ -74,3 +76,41 @@ module _ (ms : Registry) where
 
       pub same_writes : task_writes plain_setting run env ≡ task_writes (lone_setting h) run env
       same_writes = rw sets_same refl
+
+  -- a plain task can always go on
+  case_left : (q : Bool) (m : Name) (w : Work) → has_case (cases_with (λ sh fl k. not fl) (append_cases (cond q (one m skipped_shape false (recs skipped_slots) no_cases) no_cases) (answered_cases (plain_action ms w)))) ≡ true
+  case_left true m w = refl
+  case_left false m (module_work n ps) = refl
+  case_left false m (debug_work ps) = refl
+  case_left false m (set_fact_work ps) = refl
+  case_left false m (assert_work a ps) = refl
+  case_left false m (fail_work ps) = refl
+
+  goes_on : (p : ℕ) (t : PlainTask) → has_case (going_cases (plain_run ms p t)) ≡ true
+  goes_on p t = case_left (is_conditional t.condition) (action_name (plain_action ms t.work)) t.work
+
+  abbrev pub plain_row : ℕ → List PlainTask → Row → Row
+  plain_row p [] row = row
+  plain_row p (t ∷ ts) row = task (plain_run ms p t) (plain_row (suc p) ts row)
+
+  module _ (h : Name) where
+    -- one visit for each task
+    abbrev pub plain_visits : Setting → ℕ → Slots → List PlainTask → List Visit
+    plain_visits st p env [] = []
+    plain_visits st p env (t ∷ ts) = record { setting = st; visited = plain_run ms p t; env = env } ∷ plain_visits st (suc p) (going_slots (lone_setting h) (plain_run ms p t) env) ts
+
+    -- everything that the tasks write
+    abbrev pub plain_writes : ℕ → Slots → List PlainTask → Sets
+    plain_writes p env [] = no_sets
+    plain_writes p env (t ∷ ts) = append_sets (task_writes (lone_setting h) (plain_run ms p t) env) (plain_writes (suc p) (going_slots (lone_setting h) (plain_run ms p t) env) ts)
+
+    module _ (views : List View) (laters : List Later) where
+      abbrev st : Setting
+      st = plain_setting h views laters
+
+      pub walked_visits : (p : ℕ) (env : Slots) (ts : List PlainTask) (row : Row) → are_plain_tasks ts ≡ true → ((e : Exit) → (walk st row e).visits ≡ []) → (walk st (plain_row p ts row) (live env)).visits ≡ plain_visits st p env ts
+      walked_visits p env [] row a f = f (live env)
+      walked_visits p env (t ∷ ts) row a f =
+          let plain = and-left (is_plain_task t) (are_plain_tasks ts) a in
+          ap (λ vs. record { setting = st; visited = plain_run ms p t; env = env } ∷ vs)
+          (rw (goes_on p t, same_going h views laters p t env plain) (walked_visits (suc p) (going_slots (lone_setting h) (plain_run ms p t) env) ts row (and-right (is_plain_task t) (are_plain_tasks ts) a) f))

@@ -34,4 +34,5 @@ pub mod Certain
 pub mod PlainPass
 pub mod Untaught
 pub mod SameOwn
+pub mod PlainLines
 pub mod PlainFlow

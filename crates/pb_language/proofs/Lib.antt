@@ -36,3 +36,4 @@ pub mod Untaught
 pub mod SameOwn
 pub mod PlainLines
 pub mod PlainFlow
+pub mod PlainViews

@@ -37,3 +37,4 @@ pub mod SameOwn
 pub mod PlainLines
 pub mod PlainFlow
 pub mod PlainViews
+pub mod PlainRows

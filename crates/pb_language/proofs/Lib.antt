@@ -38,3 +38,4 @@ pub mod PlainLines
 pub mod PlainFlow
 pub mod PlainViews
 pub mod PlainRows
+pub mod PlainRules

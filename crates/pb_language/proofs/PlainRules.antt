@@ -1,5 +1,5 @@
 -- On plain books the rules that need no flow come down to parameters and names.
-use Rattle.std.proofs.Common.{◌≡◌, ◌≤◌, ◌+◌, ◌++◌, ℕ, suc, List, [], ◌∷◌, Bool, true, false, not, ◌&&◌, ◌||◌, cond, ◌==◌, nat_le, nat_lt, length, codes, bytes_eq, Option, Some, None, refl, ◌∙◌, arith}
+use Rattle.std.proofs.Common.{◌≡◌, ◌≤◌, ◌+◌, ◌++◌, ℕ, suc, List, [], ◌∷◌, Bool, true, false, not, ◌&&◌, ◌||◌, cond, ◌==◌, nat_le, nat_lt, length, codes, bytes_eq, Option, Some, None, refl, ap, ◌∙◌, arith}
 use Rattle.std.proofs.lemmas.Bool.Decides.{nat_tests}
 use Rattle.std.proofs.lemmas.List.{append-nil}
 use Rattle.pb_semantics.specs.Keeps.{is_among}
@@ -131,3 +131,36 @@ module _ (play : PlayData) where
         parameters = rw line (offence_from (not (is_well_formed ms t.work)) 7 l parameters rest.parameters);
         names = rw line (offence_from (breaks_names [] (task_site t)) 8 l names rest.names);
       }
+
+all_steps : (ts : List PlainTask) → steps_in 0 0 (plain_steps ts) ≡ length ts
+all_steps [] = refl
+all_steps (t ∷ ts) = rw (all_steps ts) (omega arith)
+
+few_steps : (l : ℕ) (ts : List PlainTask) → nat_le (length ts) 4095 ≡ true → too_many_steps 0 (plain_play l ts ∷ []) ≡ None
+few_steps l [] f = refl
+few_steps l (t ∷ ts) f = rw (all_steps ts, within (length ts) f) refl where
+  within : (n : ℕ) → nat_le (suc n) 4095 ≡ true → nat_lt 8192 (0 + (0 + (0 + (1 + n + 0 + 0)))) ≡ false
+  within n f = grind (arith, nat_tests)
+
+rules_together : (o a b c d e f g r : Option Refusal) → o ≡ None → c ≡ None → d ≡ None → e ≡ None → f ≡ None → g ≡ None → earlier a b ≡ r → earlier o (earlier a (earlier b (earlier c (earlier d (earlier e (earlier f g)))))) ≡ r
+rules_together o a b c d e f g r x y z u v w h = rw (x, y, z, u, v, w, earlier_last b) h
+
+-- the play's line and those of its tasks
+play_sites_plain : (l : ℕ) (ts : List PlainTask) → sites_of (plain_play l ts ∷ []) ≡ site (plain_play l ts) no_expressions no_parts l a_play no_parts ∷ plain_sites (plain_play l ts) ts
+play_sites_plain l ts =
+    let play = plain_play l ts in
+    let own = plain_sites play ts in
+    ap (λ ss. site play no_expressions no_parts l a_play no_parts ∷ ss) (append-nil ((own ++ []) ++ []) ∙ append-nil (own ++ []) ∙ append-nil own)
+
+pub plain_rules_offence : (ms : Registry) (h : Name) (l : ℕ) (ts : List PlainTask) → are_plain_tasks ts ≡ true → are_lined (suc l) ts ≡ true → nat_le (length ts) 4095 ≡ true
+    → rules_offence ms (lone_host h) (plain_play l ts ∷ []) ≡ plain_rules ms ts
+plain_rules_offence ms h l ts a i f =
+    let play = plain_play l ts in
+    let v = lone_host h in
+    let ss = plain_sites play ts in
+    let names = ap (λ ns. earlier (first_line 7 (breaks_parameters ms) ss) (first_line 8 (breaks_names ns) ss)) (no_names play ts) ∙ (lines play ms (suc l) ts i).same in
+    ap (λ xs. sites_offence ms v (play ∷ []) xs) (play_sites_plain l ts)
+    ∙ rules_together (too_many_steps 0 (play ∷ [])) (first_line 7 (breaks_parameters ms) ss) (first_line 8 (breaks_names (vars_names ss)) ss) (first_line 10 breaks_chains ss)
+        (first_line 6 (λ s. breaks_known v s s.thing) ss) (first_line 5 breaks_notify ss) (first_line 12 (λ s. breaks_order s s.thing) ss) (first_line 9 breaks_give ss) (plain_rules ms ts)
+        (few_steps l ts f) (no_line play 10 breaks_chains ts a (λ t x. refl)) (no_line play 6 (λ s. breaks_known v s s.thing) ts a (λ t x. known_task play v t x)) (no_line play 5 breaks_notify ts a (λ t x. refl))
+        (no_line play 12 (λ s. breaks_order s s.thing) ts a (λ t x. refl)) (no_line play 9 breaks_give ts a (λ t x. refl)) names

@@ -39,3 +39,4 @@ pub mod PlainFlow
 pub mod PlainViews
 pub mod PlainRows
 pub mod PlainRules
+pub mod PlainJudged

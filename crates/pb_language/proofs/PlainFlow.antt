@@ -1,22 +1,21 @@
 -- A host's way through plain tasks: one visit for each, with environments that no view plays a part in.
-use Rattle.std.proofs.Common.{◌≡◌, ◌≤◌, ◌+◌, ◌++◌, ℕ, suc, List, [], ◌∷◌, Bool, true, false, not, ◌&&◌, ◌||◌, cond, ◌==◌, nat_eq, nat_lt, codes, bytes_eq, Option, Some, None, option_map, refl, sym, ap, subst, ◌∙◌, arith}
-use Rattle.std.proofs.lemmas.Bool.Decides.{nat_tests}
+use Rattle.std.proofs.Common.{◌≡◌, ℕ, suc, List, [], ◌∷◌, Bool, true, false, not, ◌&&◌, cond, ◌==◌, codes, bytes_eq, Some, refl, sym, ap, ◌∙◌}
 use Rattle.pb_semantics.specs.Kind.{Slots, slot_at, recs, no_cases, one, skipped_shape}
 use Rattle.pb_semantics.specs.Join.{append_cases}
 use Rattle.pb_semantics.specs.Below.{below}
 use Rattle.pb_semantics.proofs.Bools.{untrue, and-left, and-right}
-use Rattle.pb_language.specs.Expression.{Name, Expression, Expressions, no_expressions, expression, Parts, no_parts, part}
+use Rattle.pb_language.specs.Expression.{Name, Parts, no_parts, part}
 use Rattle.pb_language.specs.Expansion.{part_named}
 use Rattle.pb_language.specs.Simple.{is_simple, are_simple, parts_simple}
 use Rattle.pb_language.specs.Scope.{Scope, View, Later, spot_kind, with_spot}
-use Rattle.pb_language.specs.Task.{Action, call_of, debug, set_fact, Task, Row, task}
+use Rattle.pb_language.specs.Task.{Task, Row, task}
 use Rattle.pb_language.specs.Book.{Work, module_work, debug_work, set_fact_work, assert_work, fail_work, Registry}
 use Rattle.pb_language.specs.Plain.{PlainTask, is_plain_work, is_plain_task, are_plain_tasks, are_lined}
 use Rattle.pb_language.specs.Plays.{argument_or}
 use Rattle.pb_language.specs.Narrow.{cases_with}
 use Rattle.pb_language.specs.Cases.{Sets, no_sets, sets, append_sets, action_sets, answered_cases, is_conditional, action_name, skipped_slots, going_cases}
-use Rattle.pb_language.specs.Setting.{Setting, start_scope, item_scope, action_scope}
-use Rattle.pb_language.specs.Judgement.{Exit, live, action_fault, conditions_fault, task_fault, task_sets, task_writes, going_slots, has_case}
+use Rattle.pb_language.specs.Setting.{Setting, item_scope, action_scope}
+use Rattle.pb_language.specs.Judgement.{Exit, live, action_fault, task_fault, task_sets, task_writes, going_slots, has_case}
 use Rattle.pb_language.specs.Walk.{Visit, walk}
 use Rattle.pb_language.specs.Tables.{written_spot, with_writes, with_visits, writes_below, visits_below}
 use Rattle.pb_language.specs.Verdict.{visits_offence}

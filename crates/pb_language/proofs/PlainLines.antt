@@ -1,7 +1,6 @@
 -- Of offences at ascending lines the first counts.
-use Rattle.std.proofs.Common.{◌≡◌, ◌≤◌, ℕ, suc, Bool, true, false, ◌&&◌, cond, ◌==◌, nat_lt, Option, Some, None, option_map, refl, arith}
+use Rattle.std.proofs.Common.{◌≡◌, ◌≤◌, ℕ, suc, true, false, ◌==◌, nat_lt, Option, Some, None, option_map, refl, arith}
 use Rattle.std.proofs.lemmas.Bool.Decides.{nat_tests}
-use Rattle.pb_semantics.proofs.Bools.{untrue}
 use Rattle.pb_language.specs.Expression.{Name}
 use Rattle.pb_language.specs.Fit.{Fault}
 use Rattle.pb_language.specs.Verdict.{Refusal, code_of, is_lesser, lesser, earlier}

@@ -1,12 +1,12 @@
 -- The row of a play of plain tasks, and the calls in it.
-use Rattle.std.proofs.Common.{◌≡◌, ◌+◌, ℕ, suc, List, [], ◌∷◌, true, false, ◌&&◌, codes, Option, Some, None, refl, arith}
+use Rattle.std.proofs.Common.{◌≡◌, ◌+◌, ℕ, suc, List, [], ◌∷◌, true, false, codes, Option, None, refl, arith}
 use Rattle.pb_semantics.proofs.Bools.{untrue, and-left, and-right}
 use Rattle.pb_language.specs.Expression.{Name, equal, Expression, literal, path, negation, conjunction, disjunction, comparison, membership, list_of, record_of, variable, Expressions, no_expressions, expression, Parts, no_parts, part}
 use Rattle.pb_language.specs.Expansion.{expanded, all_expanded, parts_expanded, part_named, trees}
 use Rattle.pb_language.specs.Simple.{is_simple, are_simple, parts_simple}
-use Rattle.pb_language.specs.Task.{Action, Handlers, no_handlers, Row, end, flush}
+use Rattle.pb_language.specs.Task.{Handlers, no_handlers, Row, end, flush}
 use Rattle.pb_language.specs.Book.{Work, module_work, debug_work, set_fact_work, assert_work, fail_work, Registry}
-use Rattle.pb_language.specs.Plays.{Surroundings, argument_or, action_of, task_with, task_at, row_of, play_row}
+use Rattle.pb_language.specs.Plays.{Surroundings, argument_or, action_of, task_at, row_of, play_row}
 use Rattle.pb_language.specs.Plain.{PlainTask, task_data, plain_steps, plain_play, is_plain_work, is_plain_task, are_plain_tasks}
 use Rattle.pb_language.specs.Setting.{Setting}
 use Rattle.pb_language.specs.Judgement.{Exit}

@@ -1,5 +1,5 @@
 -- On plain books the rules that need no flow come down to parameters and names.
-use Rattle.std.proofs.Common.{◌≡◌, ◌≤◌, ◌+◌, ◌++◌, ℕ, suc, List, [], ◌∷◌, Bool, true, false, not, ◌&&◌, ◌||◌, cond, ◌==◌, nat_le, nat_lt, length, codes, bytes_eq, Option, Some, None, refl, ap, ◌∙◌, arith}
+use Rattle.std.proofs.Common.{◌≡◌, ◌+◌, ◌++◌, ℕ, suc, List, [], ◌∷◌, Bool, true, false, not, ◌||◌, cond, ◌==◌, nat_le, nat_lt, length, codes, bytes_eq, Option, Some, None, refl, ap, ◌∙◌, arith}
 use Rattle.std.proofs.lemmas.Bool.Decides.{nat_tests}
 use Rattle.std.proofs.lemmas.List.{append-nil}
 use Rattle.pb_semantics.specs.Keeps.{is_among}
@@ -10,7 +10,7 @@ use Rattle.pb_language.specs.Simple.{shared_names, is_simple, are_simple, parts_
 use Rattle.pb_language.specs.Book.{Work, module_work, debug_work, set_fact_work, PlayData, Registry}
 use Rattle.pb_language.specs.Program.{Inventory}
 use Rattle.pb_language.specs.Plays.{append_expressions}
-use Rattle.pb_language.specs.Sites.{Site, a_play, a_task, site, sites_in, sites_of, steps_in, steps_of}
+use Rattle.pb_language.specs.Sites.{Site, a_play, a_task, site, sites_in, sites_of, steps_in}
 use Rattle.pb_language.specs.Plain.{PlainTask, task_data, plain_steps, plain_play, lone_host, is_plain_work, is_plain_task, are_plain_tasks, are_lined}
 use Rattle.pb_language.specs.Rules.{is_well_formed, breaks_parameters, reserved_names, written_names, any_among, vars_names, breaks_names, breaks_chains, names_known, all_names_known, parts_names_known, expanded_known, part_expressions, work_expressions, breaks_known, breaks_notify, breaks_order, breaks_give, first_line, too_many_steps, sites_offence, rules_offence}
 use Rattle.pb_language.specs.Verdict.{Refusal, earlier}
@@ -161,6 +161,6 @@ plain_rules_offence ms h l ts a i f =
     let names = ap (λ ns. earlier (first_line 7 (breaks_parameters ms) ss) (first_line 8 (breaks_names ns) ss)) (no_names play ts) ∙ (lines play ms (suc l) ts i).same in
     ap (λ xs. sites_offence ms v (play ∷ []) xs) (play_sites_plain l ts)
     ∙ rules_together (too_many_steps 0 (play ∷ [])) (first_line 7 (breaks_parameters ms) ss) (first_line 8 (breaks_names (vars_names ss)) ss) (first_line 10 breaks_chains ss)
-        (first_line 6 (λ s. breaks_known v s s.thing) ss) (first_line 5 breaks_notify ss) (first_line 12 (λ s. breaks_order s s.thing) ss) (first_line 9 breaks_give ss) (plain_rules ms ts)
-        (few_steps l ts f) (no_line play 10 breaks_chains ts a (λ t x. refl)) (no_line play 6 (λ s. breaks_known v s s.thing) ts a (λ t x. known_task play v t x)) (no_line play 5 breaks_notify ts a (λ t x. refl))
-        (no_line play 12 (λ s. breaks_order s s.thing) ts a (λ t x. refl)) (no_line play 9 breaks_give ts a (λ t x. refl)) names
+    (first_line 6 (λ s. breaks_known v s s.thing) ss) (first_line 5 breaks_notify ss) (first_line 12 (λ s. breaks_order s s.thing) ss) (first_line 9 breaks_give ss) (plain_rules ms ts)
+    (few_steps l ts f) (no_line play 10 breaks_chains ts a (λ t x. refl)) (no_line play 6 (λ s. breaks_known v s s.thing) ts a (λ t x. known_task play v t x)) (no_line play 5 breaks_notify ts a (λ t x. refl))
+    (no_line play 12 (λ s. breaks_order s s.thing) ts a (λ t x. refl)) (no_line play 9 breaks_give ts a (λ t x. refl)) names

@@ -1,5 +1,5 @@
 -- The kinds of a way of plain tasks are settled: each write is below the view that it was joined to.
-use Rattle.std.proofs.Common.{◌≡◌, ◌&&◌, ℕ, suc, List, [], ◌∷◌, Bool, true, false, cond, bytes_eq, refl, sym, ap, ◌∙◌}
+use Rattle.std.proofs.Common.{◌≡◌, ℕ, suc, List, [], ◌∷◌, Bool, true, false, cond, bytes_eq, refl}
 use Rattle.pb_semantics.specs.Kind.{KindData, Slots, Spot, recs, nowhere, spot, slot_at}
 use Rattle.pb_semantics.specs.Below.{below}
 use Rattle.pb_semantics.specs.Join.{join}

@@ -32,3 +32,11 @@ pub mod Least
 pub mod Short
 pub mod Certain
 pub mod PlainPass
+pub mod Untaught
+pub mod SameOwn
+pub mod PlainLines
+pub mod PlainFlow
+pub mod PlainViews
+pub mod PlainRows
+pub mod PlainRules
+pub mod PlainJudged

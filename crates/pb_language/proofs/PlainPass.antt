@@ -1,11 +1,11 @@
 -- The verdict on a book of plain tasks as one pass over them.
-use Rattle.std.specs.Prelude.{ℕ, suc, ◌+◌, List, [], ◌∷◌, Bool, true, false, not, cond, Option, Some, None, codes}
+use Rattle.std.specs.Prelude.{ℕ, suc, ◌+◌, List, [], ◌∷◌, false, cond, Option, Some, None, codes}
 use Rattle.pb_semantics.specs.Kind.{Slots, no_slots}
 use Rattle.pb_language.specs.Expression.{Name}
 use Rattle.pb_language.specs.Expansion.{part_named}
 use Rattle.pb_language.specs.Task.{Action, call_of, debug, set_fact, Task}
 use Rattle.pb_language.specs.Book.{Work, module_work, debug_work, set_fact_work, assert_work, fail_work, Registry}
-use Rattle.pb_language.specs.Plays.{action_of, argument_or, module_named}
+use Rattle.pb_language.specs.Plays.{argument_or, module_named}
 use Rattle.pb_language.specs.Plain.{PlainTask, task_data, lone_host}
 use Rattle.pb_language.specs.Setting.{Setting}
 use Rattle.pb_language.specs.Fit.{Fault}

@@ -1,7 +1,13 @@
--- What a caller sees of a book.
-use Rattle.std.specs.Prelude.{List}
+-- What a caller sees of a book, and what the book stands for.
+use Rattle.std.specs.Prelude.{List, map}
+use Rattle.pb_language.specs.Book as language
+use Rattle.pb_language.specs.Plain.{plain_play}
+use Rattle.pb_book.specs.Meaning.{plain_tasks}
 use Rattle.pb_book.specs.declared.book.Book.{Book}
 use Rattle.pb_book.specs.declared.book.Play.{Play}
 
 abbrev pub plays_of : Book → List Play
 plays_of b = b.plays.items
+
+abbrev pub book_of : Book → language.Book
+book_of b = map (λ p. plain_play p.line (plain_tasks p.tasks.items)) (plays_of b)

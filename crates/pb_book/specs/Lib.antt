@@ -1,3 +1,4 @@
 pub mod Lines
+pub mod Meaning
 pub mod Books
 pub mod Faults

@@ -1,4 +1,9 @@
 // The arguments of a task.
+ghost use Rattle.std.specs.Prelude.{◌≡◌, IfOk, true};
+ghost use Rattle.pb_language.specs.Simple.{is_simple, are_simple, parts_simple};
+ghost use Rattle.pb_expr.specs.ExprView.{expr_view, exprs_view, parts_view};
+ghost use Rattle.pb_book.specs.Meaning.{argument_parts};
+
 use crate::book::Argument;
 use crate::fault::FormFault;
 use pb_expr::expr::Expr;
@@ -21,7 +26,9 @@ const BRACES: usize = 4;
 const MOST_LEVELS: usize = 32;
 
 /// The arguments that a record lists, in the order of their names' bytes.
-pub(crate) fn arguments_of(alloc: Global, fields: &Fields) -> Result<Vec<Argument>, FormFault> {
+pub(crate) fn arguments_of(alloc: Global, fields: &Fields) -> Result<Vec<Argument>, FormFault>
+    ensures { IfOk result (λ found. parts_simple (argument_parts found.items) ≡ true) }
+{
     let mut arguments = Vec::with_capacity(alloc, fields.len())?;
     for (name, value) in fields.iter() {
         arguments.push(Argument {
@@ -33,7 +40,9 @@ pub(crate) fn arguments_of(alloc: Global, fields: &Fields) -> Result<Vec<Argumen
 }
 
 /// The argument `cmd` with that value.
-pub(crate) fn command_line(alloc: Global, value: &Value) -> Result<Vec<Argument>, FormFault> {
+pub(crate) fn command_line(alloc: Global, value: &Value) -> Result<Vec<Argument>, FormFault>
+    ensures { IfOk result (λ found. parts_simple (argument_parts found.items) ≡ true) }
+{
     let argument = Argument {
         name: Arc::new(alloc, String::from_str(alloc, "cmd")?)?,
         value: argument_value(alloc, value)?,
@@ -42,7 +51,9 @@ pub(crate) fn command_line(alloc: Global, value: &Value) -> Result<Vec<Argument>
 }
 
 /// The expression that an argument's value is: the value itself where no text in it is a template.
-fn argument_value(alloc: Global, value: &Value) -> Result<Expr, FormFault> {
+fn argument_value(alloc: Global, value: &Value) -> Result<Expr, FormFault>
+    ensures { IfOk result (λ e. is_simple (expr_view e) ≡ true) }
+{
     if !fits(value, MOST_LEVELS) {
         return Err(FormFault::NotBuilt);
     }
@@ -135,7 +146,9 @@ fn some_field_holds(fields: &Fields) -> bool {
 }
 
 #[cycle(expr_of)]
-fn expr_of(alloc: Global, value: &Value) -> Result<Expr, FormFault> {
+fn expr_of(alloc: Global, value: &Value) -> Result<Expr, FormFault>
+    ensures { IfOk result (λ e. is_simple (expr_view e) ≡ true) }
+{
     if !holds_template(value) {
         return Ok(Expr::Literal(value.clone()?));
     }
@@ -148,7 +161,9 @@ fn expr_of(alloc: Global, value: &Value) -> Result<Expr, FormFault> {
 }
 
 #[cycle(expr_of)]
-fn list_of(alloc: Global, items: &Vec<Value>) -> Result<Vec<Expr>, FormFault> {
+fn list_of(alloc: Global, items: &Vec<Value>) -> Result<Vec<Expr>, FormFault>
+    ensures { IfOk result (λ parts. are_simple (exprs_view parts.items) ≡ true) }
+{
     let mut parts = Vec::with_capacity(alloc, items.len())?;
     for item in items {
         parts.push(expr_of(alloc, item)?)?;
@@ -157,7 +172,9 @@ fn list_of(alloc: Global, items: &Vec<Value>) -> Result<Vec<Expr>, FormFault> {
 }
 
 #[cycle(expr_of)]
-fn record_of(alloc: Global, fields: &Fields) -> Result<BTreeMap<String, Expr>, FormFault> {
+fn record_of(alloc: Global, fields: &Fields) -> Result<BTreeMap<String, Expr>, FormFault>
+    ensures { IfOk result (λ parts. parts_simple (parts_view parts.entries) ≡ true) }
+{
     let mut parts = BTreeMap::new(alloc);
     for (name, value) in fields.iter() {
         let name = name.clone()?;

@@ -1,7 +1,10 @@
 // The tasks of a play.
 ghost use Rattle.std.specs.Prelude.{◌≡◌, ◌≤◌, IfOk, length, true};
 ghost use Rattle.pb_sig.specs.Modules.{modules_of};
+ghost use Rattle.pb_language.specs.Plain.{are_plain_tasks, is_plain_task};
+ghost use Rattle.pb_language.specs.Simple.{are_simple, parts_simple};
 ghost use Rattle.pb_book.specs.Lines.{are_from, are_known, is_known};
+ghost use Rattle.pb_book.specs.Meaning.{argument_parts, condition_view, plain_task, plain_tasks};
 
 use crate::argument::{MOST_EXPRESSION_BYTES, MOST_TEXT_BYTES, arguments_of, command_line};
 use crate::book::{Argument, Task, Work};
@@ -31,6 +34,7 @@ pub(crate) fn tasks_of(
     ensures lines { IfOk result (λ ts. are_from 2 ts.items ≡ true) }
     ensures few { IfOk result (λ ts. length ts.items ≤ 4095) }
     ensures known { IfOk result (λ ts. are_known (modules_of registry.now) ts.items ≡ true) }
+    ensures plain { IfOk result (λ ts. are_plain_tasks (plain_tasks ts.items) ≡ true) }
 {
     if items.len() > MOST_TASKS {
         return Err(FormFault::NotBuilt);
@@ -48,6 +52,7 @@ pub(crate) fn tasks_of(
 fn task_of(alloc: Global, value: Value, line: u32, registry: &Registry) -> Result<Task, FormFault>
     ensures line { IfOk result (λ t. t.line ≡ line) }
     ensures known { IfOk result (λ t. is_known (modules_of registry.now) t.work ≡ true) }
+    ensures plain { IfOk result (λ t. is_plain_task (plain_task t) ≡ true) }
 {
     let Value::Rec(fields) = value else {
         return Err(FormFault::NotBuilt);
@@ -111,7 +116,9 @@ fn work_of(key: &str, registry: &Registry) -> Result<Work, FormFault>
 }
 
 /// The arguments that stand at the key of a module or an action.
-fn given_arguments(alloc: Global, key: &str, given: &Value) -> Result<Vec<Argument>, FormFault> {
+fn given_arguments(alloc: Global, key: &str, given: &Value) -> Result<Vec<Argument>, FormFault>
+    ensures { IfOk result (λ found. parts_simple (argument_parts found.items) ≡ true) }
+{
     match given {
         Value::Null => Ok(Vec::new(alloc)),
         Value::Rec(fields) => arguments_of(alloc, fields),
@@ -121,7 +128,9 @@ fn given_arguments(alloc: Global, key: &str, given: &Value) -> Result<Vec<Argume
 }
 
 /// The condition of a task: a text that is an expression, or a truth value.
-fn condition_of(alloc: Global, fields: &Fields) -> Result<Option<Expr>, FormFault> {
+fn condition_of(alloc: Global, fields: &Fields) -> Result<Option<Expr>, FormFault>
+    ensures { IfOk result (λ when. are_simple (condition_view when) ≡ true) }
+{
     match fields.get("when") {
         None => Ok(None),
         Some(Value::Bool(holds)) => Ok(Some(Expr::Literal(Value::Bool(*holds)))),

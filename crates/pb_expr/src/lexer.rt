@@ -1,5 +1,5 @@
 // The tokens of an expression's text.
-ghost use Rattle.std.specs.Prelude.{◌≡◌, ◌+◌, ◌<◌, ◌≤◌, length, IfOk, IfErr, IfSome};
+ghost use Rattle.std.specs.Prelude.{◌≡◌, ◌+◌, ◌<◌, ◌≤◌, length, slice_range, string_bytes, IfOk, IfErr, IfSome};
 ghost use Rattle.pb_expr.specs.Place.{place_of, least_width};
 
 use crate::fault::ExprFault;
@@ -76,6 +76,7 @@ pub fn token_at(text: &[u8], from: usize) -> Result<Token, ExprFault>
 pub fn name_of(alloc: Global, text: &[u8], token: Token) -> Result<String, ExprFault>
     requires ordered { token.start ≤ token.end }
     requires within { token.end ≤ length text.now }
+    ensures named { IfOk result (λ n. string_bytes n ≡ slice_range text.now token.start token.end) }
     ensures place { IfErr result (λ e. place_of e ≤ length text.now) }
 {
     match str::from_utf8(&text[token.start..token.end]) {

@@ -1,5 +1,8 @@
 // Expressions and templates, read from their texts.
-ghost use Rattle.std.specs.Prelude.{vec_len, ◌≡◌, ◌+◌, ◌<◌, ◌≤◌, length, IfOk, IfErr, IfSome};
+ghost use Rattle.std.specs.Prelude.{vec_len, ◌≡◌, ◌+◌, ◌<◌, ◌≤◌, length, true, IfOk, IfErr, IfSome};
+ghost use Rattle.pb_semantics.specs.Keeps.{is_among};
+ghost use Rattle.pb_language.specs.Simple.{is_simple, shared_names};
+ghost use Rattle.pb_expr.specs.ExprView.{expr_view};
 ghost use Rattle.pb_expr.specs.Place.{place_of, least_width};
 
 use crate::expr::{Expr, Path};
@@ -17,6 +20,7 @@ pub const STEPS: usize = 16;
 /// Reads an expression.
 pub fn parse_expr(alloc: Global, text: &str) -> Result<Expr, ExprFault>
     ensures place { IfErr result (λ e. place_of e ≤ length text.now) }
+    ensures simple { IfOk result (λ e. is_simple (expr_view e) ≡ true) }
 {
     expr_from(alloc, text.as_bytes(), 0)
 }
@@ -25,6 +29,7 @@ pub fn parse_expr(alloc: Global, text: &str) -> Result<Expr, ExprFault>
 /// first byte to its last is the expression `e`.
 pub fn parse_template(alloc: Global, text: &str) -> Result<Expr, ExprFault>
     ensures place { IfErr result (λ e. place_of e ≤ length text.now) }
+    ensures simple { IfOk result (λ e. is_simple (expr_view e) ≡ true) }
 {
     let bytes = text.as_bytes();
     let Some(at) = opening_of(bytes) else {
@@ -87,6 +92,7 @@ fn closing_of(text: &[u8], from: usize) -> Option<usize>
 fn expr_from(alloc: Global, text: &[u8], from: usize) -> Result<Expr, ExprFault>
     requires { from ≤ length text.now }
     ensures place { IfErr result (λ e. place_of e ≤ length text.now) }
+    ensures simple { IfOk result (λ e. is_simple (expr_view e) ≡ true) }
 {
     let (expr, after) = or_at(alloc, text, token_at(text, from)?, DEPTH)?;
     if after.sort != Sort::End {
@@ -105,6 +111,7 @@ fn or_at(alloc: Global, text: &[u8], token: Token, depth: usize) -> Result<(Expr
     ensures ends { IfOk result (λ r. r.1.end ≤ length text.now) }
     ensures wide { IfOk result (λ r. r.1.start + least_width r.1.sort ≤ r.1.end) }
     ensures place { IfErr result (λ e. place_of e ≤ length text.now) }
+    ensures simple { IfOk result (λ r. is_simple (expr_view r.0) ≡ true) }
 {
     let (first, mut after) = and_at(alloc, text, token, depth)?;
     if after.sort != Sort::Or {
@@ -135,6 +142,7 @@ fn and_at(
     ensures ends { IfOk result (λ r. r.1.end ≤ length text.now) }
     ensures wide { IfOk result (λ r. r.1.start + least_width r.1.sort ≤ r.1.end) }
     ensures place { IfErr result (λ e. place_of e ≤ length text.now) }
+    ensures simple { IfOk result (λ r. is_simple (expr_view r.0) ≡ true) }
 {
     let (first, mut after) = not_at(alloc, text, token, depth)?;
     if after.sort != Sort::And {
@@ -165,6 +173,7 @@ fn not_at(
     ensures ends { IfOk result (λ r. r.1.end ≤ length text.now) }
     ensures wide { IfOk result (λ r. r.1.start + least_width r.1.sort ≤ r.1.end) }
     ensures place { IfErr result (λ e. place_of e ≤ length text.now) }
+    ensures simple { IfOk result (λ r. is_simple (expr_view r.0) ≡ true) }
 {
     if token.sort != Sort::Not {
         return relation_at(alloc, text, token, depth);
@@ -191,6 +200,7 @@ fn relation_at(
     ensures ends { IfOk result (λ r. r.1.end ≤ length text.now) }
     ensures wide { IfOk result (λ r. r.1.start + least_width r.1.sort ≤ r.1.end) }
     ensures place { IfErr result (λ e. place_of e ≤ length text.now) }
+    ensures simple { IfOk result (λ r. is_simple (expr_view r.0) ≡ true) }
 {
     let (left, sign) = operand_at(alloc, text, token, depth)?;
     match sign.sort {
@@ -212,7 +222,11 @@ fn relation_at(
     }
 }
 
-fn related(alloc: Global, sort: Sort, left: Expr, right: Expr) -> Result<Expr, AllocError> {
+fn related(alloc: Global, sort: Sort, left: Expr, right: Expr) -> Result<Expr, AllocError>
+    requires left { is_simple (expr_view left) ≡ true }
+    requires right { is_simple (expr_view right) ≡ true }
+    ensures { IfOk result (λ e. is_simple (expr_view e) ≡ true) }
+{
     let left = Box::new(alloc, left)?;
     let right = Box::new(alloc, right)?;
     match sort {
@@ -237,6 +251,7 @@ fn operand_at(
     ensures ends { IfOk result (λ r. r.1.end ≤ length text.now) }
     ensures wide { IfOk result (λ r. r.1.start + least_width r.1.sort ≤ r.1.end) }
     ensures place { IfErr result (λ e. place_of e ≤ length text.now) }
+    ensures simple { IfOk result (λ r. is_simple (expr_view r.0) ≡ true) }
 {
     let (operand, after) = match token.sort {
         Sort::Open => inside(alloc, text, token, depth)?,
@@ -267,6 +282,7 @@ fn inside(
     ensures ends { IfOk result (λ r. r.1.end ≤ length text.now) }
     ensures wide { IfOk result (λ r. r.1.start + least_width r.1.sort ≤ r.1.end) }
     ensures place { IfErr result (λ e. place_of e ≤ length text.now) }
+    ensures simple { IfOk result (λ r. is_simple (expr_view r.0) ≡ true) }
 {
     if depth == 0 {
         return Err(ExprFault::TooDeep);
@@ -303,6 +319,7 @@ fn path_at(alloc: Global, text: &[u8], token: Token) -> Result<(Expr, Token), Ex
     ensures ends { IfOk result (λ r. r.1.end ≤ length text.now) }
     ensures wide { IfOk result (λ r. r.1.start + least_width r.1.sort ≤ r.1.end) }
     ensures place { IfErr result (λ e. place_of e ≤ length text.now) }
+    ensures simple { IfOk result (λ r. is_simple (expr_view r.0) ≡ true) }
 {
     if is_special(&text[token.start..token.end]) {
         return Err(ExprFault::NotBuilt);
@@ -316,11 +333,12 @@ fn path_at(alloc: Global, text: &[u8], token: Token) -> Result<(Expr, Token), Ex
 }
 
 // A root whose paths have forms of their own.
-fn is_special(root: &[u8]) -> bool {
-    match root {
-        b"groups" | b"hostvars" | b"ansible_play_batch" => true,
-        _ => false,
-    }
+fn is_special(root: &[u8]) -> bool
+    ensures { result ≡ is_among root.now shared_names }
+{
+    root == b"groups".as_slice()
+        || root == b"hostvars".as_slice()
+        || root == b"ansible_play_batch".as_slice()
 }
 
 // The steps from the token on, and the token after them.

@@ -2,9 +2,12 @@ use Rattle.std.proofs.Common.{◌≡◌, ◌+◌, ◌++◌, ◌∷◌, [], ◌�
 use Rattle.std.proofs.lemmas.List.{length-append}
 use Rattle.std.specs.Vec.Iter.{into_iter_len}
 use Rattle.pb_sig.specs.Modules.{modules_of}
+use Rattle.pb_language.specs.Plain.{are_plain_tasks}
 use Rattle.pb_book.specs.Lines.{are_from, are_known}
+use Rattle.pb_book.specs.Meaning.{plain_tasks}
 use Rattle.pb_book.specs.declared.book.Task.{Task}
 use Rattle.pb_book.proofs.Lines.{are_from-push, are_known-push}
+use Rattle.pb_book.proofs.Plain.{are_plain-push}
 use Rattle.pb_book.proofs.task.tasks_of.Goals as goal
 
 pub loop-item-preserved : goal.loop-item-preserved
@@ -21,4 +24,5 @@ loop-item-preserved c =
       line = omega (arith, longer);
       numbered = ap (are_from 2) pushed ∙ are_from-push 2 ts t l.invariant.numbered (c.in_ok-task_of.ensures.line ∙ l.invariant.line);
       known = ap (are_known ms) pushed ∙ are_known-push ms ts t l.invariant.known c.in_ok-task_of.ensures.known;
+      plain = ap (λ (xs : List Task). are_plain_tasks (plain_tasks xs)) pushed ∙ are_plain-push ts t l.invariant.plain c.in_ok-task_of.ensures.plain;
     }

@@ -1,5 +1,7 @@
 use Rattle.pb_expr.specs.Place.{least_width}
-use Rattle.std.proofs.Common.{length, ◌-◌, ◌+◌, ◌*◌, ◌<◌, ◌≤◌}
+use Rattle.pb_expr.specs.ExprView.{exprs_view}
+use Rattle.pb_language.specs.Simple.{are_simple}
+use Rattle.std.proofs.Common.{◌≡◌, true, length, ◌-◌, ◌+◌, ◌*◌, ◌<◌, ◌≤◌}
 use Rattle.pb_expr.proofs.parse.+parser.Given as goal
 
 abbrev pub decreases-inside : goal.decreases-inside
@@ -21,13 +23,13 @@ abbrev pub decreases-or_at : goal.decreases-or_at
 decreases-or_at l = 8 * l.depth + 6
 
 abbrev pub invariant-and_at-operands : goal.invariant-and_at-operands
-invariant-and_at-operands l = record { begins : l.fn.token.start < l.after.start; ends : l.after.end ≤ length l.text; wide : l.after.start + least_width l.after.sort ≤ l.after.end }
+invariant-and_at-operands l = record { simple : are_simple (exprs_view l.operands.items) ≡ true; begins : l.fn.token.start < l.after.start; ends : l.after.end ≤ length l.text; wide : l.after.start + least_width l.after.sort ≤ l.after.end }
 
 abbrev pub decreases-and_at-operands : goal.decreases-and_at-operands
 decreases-and_at-operands l = length l.text - l.after.start
 
 abbrev pub invariant-or_at-operands : goal.invariant-or_at-operands
-invariant-or_at-operands l = record { begins : l.fn.token.start < l.after.start; ends : l.after.end ≤ length l.text; wide : l.after.start + least_width l.after.sort ≤ l.after.end }
+invariant-or_at-operands l = record { simple : are_simple (exprs_view l.operands.items) ≡ true; begins : l.fn.token.start < l.after.start; ends : l.after.end ≤ length l.text; wide : l.after.start + least_width l.after.sort ≤ l.after.end }
 
 abbrev pub decreases-or_at-operands : goal.decreases-or_at-operands
 decreases-or_at-operands l = length l.text - l.after.start

@@ -1,0 +1,7 @@
+use Rattle.std.proofs.Common.{◌≡◌, true}
+use Rattle.pb_language.specs.Simple.{parts_simple}
+use Rattle.pb_book.specs.Meaning.{argument_parts}
+use Rattle.pb_book.proofs.argument.arguments_of.Given as goal
+
+abbrev pub invariant-loop-name : goal.invariant-loop-name
+invariant-loop-name l = parts_simple (argument_parts l.arguments.items) ≡ true

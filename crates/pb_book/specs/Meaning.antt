@@ -1,0 +1,43 @@
+-- What a task and its arguments stand for, and which plays are plain.
+use Rattle.std.specs.Prelude.{List, [], ◌∷◌, map, Option, Some, None, option_map, string_bytes, Bool, true, ◌&&◌}
+use Rattle.pb_language.specs.Expression.{Expressions, no_expressions, expression, Parts, no_parts, part}
+use Rattle.pb_language.specs.Book as language
+use Rattle.pb_language.specs.Book.{module_work, debug_work, set_fact_work}
+use Rattle.pb_language.specs.Plain.{PlainTask, are_plain_tasks}
+use Rattle.pb_expr.specs.ExprView.{expr_view}
+use Rattle.pb_expr.specs.declared.expr.Expr.{Expr}
+use Rattle.pb_book.specs.declared.book.Argument.{Argument}
+use Rattle.pb_book.specs.declared.book.Work.{Work}
+use Rattle.pb_book.specs.declared.book.Work.TheVariants.{Module, Debug, SetFact}
+use Rattle.pb_book.specs.declared.book.Task.{Task}
+use Rattle.pb_book.specs.declared.book.Play.{Play}
+
+abbrev pub argument_parts : List Argument → Parts
+argument_parts [] = no_parts
+argument_parts (a ∷ more) = part (string_bytes a.name.value) (expr_view a.value) (argument_parts more)
+
+abbrev pub work_of : Work → Parts → language.Work
+work_of (Module n) ps = module_work (string_bytes n.value) ps
+work_of Debug ps = debug_work ps
+work_of SetFact ps = set_fact_work ps
+
+-- the conditions of a task that has at most one
+abbrev pub condition_view : Option Expr → Expressions
+condition_view None = no_expressions
+condition_view (Some e) = expression (expr_view e) no_expressions
+
+abbrev pub plain_task : Task → PlainTask
+plain_task t = record {
+  line = t.line;
+  work = work_of t.work (argument_parts t.arguments.items);
+  condition = condition_view t.when;
+  register = option_map (λ n. string_bytes n.value) t.register;
+}
+
+abbrev pub plain_tasks : List Task → List PlainTask
+plain_tasks ts = map plain_task ts
+
+-- each expression of the plays is simple
+abbrev pub are_plain_plays : List Play → Bool
+are_plain_plays [] = true
+are_plain_plays (p ∷ ps) = are_plain_tasks (plain_tasks p.tasks.items) && are_plain_plays ps

@@ -1,3 +1,4 @@
 pub mod Found
 pub mod Copies
 pub mod Ended
+pub mod ResultKinds

@@ -1,14 +1,9 @@
--- What modules mean, and which one a name finds.
-use Rattle.std.specs.Prelude.{ℕ, List, [], ◌∷◌, Option, Some, None, cond, map, string_bytes}
+-- The modules of a run, and which one a name finds.
+use Rattle.std.specs.Prelude.{ℕ, List, [], ◌∷◌, Option, Some, None, cond, map}
 use Rattle.std.specs.Str.{bytes_eq}
-use Rattle.pb_value.specs.KindView.{kind_view}
 use Rattle.pb_semantics.specs.Signature.{ModuleData}
-use Rattle.pb_sig.specs.Views.{parameter_view}
-use Rattle.pb_sig.specs.declared.builtin.Builtin.{Builtin}
+use Rattle.pb_sig.specs.ModuleView.{builtin_view}
 use Rattle.pb_sig.specs.declared.registry.Registry.{Registry}
-
-abbrev pub builtin_view : Builtin → ModuleData
-builtin_view m = record { name = string_bytes m.name.value; params = map parameter_view m.parameters.items; ok = kind_view m.ok; failure = kind_view m.failure }
 
 abbrev pub modules_of : Registry → List ModuleData
 modules_of r = map builtin_view r.modules.items

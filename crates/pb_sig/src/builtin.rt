@@ -21,7 +21,7 @@ pub struct Builtin {
 }
 
 impl Module for Builtin {
-    ghost use Rattle.pb_sig.specs.Modules.{builtin_view};
+    ghost use Rattle.pb_sig.specs.ModuleView.{builtin_view};
 
     ghost meaning = { builtin_view };
 
@@ -43,7 +43,7 @@ impl Module for Builtin {
 }
 
 impl Builtin {
-    ghost use Rattle.pb_sig.specs.Modules.{builtin_view};
+    ghost use Rattle.pb_sig.specs.ModuleView.{builtin_view};
     ghost use Rattle.pb_sig.specs.Table.{ping, command};
 
     /// The name, in a block that its copies share.

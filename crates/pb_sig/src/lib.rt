@@ -4,5 +4,6 @@
 pub mod admission;
 pub mod builtin;
 pub mod registry;
+pub mod results;
 pub mod rows;
 pub mod signature;

@@ -1,7 +1,6 @@
 // The modules of a run, found by their names.
-ghost use Rattle.std.specs.Prelude.{◌≡◌, IfOk, option_map};
-ghost use Rattle.pb_sig.specs.Modules.{builtin_view, modules_of, module_at};
-ghost use Rattle.pb_sig.specs.Table.{builtins};
+ghost use Rattle.std.specs.Prelude.{◌≡◌, IfOk, map, option_map, true};
+ghost use Rattle.pb_sig.specs.ModuleView.{builtin_view, are_plain_modules};
 
 use crate::builtin::Builtin;
 use crate::signature::Module;
@@ -11,15 +10,27 @@ use std::alloc::{AllocError, Global};
 #[derive(Drop)]
 pub struct Registry {
     modules: Vec<Builtin>,
+    ghost plain: { are_plain_modules (map builtin_view modules.items) ≡ true },
 }
 
 impl Registry {
+    ghost use Rattle.pb_sig.specs.Modules.{modules_of, module_at};
+    ghost use Rattle.pb_sig.specs.Table.{builtins};
+
     /// The modules that are there in every run.
     pub fn builtin(alloc: Global) -> Result<Registry, AllocError>
         ensures { IfOk result (λ r. modules_of r ≡ builtins) }
     {
         let modules = vec![in alloc; Builtin::command(alloc)?, Builtin::ping(alloc)?]?;
         Ok(Registry { modules })
+    }
+
+    /// All modules. Each keeps the laws of modules, and none gathers facts so far.
+    pub fn modules(&self) -> &[Builtin]
+        ensures value { map builtin_view result.now ≡ modules_of self.now }
+        ensures plain { are_plain_modules (modules_of self.now) ≡ true }
+    {
+        self.modules.as_slice()
     }
 
     /// The module of that name, or none where there is none.

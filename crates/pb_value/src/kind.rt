@@ -22,7 +22,7 @@ pub enum Shape {
 }
 
 /// What is known of one field of a record.
-#[derive(Drop)]
+#[derive(Clone, Drop)]
 pub struct Slot<K> {
     pub presence: Presence,
     pub kind: K,

@@ -1,5 +1,6 @@
 use Rattle.std.proofs.Common.{◌≡◌, map, drop}
-use Rattle.pb_sig.specs.Modules.{builtin_view, module_at, modules_of}
+use Rattle.pb_sig.specs.ModuleView.{builtin_view}
+use Rattle.pb_sig.specs.Modules.{module_at, modules_of}
 use Rattle.pb_sig.proofs.registry.Registry.find.Given as goal
 
 abbrev pub invariant-loop-found : goal.invariant-loop-found

@@ -2,7 +2,8 @@
 use Rattle.std.proofs.Common.{◌≡◌, ℕ, List, [], ◌∷◌, Bool, true, false, Option, Some, option_map, cond, String, Global, Vec, string_bytes, map, refl}
 use Rattle.std.specs.Map.{lookup}
 use Rattle.std.specs.Str.{bytes_eq}
-use Rattle.pb_inventory.specs.Inventory.{group_view, group_at}
+use Rattle.pb_inventory.specs.Inventory.{group_at}
+use Rattle.pb_inventory.specs.Views.{group_view}
 
 found_or : (b : Bool) (v : Vec ℕ Global) (rest : Option (Vec ℕ Global)) (d : Option (List ℕ)) → option_map (λ (x : Vec ℕ Global). x.items) rest ≡ d
     → option_map (λ (x : Vec ℕ Global). x.items) (cond b (Some v) rest) ≡ cond b (Some v.items) d

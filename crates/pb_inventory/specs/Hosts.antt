@@ -1,5 +1,5 @@
 -- Which inventory a JSON value describes: `{"all":{"hosts":[NAME]}}` with one host.
-use Rattle.std.specs.Prelude.{ℕ, List, [], ◌∷◌, length, Bool, true, ◌&&◌, ◌||◌, cond, nat_le, ◌==◌, Option, Some, None, option_map, codes}
+use Rattle.std.specs.Prelude.{ℕ, zero, List, [], ◌∷◌, length, Bool, true, false, ◌&&◌, ◌||◌, cond, nat_le, ◌==◌, Option, Some, None, option_map, codes}
 use Rattle.std.specs.Str.{bytes_eq}
 use Rattle.pb_semantics.specs.Data.{Data, Fields, text, list, rec, no_items, item, no_fields, field}
 
@@ -56,6 +56,36 @@ one_host n = record {
   hosts = record { name = n; groups = codes "ungrouped" ∷ []; vars = no_fields } ∷ [];
   groups = record { name = codes "all"; members = 0 ∷ [] } ∷ record { name = codes "ungrouped"; members = 0 ∷ [] } ∷ [];
 }
+
+abbrev pub are_names : List (List ℕ) → List (List ℕ) → Bool
+are_names [] [] = true
+are_names [] (m ∷ ms) = false
+are_names (n ∷ ns) [] = false
+are_names (n ∷ ns) (m ∷ ms) = bytes_eq n m && are_names ns ms
+
+abbrev pub is_zero_alone : List ℕ → Bool
+is_zero_alone (zero ∷ []) = true
+is_zero_alone ns = false
+
+-- no host but one, which has no variables and stands in no group of its own
+abbrev pub is_empty : Fields → Bool
+is_empty no_fields = true
+is_empty (field n d fs) = false
+
+abbrev pub are_alone : List HostData → Bool
+are_alone [] = false
+are_alone (h ∷ []) = is_empty h.vars && are_names (codes "ungrouped" ∷ []) h.groups
+are_alone (h ∷ k ∷ hs) = false
+
+abbrev pub holds_first : List ℕ → GroupData → Bool
+holds_first n g = bytes_eq n g.name && is_zero_alone g.members
+
+abbrev pub are_first_groups : List GroupData → Bool
+are_first_groups (g ∷ k ∷ []) = holds_first (codes "all") g && holds_first (codes "ungrouped") k
+are_first_groups gs = false
+
+abbrev pub is_lone : InventoryData → Bool
+is_lone i = are_alone i.hosts && are_first_groups i.groups
 
 abbrev pub inventory_of : Data → Option InventoryData
 inventory_of d = option_map one_host (host_of d)

@@ -1,8 +1,9 @@
 // The hosts of a run in their order, and the groups that they stand in.
-ghost use Rattle.std.specs.Prelude.{◌≡◌, ◌<◌, ◌≤◌, IfOk, Some, length, map, option_map, slice_get, string_bytes};
+ghost use Rattle.std.specs.Prelude.{◌≡◌, ◌<◌, ◌≤◌, IfOk, Some, true, length, map, option_map, slice_get, string_bytes};
 ghost use Rattle.indexmap.specs.IndexMap.{index_map_len};
 ghost use Rattle.pb_value.specs.View.{fields_view};
-ghost use Rattle.pb_inventory.specs.Hosts.{one_host};
+ghost use Rattle.pb_inventory.specs.Hosts.{is_lone, one_host};
+ghost use Rattle.pb_inventory.specs.Views.{host_view, group_view};
 
 use indexmap::IndexMap;
 use pb_value::value::Fields;
@@ -17,12 +18,15 @@ struct Host {
     vars: Fields,
 }
 
-/// The hosts of a run in host order, at most 1,024, and the groups. A host is named by its place in that order.
+/// The hosts of a run in host order, at most 1,024, and the groups. A host is named by its place in that order. So far
+/// there is one host, without variables.
 #[derive(Drop)]
 pub struct Inventory {
     hosts: IndexMap<String, Host>,
     groups: IndexMap<String, Vec<usize>>,
     ghost few: { index_map_len hosts ≤ 1024 },
+    ghost lone: { is_lone (record { hosts = map host_view hosts.entries; groups = map group_view groups.entries })
+        ≡ true },
 }
 
 impl Inventory {
@@ -32,6 +36,7 @@ impl Inventory {
     pub fn hosts(&self) -> usize
         ensures count { result ≡ length (inventory_view self.now).hosts }
         ensures few { result ≤ 1024 }
+        ensures lone { is_lone (inventory_view self.now) ≡ true }
     {
         self.hosts.len()
     }

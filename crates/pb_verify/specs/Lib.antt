@@ -1,2 +1,3 @@
 pub mod Codes
-pub mod Budget
+pub mod Meaning
+pub mod Way

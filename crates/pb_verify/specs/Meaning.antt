@@ -1,0 +1,48 @@
+-- What a book, an inventory and a refusal stand for, and what it is to judge.
+use Rattle.std.specs.Prelude.{◌≡◌, ℕ, zero, suc, List, [], ◌∷◌, map, Option, Some, None, option_map, string_bytes, Result, Ok, Err, Bool, true, false, nat_eq}
+use Rattle.pb_language.specs.Expression.{Name}
+use Rattle.pb_language.specs.World.{Group, HostVariables, name_at}
+use Rattle.pb_language.specs.Book as language
+use Rattle.pb_language.specs.Plain.{plain_play}
+use Rattle.pb_language.specs.Program as program
+use Rattle.pb_language.specs.Verdict as verdict
+use Rattle.pb_language.specs.Verdict.{Verdict, accepted, refused}
+use Rattle.pb_inventory.specs.Hosts.{HostData, GroupData, InventoryData}
+use Rattle.pb_book.specs.Books.{plays_of}
+use Rattle.pb_book.specs.Meaning.{plain_tasks}
+use Rattle.pb_book.specs.declared.book.Book.{Book}
+use Rattle.pb_book.specs.declared.book.Play.{Play}
+use Rattle.pb_verify.specs.declared.refusal.Code.{Code}
+use Rattle.pb_verify.specs.declared.refusal.Code.TheVariants.{N00, P01, I01, A01, A02, A03, V01, V03, V04, V07, V08}
+use Rattle.pb_verify.specs.declared.refusal.Refusal.{Refusal}
+
+abbrev pub play_of : Play → language.PlayData
+play_of p = plain_play p.line (plain_tasks p.tasks.items)
+
+abbrev pub book_of : Book → language.Book
+book_of b = map play_of (plays_of b)
+
+abbrev pub member_names : List HostData → List ℕ → List Name
+member_names hs [] = []
+member_names hs (n ∷ ns) = with_name (name_at n (map (λ h. h.name) hs)) (member_names hs ns) where
+  with_name : Option Name → List Name → List Name
+  with_name None rest = rest
+  with_name (Some h) rest = h ∷ rest
+
+abbrev pub inventory_of : InventoryData → program.Inventory
+inventory_of i = record {
+  hosts = map (λ h. record { name = h.name; variables = h.vars }) i.hosts;
+  groups = map (λ g. record { name = g.name; hosts = member_names i.hosts g.members }) i.groups;
+}
+
+-- the number of a V code, 0 for another
+abbrev pub code_number : Code → ℕ
+code_number V01 = 1
+code_number V03 = 3
+code_number V04 = 4
+code_number V07 = 7
+code_number V08 = 8
+code_number c = 0
+
+abbrev pub refusal_of : Refusal → verdict.Refusal
+refusal_of r = record { code = code_number r.code; line = r.line; host = option_map (λ n. string_bytes n) r.host }

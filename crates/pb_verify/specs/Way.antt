@@ -1,0 +1,49 @@
+-- What is asked of a task where certain variables are known, and what is known after it.
+use Rattle.std.specs.Prelude.{List, [], ◌∷◌, Bool, true, false, not, ◌&&◌, Option, Some, None, string_bytes, codes}
+use Rattle.std.specs.declared.alloc.Global.{Global}
+use Rattle.std.specs.declared.sync.Arc.{Arc}
+use Rattle.std.specs.Prelude.{String}
+use Rattle.pb_semantics.specs.Kind.{KindData, Slots, Spot, nowhere, spot, slot_at, put_slot}
+use Rattle.pb_language.specs.Expression.{Name, Parts}
+use Rattle.pb_language.specs.Book.{Work, module_work, debug_work, set_fact_work, assert_work, fail_work, Registry}
+use Rattle.pb_language.specs.Fit.{Fault, first}
+use Rattle.pb_language.specs.Judgement.{conditions_fault, action_fault}
+use Rattle.pb_language.specs.Cases.{Sets, no_sets, sets, set_spot, slots_of, is_conditional, changed_slots}
+use Rattle.pb_language.specs.Narrow.{results_of}
+use Rattle.pb_language.specs.Plain.{PlainTask}
+use Rattle.pb_language.specs.Plays.{module_named}
+use Rattle.pb_language.proofs.PlainPass.{plain_action}
+use Rattle.pb_value.specs.KindView.{kind_view}
+use Rattle.pb_value.specs.declared.kind.Kind.{Kind}
+use Rattle.pb_expr.specs.FitView.{own_scope}
+use Rattle.pb_sig.specs.Results.{result_cases}
+
+-- the condition, then the arguments
+abbrev pub own_fault : Registry → Slots → PlainTask → Option Fault
+own_fault ms ss t = first (conditions_fault (own_scope ss) t.condition) (action_fault (own_scope ss) (plain_action ms t.work))
+
+-- the kind of what the task registers
+abbrev pub work_result : Registry → Bool → Work → KindData
+work_result ms q (module_work n ps) = results_of (result_cases q (module_named n ms).name (slots_of (module_named n ms).ok))
+work_result ms q (debug_work ps) = results_of (result_cases q (codes "debug") changed_slots)
+work_result ms q (set_fact_work ps) = results_of (result_cases q (codes "set_fact") changed_slots)
+work_result ms q (assert_work a ps) = results_of (result_cases q (codes "assert") changed_slots)
+work_result ms q (fail_work ps) = results_of (result_cases q (codes "fail") changed_slots)
+
+abbrev pub registered : Option Name → KindData → Slots → Slots
+registered None k ss = ss
+registered (Some n) k ss = put_slot n true k ss
+
+abbrev pub put_spot : Name → Spot → Slots → Slots
+put_spot n nowhere ss = ss
+put_spot n (spot a k) ss = put_slot n a k ss
+
+-- one name after the other is set, for certain or not
+abbrev pub all_set : Sets → Slots → Slots
+all_set no_sets ss = ss
+all_set (sets n a k r) ss = all_set r (put_spot n (set_spot a (slot_at n ss) k) ss)
+
+-- names with the kinds that they are set to
+abbrev pub sets_of : Bool → List (Arc (String Global) Global × Kind) → Sets
+sets_of a [] = no_sets
+sets_of a (e ∷ es) = sets (string_bytes e.0.value) a (kind_view e.1) (sets_of a es)

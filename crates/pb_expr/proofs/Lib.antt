@@ -1,3 +1,4 @@
+pub mod Ascending
 pub mod Equality
 pub mod Outcomes
 pub mod Exprs

@@ -4,3 +4,4 @@ pub mod Outcomes
 pub mod Exprs
 pub mod Turns
 pub mod Findings
+pub mod Untaught

@@ -18,6 +18,10 @@ Above n es = AllByRecursion (λ y. string_cmp n y ≡ Less) (keys_of es)
 abbrev pub Ascending : {V : Type 0} → List (String Global × V) → Type 0
 Ascending es = IsStrictlySortedBy string_cmp (keys_of es)
 
+pub above-middle : {V : Type 0} → (first : String Global × V) (es : List (String Global × V)) (e : String Global × V) (more : List (String Global × V)) → Above first.0 (es ++ e ∷ more) → string_cmp first.0 e.0 ≡ Less
+above-middle first [] e more h = h.0
+above-middle first (x ∷ es) e more h = above-middle first es e more h.1
+
 later_differs : (n m : String Global) → string_cmp n m ≡ Less → bytes_eq (string_bytes m) (string_bytes n) ≡ false
 later_differs n m h =
     sym (is_eq-slice_cmp (string_bytes m) (string_bytes n)) ∙ ap is_eq (nat_list_cmp_total.antisymm (string_bytes m) (string_bytes n) ∙ ap ordering_reverse h)

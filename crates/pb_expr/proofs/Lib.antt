@@ -5,3 +5,4 @@ pub mod Exprs
 pub mod Turns
 pub mod Findings
 pub mod Untaught
+pub mod Records

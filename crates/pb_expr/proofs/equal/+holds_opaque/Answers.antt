@@ -16,7 +16,7 @@ fields_hold_opaque-loop-value-preserved t c =
     let ordered : Ascending (e ∷ left) = subst (λ (es : List Entry). Ascending es) c.in-Some.ensures.steps c.loop-value.invariant.ascending in
     record {
       same = c.loop-value.invariant.same ∙ ap (λ es. any_field_opaque [] (fields_view es)) c.in-Some.ensures.steps ∙ field-counts e left ordered
-             ∙ ap (λ b. b || any_field_opaque [] (fields_view left)) (sym c.holds_opaque.ensures ∙ c.if-holds_opaque.false);
+          ∙ ap (λ b. b || any_field_opaque [] (fields_view left)) (sym c.holds_opaque.ensures ∙ c.if-holds_opaque.false);
       ascending = ascending-rest e left ordered;
     }
 

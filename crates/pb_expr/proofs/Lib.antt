@@ -4,3 +4,6 @@ pub mod Exprs
 pub mod Turns
 pub mod Findings
 pub mod Parsed
+pub mod Ascending
+pub mod Untaught
+pub mod Records

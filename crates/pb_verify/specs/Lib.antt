@@ -1,3 +1,4 @@
 pub mod Codes
 pub mod Meaning
 pub mod Way
+pub mod ResultTables

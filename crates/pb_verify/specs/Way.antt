@@ -1,5 +1,5 @@
 -- What is asked of a task where certain variables are known, and what is known after it.
-use Rattle.std.specs.Prelude.{List, [], ◌∷◌, Bool, true, false, not, ◌&&◌, Option, Some, None, string_bytes, codes}
+use Rattle.std.specs.Prelude.{◌≡◌, List, [], ◌∷◌, Bool, true, false, Option, Some, None, Result, Ok, Err, string_bytes, codes}
 use Rattle.std.specs.declared.alloc.Global.{Global}
 use Rattle.std.specs.declared.sync.Arc.{Arc}
 use Rattle.std.specs.Prelude.{String}
@@ -8,14 +8,19 @@ use Rattle.pb_language.specs.Expression.{Name, Parts}
 use Rattle.pb_language.specs.Book.{Work, module_work, debug_work, set_fact_work, assert_work, fail_work, Registry}
 use Rattle.pb_language.specs.Fit.{Fault, first}
 use Rattle.pb_language.specs.Judgement.{conditions_fault, action_fault}
-use Rattle.pb_language.specs.Cases.{Sets, no_sets, sets, set_spot, slots_of, is_conditional, changed_slots}
+use Rattle.pb_language.specs.Cases.{Sets, no_sets, sets, parts_set, set_spot, slots_of, changed_slots}
+use Rattle.pb_language.specs.Scope.{Scope}
+use Rattle.pb_language.specs.Setting.{named_slots}
+use Rattle.pb_language.specs.Simple.{shared_names}
+use Rattle.pb_semantics.specs.Keeps.{is_among}
 use Rattle.pb_language.specs.Narrow.{results_of}
 use Rattle.pb_language.specs.Plain.{PlainTask}
 use Rattle.pb_language.specs.Plays.{module_named}
-use Rattle.pb_language.proofs.PlainPass.{plain_action}
+use Rattle.pb_language.proofs.PlainPass.{plain_action, lone_setting}
 use Rattle.pb_value.specs.KindView.{kind_view}
 use Rattle.pb_value.specs.declared.kind.Kind.{Kind}
-use Rattle.pb_expr.specs.FitView.{own_scope}
+use Rattle.pb_expr.specs.FitView.{own_scope, Fails}
+use Rattle.pb_expr.specs.declared.fit.KindFault.{KindFault}
 use Rattle.pb_sig.specs.Results.{result_cases}
 
 -- the condition, then the arguments
@@ -42,6 +47,20 @@ put_spot n (spot a k) ss = put_slot n a k ss
 abbrev pub all_set : Sets → Slots → Slots
 all_set no_sets ss = ss
 all_set (sets n a k r) ss = all_set r (put_spot n (set_spot a (slot_at n ss) k) ss)
+
+-- what is known of the host h's variables, beside the environment of its place: of each name but the shared ones the same
+pub record Stands (h : Name) (ss env : Slots) : Type 0 where
+  pub own : (n : Name) → is_among n shared_names ≡ false → slot_at n ss ≡ slot_at n (named_slots (lone_setting h) 0 env)
+
+-- nothing is asked in vain, or the fault is the first that was to be found, unless memory ran out
+abbrev pub Asks : {A : Type 0} → Result A KindFault → Option Fault → Type 0
+Asks (Ok x) f = f ≡ None
+Asks (Err e) f = Fails e f
+
+-- what a task sets, for certain or not
+abbrev pub own_sets : Scope → Bool → Work → Sets
+own_sets c a (set_fact_work ps) = parts_set c a ps
+own_sets c a w = no_sets
 
 -- names with the kinds that they are set to
 abbrev pub sets_of : Bool → List (Arc (String Global) Global × Kind) → Sets

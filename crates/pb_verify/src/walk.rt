@@ -1,10 +1,32 @@
-// One host followed through the book: which variables are there at each task, and of which kind.
-use crate::refusal::Code;
-use crate::results::{ResultKinds, put};
-use pb_book::book::{Argument, Book, Task, Work};
+// One host's way through the tasks: what is known of its variables, and the first expression that isn't fit.
+ghost use Rattle.std.specs.Prelude.{◌≡◌, ◌&&◌, ℕ, Bool, true, false, not, None, IfOk, OnOk, map, option_map, string_bytes, codes};
+ghost use Rattle.pb_semantics.specs.Kind.{Slots as SlotsData, no_slots, slot_at, put_slot};
+ghost use Rattle.pb_semantics.specs.Below.{below as is_below};
+ghost use Rattle.pb_language.specs.Book.{Registry as Modules};
+ghost use Rattle.pb_language.specs.Cases.{parts_set, set_spot, is_conditional};
+ghost use Rattle.pb_language.specs.Expression.{Name, no_expressions, expression, no_parts};
+ghost use Rattle.pb_language.specs.Expansion.{part_named};
+ghost use Rattle.pb_language.specs.Fit.{first, asks, wrong_kind, is_any as is_anything, is_boolean, fault, fields_fault};
+ghost use Rattle.pb_language.specs.Judgement.{conditions_fault, arguments_fault, parameter_kind};
+ghost use Rattle.pb_language.specs.Kinds.{kind_of as kind_found};
+ghost use Rattle.pb_language.specs.Plain.{are_plain_tasks};
+ghost use Rattle.pb_language.specs.Plays.{argument_or};
+ghost use Rattle.pb_language.proofs.PlainPass.{plain_rules, plain_flow};
+ghost use Rattle.pb_value.specs.KindView.{kind_view, slots_view, is_always};
+ghost use Rattle.pb_expr.specs.ExprView.{expr_view};
+ghost use Rattle.pb_expr.specs.FitView.{own_scope};
+ghost use Rattle.pb_sig.specs.Modules.{modules_of};
+ghost use Rattle.pb_sig.specs.Views.{parameter_view};
+ghost use Rattle.pb_book.specs.Lines.{are_known, is_known};
+ghost use Rattle.pb_book.specs.Meaning.{argument_parts, condition_view, plain_task, plain_tasks, work_of};
+ghost use Rattle.pb_verify.specs.Faults.{fault_refusal};
+ghost use Rattle.pb_verify.specs.ResultTables.{Lists};
+ghost use Rattle.pb_verify.specs.Way.{Asks, Stands, own_fault, own_sets, work_result, registered, put_spot, all_set, sets_of};
+
+use crate::results::ResultTable;
+use pb_book::book::{Argument, Task, Work};
 use pb_expr::expr::Expr;
 use pb_expr::fit::{KindFault, Unfit, kind_of};
-use pb_inventory::inventory::Inventory;
 use pb_sig::registry::Registry;
 use pb_sig::signature::{Module, Parameter};
 use pb_value::below::below;
@@ -17,148 +39,249 @@ use std::sync::Arc;
 /// The first fault of one host, at its line.
 #[derive(Clone, Copy)]
 pub struct Fault {
-    pub code: Code,
+    pub unfit: Unfit,
     pub line: u32,
 }
 
-/// What following a host needs of the rest, carried from task to task.
-#[derive(Drop)]
-struct Walk<'r> {
-    registry: &'r Registry,
-    environment: Slots,
-    results: ResultKinds,
-}
-
-/// The first expression of the host's way that isn't fit, or none.
+/// The first fault of a host's way through the tasks, from what is known of its variables before them, or none. The tasks
+/// keep the rules that follow no host.
 pub fn first_fault(
     alloc: Global,
-    book: &Book,
+    tasks: &[Task],
     registry: &Registry,
-    environment: Slots,
-) -> Result<Option<Fault>, AllocError> {
-    let mut walk = Walk {
-        registry,
-        environment,
-        results: ResultKinds::new(alloc)?,
-    };
-    for play in book.plays() {
-        for task in &play.tasks {
-            if let Some(code) = walk.fault_of(alloc, task)? {
+    opening: Slots,
+) -> Result<Option<Fault>, AllocError>
+    requires known { are_known (modules_of registry.now) tasks.now ≡ true }
+    requires plain { are_plain_tasks (plain_tasks tasks.now) ≡ true }
+    requires ruled { plain_rules (modules_of registry.now) (plain_tasks tasks.now) ≡ None }
+    ensures { IfOk result (λ o. (h : Name) → Stands h (slots_view opening.entries) no_slots
+        → option_map (fault_refusal h) o ≡ plain_flow (modules_of registry.now) h 0 no_slots (plain_tasks tasks.now)) }
+{
+    let results = ResultTable::of(alloc, registry)?;
+    let mut environment = opening;
+    for task in tasks {
+        match task_asked(alloc, task, registry, &environment) {
+            Ok(sets) => write(alloc, task, &results, sets, &mut environment)?,
+            Err(KindFault::Unfit(unfit)) => {
                 let line = task.line;
-                return Ok(Some(Fault { code, line }));
+                return Ok(Some(Fault { unfit, line }));
             }
-            walk.write(alloc, task)?;
+            Err(KindFault::NoMemory) => return Err(AllocError),
         }
     }
     Ok(None)
 }
 
 /// What is known of a host before anything is run.
-pub fn opening(alloc: Global, name: &str, groups: usize) -> Result<Slots, AllocError> {
+pub fn opening(alloc: Global, name: &str, groups: usize) -> Result<Slots, AllocError>
+    ensures { IfOk result (λ s. groups ≡ 1 → Stands name.now (slots_view s.entries) no_slots) }
+{
     let mut environment = Slots::new(alloc);
     let mut names = BTreeSet::new(alloc);
     drop(names.insert(String::from_str(alloc, name)?)?);
-    let host = Kind::Host(Arc::new(alloc, names)?);
-    put(alloc, &mut environment, "inventory_hostname", host)?;
-    let list = Kind::List(Arc::new(alloc, Kind::Text)?, groups);
-    put(alloc, &mut environment, "group_names", list)?;
+    let host = certain(Kind::Host(Arc::new(alloc, names)?));
+    put(&mut environment, String::from_str(alloc, "inventory_hostname")?, host)?;
+    let list = certain(Kind::List(Arc::new(alloc, Kind::Text)?, groups));
+    put(&mut environment, String::from_str(alloc, "group_names")?, list)?;
     Ok(environment)
 }
 
-impl Walk<'_> {
-    /// The first fault of the task's texts: its condition, then its arguments by name.
-    fn fault_of(&self, alloc: Global, task: &Task) -> Result<Option<Code>, AllocError> {
-        if let Some(condition) = &task.when {
-            if let Some(code) = self.condition_fault(alloc, condition)? {
-                return Ok(Some(code));
+type Sets = Vec<(Arc<String>, Kind)>;
+
+// Asks the task's texts, its condition and then its arguments by name, and answers what the task sets.
+fn task_asked(
+    alloc: Global,
+    task: &Task,
+    registry: &Registry,
+    environment: &Slots,
+) -> Result<Sets, KindFault>
+    requires { is_known (modules_of registry.now) task.now.work ≡ true }
+    ensures fault { Asks result (own_fault (modules_of registry.now) (slots_view environment.now.entries) (plain_task task.now)) }
+    ensures sets { IfOk result (λ s. (a : Bool) → sets_of a s.items
+        ≡ own_sets (own_scope (slots_view environment.now.entries)) a (plain_task task.now).work) }
+{
+    if let Some(condition) = &task.when {
+        condition_asked(alloc, condition, environment)?;
+    }
+    match &task.work {
+        Work::Module(name) => {
+            if let Some(found) = registry.find(name.as_str()) {
+                arguments_asked(alloc, &task.arguments, found.params(), environment)?;
             }
+            Ok(Vec::new(alloc))
         }
-        let parameters = match &task.work {
-            Work::Module(name) => self
-                .registry
-                .find(name.as_str())
-                .map(|found| found.params()),
-            Work::Debug | Work::SetFact => None,
-        };
-        for argument in &task.arguments {
-            if let Some(code) = self.argument_fault(alloc, argument, parameters)? {
-                return Ok(Some(code));
-            }
+        Work::Debug => {
+            message_asked(alloc, &task.arguments, environment)?;
+            Ok(Vec::new(alloc))
         }
-        Ok(None)
-    }
-
-    fn condition_fault(&self, alloc: Global, condition: &Expr) -> Result<Option<Code>, AllocError> {
-        match kind_of(alloc, condition, &self.environment) {
-            Ok(Kind::Bool) | Ok(Kind::Never) => Ok(None),
-            Ok(_) => Ok(Some(Code::V04)),
-            Err(KindFault::Unfit(unfit)) => Ok(Some(code_of(unfit))),
-            Err(KindFault::NoMemory) => Err(AllocError),
-        }
-    }
-
-    // An argument keeps its parameter's kind; that of an action may be of every kind that is known.
-    fn argument_fault(
-        &self,
-        alloc: Global,
-        argument: &Argument,
-        parameters: Option<&[Parameter]>,
-    ) -> Result<Option<Code>, AllocError> {
-        let kind = match kind_of(alloc, &argument.value, &self.environment) {
-            Ok(kind) => kind,
-            Err(KindFault::Unfit(unfit)) => return Ok(Some(code_of(unfit))),
-            Err(KindFault::NoMemory) => return Err(AllocError),
-        };
-        if let Kind::Any = kind {
-            return Ok(Some(Code::V04));
-        }
-        let holds = match parameters {
-            Some(parameters) => is_of(&kind, argument.name.as_str(), parameters),
-            None => true,
-        };
-        Ok(if holds { None } else { Some(Code::V04) })
-    }
-
-    /// What the host's variables are after the task: what it registers, then what it sets.
-    fn write(&mut self, alloc: Global, task: &Task) -> Result<(), AllocError> {
-        let mut values = Vec::new(alloc);
-        if let Work::SetFact = &task.work {
-            for argument in &task.arguments {
-                values.push(self.written_kind(alloc, &argument.value)?)?;
-            }
-        }
-        if let Some(name) = &task.register {
-            let kind = self.results.kind_of(alloc, task, self.registry)?;
-            put(alloc, &mut self.environment, name.as_str(), kind)?;
-        }
-        for (argument, kind) in task.arguments.iter().zip(values) {
-            let name = argument.name.as_str();
-            let slot = match &task.when {
-                None => Slot {
-                    presence: Presence::Always,
-                    kind,
-                },
-                Some(_) => met(alloc, self.environment.get(name), kind)?,
-            };
-            drop(
-                self.environment
-                    .insert(String::from_str(alloc, name)?, slot)?,
-            );
-        }
-        Ok(())
-    }
-
-    fn written_kind(&self, alloc: Global, value: &Expr) -> Result<Kind, AllocError> {
-        match kind_of(alloc, value, &self.environment) {
-            Ok(kind) => Ok(kind),
-            Err(KindFault::Unfit(_)) => Ok(Kind::Any),
-            Err(KindFault::NoMemory) => Err(AllocError),
-        }
+        Work::SetFact => sets_asked(alloc, &task.arguments, environment),
     }
 }
 
-// A variable that is perhaps set, where it may have been there before.
-fn met(alloc: Global, before: Option<&Slot<Kind>>, kind: Kind) -> Result<Slot<Kind>, AllocError> {
+fn condition_asked(alloc: Global, condition: &Expr, environment: &Slots) -> Result<(), KindFault>
+    ensures { Asks result (conditions_fault (own_scope (slots_view environment.now.entries))
+        (expression (expr_view condition.now) no_expressions)) }
+{
+    let kind = kind_of(alloc, condition, environment)?;
+    if is_bool(&kind) {
+        Ok(())
+    } else {
+        Err(KindFault::Unfit(Unfit::WrongKind))
+    }
+}
+
+// Each argument is of its parameter's kind.
+fn arguments_asked(
+    alloc: Global,
+    arguments: &Vec<Argument>,
+    parameters: &[Parameter],
+    environment: &Slots,
+) -> Result<(), KindFault>
+    ensures { Asks result (arguments_fault (own_scope (slots_view environment.now.entries))
+        (map parameter_view parameters.now) (argument_parts arguments.now.items)) }
+{
+    for argument in arguments {
+        let kind = value_asked(alloc, &argument.value, environment)?;
+        if !is_of(&kind, argument.name.as_str(), parameters) {
+            return Err(KindFault::Unfit(Unfit::WrongKind));
+        }
+    }
+    Ok(())
+}
+
+fn message_asked(alloc: Global, arguments: &Vec<Argument>, environment: &Slots) -> Result<(), KindFault>
+    ensures { Asks result (first
+        (fault (own_scope (slots_view environment.now.entries))
+            (argument_or (part_named (codes "msg") (argument_parts arguments.now.items))))
+        (asks wrong_kind (not (is_anything (kind_found (own_scope (slots_view environment.now.entries))
+            (argument_or (part_named (codes "msg") (argument_parts arguments.now.items)))))))) }
+{
+    if let Some(message) = argument_named(arguments, "msg") {
+        drop(value_asked(alloc, message, environment)?);
+    }
+    Ok(())
+}
+
+// The value of the first argument of that name.
+fn argument_named<'a>(arguments: &'a Vec<Argument>, name: &str) -> Option<&'a Expr>
+    ensures { option_map (λ e. expr_view e.now) result ≡ part_named name.now (argument_parts arguments.now.items) }
+{
+    for argument in arguments {
+        if argument.name.as_str() == name {
+            return Some(&argument.value);
+        }
+    }
+    None
+}
+
+// The values are of kinds that are known.
+fn sets_asked(alloc: Global, arguments: &Vec<Argument>, environment: &Slots) -> Result<Sets, KindFault>
+    ensures fault { Asks result (fields_fault (own_scope (slots_view environment.now.entries)) (argument_parts arguments.now.items)) }
+    ensures sets { IfOk result (λ s. (a : Bool) → sets_of a s.items
+        ≡ parts_set (own_scope (slots_view environment.now.entries)) a (argument_parts arguments.now.items)) }
+{
+    let mut sets = Vec::new(alloc);
+    for argument in arguments {
+        let kind = value_asked(alloc, &argument.value, environment)?;
+        sets.push((argument.name.clone()?, kind))?;
+    }
+    Ok(sets)
+}
+
+// The kind of a value, which may not be of every kind.
+fn value_asked(alloc: Global, value: &Expr, environment: &Slots) -> Result<Kind, KindFault>
+    ensures fault { Asks result (first (fault (own_scope (slots_view environment.now.entries)) (expr_view value.now))
+        (asks wrong_kind (not (is_anything (kind_found (own_scope (slots_view environment.now.entries)) (expr_view value.now)))))) }
+    ensures kind { IfOk result (λ k. kind_view k ≡ kind_found (own_scope (slots_view environment.now.entries)) (expr_view value.now)) }
+{
+    let kind = kind_of(alloc, value, environment)?;
+    if is_any(&kind) {
+        return Err(KindFault::Unfit(Unfit::WrongKind));
+    }
+    Ok(kind)
+}
+
+// Whether the kind is that of the parameter of that name.
+fn is_of(kind: &Kind, name: &str, parameters: &[Parameter]) -> bool
+    ensures { result ≡ is_below (kind_view kind.now) (parameter_kind name.now (map parameter_view parameters.now)) }
+{
+    for parameter in parameters {
+        if parameter.name.as_str() == name {
+            return below(kind, &parameter.kind);
+        }
+    }
+    below(kind, &Kind::Never)
+}
+
+fn is_bool(kind: &Kind) -> bool
+    ensures { result ≡ is_boolean (kind_view kind.now) }
+{
+    match kind {
+        Kind::Bool | Kind::Never => true,
+        _ => false,
+    }
+}
+
+fn is_any(kind: &Kind) -> bool
+    ensures { result ≡ is_anything (kind_view kind.now) }
+{
+    match kind {
+        Kind::Any => true,
+        _ => false,
+    }
+}
+
+// What is known after the task: what it registers, then what it sets.
+fn write(
+    alloc: Global,
+    task: &Task,
+    results: &ResultTable,
+    sets: Sets,
+    environment: &mut Slots,
+) -> Result<(), AllocError>
+    ensures { OnOk result ((ms : Modules) → Lists results.now ms → is_known ms task.now.work ≡ true
+        → slots_view environment.new.entries
+        ≡ all_set (sets_of (not (is_conditional (condition_view task.now.when))) sets.items)
+            (registered (option_map (λ n. string_bytes n.value) task.now.register)
+            (work_result ms (is_conditional (condition_view task.now.when)) (work_of task.now.work no_parts))
+            (slots_view environment.old.entries))) }
+{
+    let may_skip = task.when.is_some();
+    if let Some(name) = &task.register {
+        let kind = results.kind(&task.work, may_skip)?;
+        put(environment, (**name).clone()?, certain(kind))?;
+    }
+    for (name, kind) in sets {
+        set(alloc, &name, kind, !may_skip, environment)?;
+    }
+    Ok(())
+}
+
+// A variable that is set, for certain or not.
+fn set(
+    alloc: Global,
+    name: &String,
+    kind: Kind,
+    is_certain: bool,
+    environment: &mut Slots,
+) -> Result<(), AllocError>
+    ensures { OnOk result (slots_view environment.new.entries ≡ put_spot (string_bytes name.now)
+        (set_spot is_certain (slot_at (string_bytes name.now) (slots_view environment.old.entries)) (kind_view kind))
+        (slots_view environment.old.entries)) }
+{
+    let slot = if is_certain {
+        certain(kind)
+    } else {
+        met(alloc, find(environment, name.as_str()), kind)?
+    };
+    put(environment, name.clone()?, slot)
+}
+
+// What is known of a variable that is perhaps set, where it may have been there before.
+fn met(alloc: Global, before: Option<&Slot<Kind>>, kind: Kind) -> Result<Slot<Kind>, AllocError>
+    ensures { IfOk result (λ s. spot (is_always s.presence) (kind_view s.kind)
+        ≡ set_spot false (spot_view before) (kind_view kind)) }
+{
     match before {
         Some(slot) => Ok(Slot {
             presence: slot.presence,
@@ -171,15 +294,19 @@ fn met(alloc: Global, before: Option<&Slot<Kind>>, kind: Kind) -> Result<Slot<Ki
     }
 }
 
-fn is_of(kind: &Kind, name: &str, parameters: &[Parameter]) -> bool {
-    parameters.iter().any(|parameter| parameter.name.as_str() == name
-        && below(kind, &parameter.kind))
+fn certain(kind: Kind) -> Slot<Kind>
+    ensures { (result.presence ≡ Presence.Always) × (result.kind ≡ kind) }
+{
+    Slot {
+        presence: Presence::Always,
+        kind,
+    }
 }
 
-fn code_of(unfit: Unfit) -> Code {
-    match unfit {
-        Unfit::Undefined => Code::V01,
-        Unfit::MissingField => Code::V03,
-        Unfit::WrongKind => Code::V04,
-    }
+fn put(environment: &mut Slots, name: String, slot: Slot<Kind>) -> Result<(), AllocError>
+    ensures { OnOk result (slots_view environment.new.entries
+        ≡ put_slot (string_bytes name) (is_always slot.presence) (kind_view slot.kind) (slots_view environment.old.entries)) }
+{
+    drop(environment.insert(name, slot)?);
+    Ok(())
 }

@@ -2,7 +2,7 @@
 use Rattle.std.proofs.Common.{◌≡◌, Bool, Box, String, Global, string_bytes, rules}
 use Rattle.std.specs.declared.sync.Arc.{Arc}
 use Rattle.pb_semantics.specs.Data.{boolean, text, opaque}
-use Rattle.pb_semantics.specs.Expr.{equality, inequality, membership}
+use Rattle.pb_language.specs.Expression.{equal, negation, comparison, membership}
 use Rattle.pb_value.specs.View.{view}
 use Rattle.pb_value.specs.declared.value.Value as Value-of
 use Rattle.pb_value.specs.declared.value.Value.{the_lemmas as value_lemmas}
@@ -23,10 +23,13 @@ view-Text s = search (rules, value_lemmas)
 pub view-Opaque : view Value-of.Opaque ≡ opaque
 view-Opaque = search (rules, value_lemmas)
 
-pub view-Equal : (a b : Box Expr Global) → expr_view (Expr-of.Equal a b) ≡ equality (expr_view a.value) (expr_view b.value)
+pub view-Not : (b : Box Expr Global) → expr_view (Expr-of.Not b) ≡ negation (expr_view b.value)
+view-Not b = search (rules, the_lemmas)
+
+pub view-Equal : (a b : Box Expr Global) → expr_view (Expr-of.Equal a b) ≡ comparison equal (expr_view a.value) (expr_view b.value)
 view-Equal a b = search (rules, the_lemmas)
 
-pub view-Unequal : (a b : Box Expr Global) → expr_view (Expr-of.Unequal a b) ≡ inequality (expr_view a.value) (expr_view b.value)
+pub view-Unequal : (a b : Box Expr Global) → expr_view (Expr-of.Unequal a b) ≡ negation (comparison equal (expr_view a.value) (expr_view b.value))
 view-Unequal a b = search (rules, the_lemmas)
 
 pub view-In : (a b : Box Expr Global) → expr_view (Expr-of.In a b) ≡ membership (expr_view a.value) (expr_view b.value)

@@ -3,53 +3,52 @@ use Rattle.std.proofs.Common.{◌≡◌, ℕ, suc, ◌+◌, ◌<◌, ◌≤◌, 
 use Rattle.std.proofs.Math.Seq.{drop-cons}
 use Rattle.std.proofs.lemmas.List.{drop_all}
 use Rattle.pb_semantics.specs.Data.{Data, Fields, boolean, list, opaque, no_fields, field}
-use Rattle.pb_semantics.specs.Eval.{shown, eval_of, eval_all, eval_any, eval_items, eval_parts}
+use Rattle.pb_language.specs.World.{World}
+use Rattle.pb_language.specs.Evaluation.{eval, eval_all, eval_any, eval_items, eval_parts}
 use Rattle.pb_value.specs.View.{view, items_view, fields_of}
 use Rattle.pb_value.specs.declared.value.Value.{Value}
 use Rattle.pb_expr.specs.ExprView.{expr_view, exprs_view, parts_view, truth, is_unreadable}
+use Rattle.pb_expr.specs.OwnWorld.{shown}
 use Rattle.pb_expr.specs.declared.expr.Expr.{Expr}
 use Rattle.pb_expr.proofs.Outcomes.{and-true, or-false, after_items, items-spoilt, items-step, items-end, after_fields, append_fields, fields-spoilt, fields-step}
-
-abbrev pub Names : Type 0
-Names = List ℕ → Option Data
 
 pub drop-at : {A : Type 0} → (xs : List A) (i : ℕ) (x : A) → i < length xs → x ≡ get_or xs i x → drop i xs ≡ x ∷ drop (i + 1) xs
 drop-at xs i x h e = rw add-one (drop-cons xs i x h ∙ ap (λ y. y ∷ drop (suc i) xs) (sym e))
 
-pub all-turn : (h : Names) (es : List Expr) (i : ℕ) (e : Expr) (v : Value) (t : Option Bool) → i < length es → e ≡ get_or es i e → view v ≡ shown (eval_of h (expr_view e))
-    → t ≡ truth (view v) → t ≡ Some true → eval_all h (exprs_view (drop i es)) ≡ eval_all h (exprs_view (drop (i + 1) es))
-all-turn h es i e v t lt is told found holds =
-    ap (λ xs. eval_all h (exprs_view xs)) (drop-at es i e lt is)
-    ∙ and-true h (eval_of h (expr_view e)) (exprs_view (drop (i + 1) es)) (ap truth (sym told) ∙ sym found ∙ holds)
+pub all-turn : (w : World) (es : List Expr) (i : ℕ) (e : Expr) (v : Value) (t : Option Bool) → i < length es → e ≡ get_or es i e → view v ≡ shown (eval w (expr_view e))
+    → t ≡ truth (view v) → t ≡ Some true → eval_all w (exprs_view (drop i es)) ≡ eval_all w (exprs_view (drop (i + 1) es))
+all-turn w es i e v t lt is told found holds =
+    ap (λ xs. eval_all w (exprs_view xs)) (drop-at es i e lt is)
+    ∙ and-true w (eval w (expr_view e)) (exprs_view (drop (i + 1) es)) (ap truth (sym told) ∙ sym found ∙ holds)
 
-pub all-done : (h : Names) (es : List Expr) (i : ℕ) → length es ≤ i → shown (eval_all h (exprs_view (drop i es))) ≡ boolean true
-all-done h es i past = ap (λ xs. shown (eval_all h (exprs_view xs))) (drop_all i es past)
+pub all-done : (w : World) (es : List Expr) (i : ℕ) → length es ≤ i → shown (eval_all w (exprs_view (drop i es))) ≡ boolean true
+all-done w es i past = ap (λ xs. shown (eval_all w (exprs_view xs))) (drop_all i es past)
 
-pub any-turn : (h : Names) (es : List Expr) (i : ℕ) (e : Expr) (v : Value) (t : Option Bool) → i < length es → e ≡ get_or es i e → view v ≡ shown (eval_of h (expr_view e))
-    → t ≡ truth (view v) → t ≡ Some false → eval_any h (exprs_view (drop i es)) ≡ eval_any h (exprs_view (drop (i + 1) es))
-any-turn h es i e v t lt is told found holds =
-    ap (λ xs. eval_any h (exprs_view xs)) (drop-at es i e lt is)
-    ∙ or-false h (eval_of h (expr_view e)) (exprs_view (drop (i + 1) es)) (ap truth (sym told) ∙ sym found ∙ holds)
+pub any-turn : (w : World) (es : List Expr) (i : ℕ) (e : Expr) (v : Value) (t : Option Bool) → i < length es → e ≡ get_or es i e → view v ≡ shown (eval w (expr_view e))
+    → t ≡ truth (view v) → t ≡ Some false → eval_any w (exprs_view (drop i es)) ≡ eval_any w (exprs_view (drop (i + 1) es))
+any-turn w es i e v t lt is told found holds =
+    ap (λ xs. eval_any w (exprs_view xs)) (drop-at es i e lt is)
+    ∙ or-false w (eval w (expr_view e)) (exprs_view (drop (i + 1) es)) (ap truth (sym told) ∙ sym found ∙ holds)
 
-pub any-done : (h : Names) (es : List Expr) (i : ℕ) → length es ≤ i → shown (eval_any h (exprs_view (drop i es))) ≡ boolean false
-any-done h es i past = ap (λ xs. shown (eval_any h (exprs_view xs))) (drop_all i es past)
+pub any-done : (w : World) (es : List Expr) (i : ℕ) → length es ≤ i → shown (eval_any w (exprs_view (drop i es))) ≡ boolean false
+any-done w es i past = ap (λ xs. shown (eval_any w (exprs_view xs))) (drop_all i es past)
 
-pub list-turn : (h : Names) (es : List Expr) (vs : List Value) (i : ℕ) (e : Expr) (v : Value) (b : Bool) → i < length es → e ≡ get_or es i e → view v ≡ shown (eval_of h (expr_view e))
+pub list-turn : (w : World) (es : List Expr) (vs : List Value) (i : ℕ) (e : Expr) (v : Value) (b : Bool) → i < length es → e ≡ get_or es i e → view v ≡ shown (eval w (expr_view e))
     → b ≡ is_unreadable (view v) → b ≡ false
-    → after_items (items_view vs) (eval_items h (exprs_view (drop i es))) ≡ after_items (items_view (vs ++ v ∷ [])) (eval_items h (exprs_view (drop (i + 1) es)))
-list-turn h es vs i e v b lt is told found readable =
-    ap (λ xs. after_items (items_view vs) (eval_items h (exprs_view xs))) (drop-at es i e lt is)
-    ∙ items-step vs v (eval_of h (expr_view e)) (eval_items h (exprs_view (drop (i + 1) es))) told (ap is_unreadable (sym told) ∙ sym found ∙ readable)
+    → after_items (items_view vs) (eval_items w (exprs_view (drop i es))) ≡ after_items (items_view (vs ++ v ∷ [])) (eval_items w (exprs_view (drop (i + 1) es)))
+list-turn w es vs i e v b lt is told found readable =
+    ap (λ xs. after_items (items_view vs) (eval_items w (exprs_view xs))) (drop-at es i e lt is)
+    ∙ items-step vs v (eval w (expr_view e)) (eval_items w (exprs_view (drop (i + 1) es))) told (ap is_unreadable (sym told) ∙ sym found ∙ readable)
 
-pub list-spoilt : (h : Names) (es : List Expr) (vs : List Value) (i : ℕ) (e : Expr) (v : Value) (b : Bool) → i < length es → e ≡ get_or es i e → view v ≡ shown (eval_of h (expr_view e))
-    → b ≡ is_unreadable (view v) → b ≡ true → shown (after_items (items_view vs) (eval_items h (exprs_view (drop i es)))) ≡ opaque
-list-spoilt h es vs i e v b lt is told found spoilt =
-    ap (λ xs. shown (after_items (items_view vs) (eval_items h (exprs_view xs)))) (drop-at es i e lt is)
-    ∙ items-spoilt (items_view vs) (eval_of h (expr_view e)) _ (ap is_unreadable (sym told) ∙ sym found ∙ spoilt)
+pub list-spoilt : (w : World) (es : List Expr) (vs : List Value) (i : ℕ) (e : Expr) (v : Value) (b : Bool) → i < length es → e ≡ get_or es i e → view v ≡ shown (eval w (expr_view e))
+    → b ≡ is_unreadable (view v) → b ≡ true → shown (after_items (items_view vs) (eval_items w (exprs_view (drop i es)))) ≡ opaque
+list-spoilt w es vs i e v b lt is told found spoilt =
+    ap (λ xs. shown (after_items (items_view vs) (eval_items w (exprs_view xs)))) (drop-at es i e lt is)
+    ∙ items-spoilt (items_view vs) (eval w (expr_view e)) _ (ap is_unreadable (sym told) ∙ sym found ∙ spoilt)
 
-pub list-done : (h : Names) (es : List Expr) (vs : List Value) (i : ℕ) → length es ≤ i → shown (after_items (items_view vs) (eval_items h (exprs_view (drop i es)))) ≡ list (items_view vs)
-list-done h es vs i past =
-    ap (λ xs. shown (after_items (items_view vs) (eval_items h (exprs_view xs)))) (drop_all i es past) ∙ ap shown (items-end (items_view vs))
+pub list-done : (w : World) (es : List Expr) (vs : List Value) (i : ℕ) → length es ≤ i → shown (after_items (items_view vs) (eval_items w (exprs_view (drop i es)))) ≡ list (items_view vs)
+list-done w es vs i past =
+    ap (λ xs. shown (after_items (items_view vs) (eval_items w (exprs_view xs)))) (drop_all i es past) ∙ ap shown (items-end (items_view vs))
 
 -- one more entry, whatever the entries stand for
 pub fields-last : (f : Expr → Data) (done : List (String Global × Expr)) (e : String Global × Expr)
@@ -57,12 +56,12 @@ pub fields-last : (f : Expr → Data) (done : List (String Global × Expr)) (e :
 fields-last f [] e = refl
 fields-last f (x ∷ done) e = ap (field (string_bytes x.0) (f x.1)) (fields-last f done e)
 
-pub record-turn : (h : Names) (fs : Fields) (e : String Global × Expr) (left : List (String Global × Expr)) (v : Value) (b : Bool) → view v ≡ shown (eval_of h (expr_view e.1))
+pub record-turn : (w : World) (fs : Fields) (e : String Global × Expr) (left : List (String Global × Expr)) (v : Value) (b : Bool) → view v ≡ shown (eval w (expr_view e.1))
     → b ≡ is_unreadable (view v) → b ≡ false
-    → after_fields fs (eval_parts h (parts_view (e ∷ left))) ≡ after_fields (append_fields fs (field (string_bytes e.0) (shown (eval_of h (expr_view e.1))) no_fields)) (eval_parts h (parts_view left))
-record-turn h fs e left v b told found readable =
-    fields-step fs (string_bytes e.0) (eval_of h (expr_view e.1)) (eval_parts h (parts_view left)) (ap is_unreadable (sym told) ∙ sym found ∙ readable)
+    → after_fields fs (eval_parts w (parts_view (e ∷ left))) ≡ after_fields (append_fields fs (field (string_bytes e.0) (shown (eval w (expr_view e.1))) no_fields)) (eval_parts w (parts_view left))
+record-turn w fs e left v b told found readable =
+    fields-step fs (string_bytes e.0) (eval w (expr_view e.1)) (eval_parts w (parts_view left)) (ap is_unreadable (sym told) ∙ sym found ∙ readable)
 
-pub record-spoilt : (h : Names) (fs : Fields) (e : String Global × Expr) (left : List (String Global × Expr)) (v : Value) (b : Bool) → view v ≡ shown (eval_of h (expr_view e.1))
-    → b ≡ is_unreadable (view v) → b ≡ true → shown (after_fields fs (eval_parts h (parts_view (e ∷ left)))) ≡ opaque
-record-spoilt h fs e left v b told found spoilt = fields-spoilt fs (eval_of h (expr_view e.1)) _ (ap is_unreadable (sym told) ∙ sym found ∙ spoilt)
+pub record-spoilt : (w : World) (fs : Fields) (e : String Global × Expr) (left : List (String Global × Expr)) (v : Value) (b : Bool) → view v ≡ shown (eval w (expr_view e.1))
+    → b ≡ is_unreadable (view v) → b ≡ true → shown (after_fields fs (eval_parts w (parts_view (e ∷ left)))) ≡ opaque
+record-spoilt w fs e left v b told found spoilt = fields-spoilt fs (string_bytes e.0) (eval w (expr_view e.1)) _ (ap is_unreadable (sym told) ∙ sym found ∙ spoilt)

@@ -1,14 +1,7 @@
 // Equality of values, and what it is for one to be in another.
-ghost use Rattle.std.specs.Prelude.{◌≡◌};
-ghost use Rattle.pb_semantics.specs.Equal.{
-  data_eq,
-  items_eq,
-  fields_eq,
-  has_opaque,
-  any_opaque,
-  any_field_opaque,
-  is_item,
-};
+ghost use Rattle.std.specs.Prelude.{◌≡◌, []};
+ghost use Rattle.pb_semantics.specs.Equal.{data_eq, items_eq, fields_eq, is_item};
+ghost use Rattle.pb_language.specs.Evaluation.{holds_opaque as has_opaque, any_item_opaque, any_field_opaque};
 ghost use Rattle.pb_value.specs.View.{view, items_view, fields_view};
 
 use pb_value::value::{Fields, Value};
@@ -83,14 +76,14 @@ pub fn holds_opaque(value: &Value) -> bool
         Value::Opaque => true,
         Value::List(items) => items_hold_opaque(items),
         Value::Rec(fields) => fields_hold_opaque(fields),
-        _ => false,
+        Value::Null | Value::Bool(_) | Value::Int(_) | Value::Text(_) => false,
     }
 }
 
 /// Whether an item of the list holds what may not be read.
 #[cycle(holds_opaque)]
 pub fn items_hold_opaque(items: &Vec<Value>) -> bool
-    ensures { result ≡ any_opaque (items_view items.now.items) }
+    ensures { result ≡ any_item_opaque (items_view items.now.items) }
 {
     for item in items {
         if holds_opaque(item) {
@@ -102,7 +95,7 @@ pub fn items_hold_opaque(items: &Vec<Value>) -> bool
 
 #[cycle(holds_opaque)]
 fn fields_hold_opaque(fields: &Fields) -> bool
-    ensures { result ≡ any_field_opaque (fields_view fields.now.entries) }
+    ensures { result ≡ any_field_opaque [] (fields_view fields.now.entries) }
 {
     for (_, value) in fields.iter() {
         if holds_opaque(value) {

@@ -1,24 +1,24 @@
 // The value of an expression.
-ghost use Rattle.std.specs.Prelude.{◌≡◌, IfOk, OnOk, is_some, option_map, not, string_bytes};
+ghost use Rattle.std.specs.Prelude.{◌≡◌, IfOk, OnOk, is_some, option_map, string_bytes};
 ghost use Rattle.pb_semantics.specs.Data.{list, field_value, put_field};
 ghost use Rattle.pb_semantics.specs.Equal.{is_part};
-ghost use Rattle.pb_semantics.specs.Eval.{
-  value,
-  or_stuck,
-  undefined,
+ghost use Rattle.pb_language.specs.Evaluation.{
+  then_go,
   value_below,
+  found,
+  read,
   negated,
-  compared,
+  equal_values,
   found_in,
-  eval_of,
+  eval as outcome_of,
   eval_all,
   eval_any,
   eval_items,
   eval_parts,
-  shown,
 };
 ghost use Rattle.pb_value.specs.View.{view, items_view, fields_view};
 ghost use Rattle.pb_expr.specs.ExprView.{expr_view, exprs_view, parts_view, names_of, truth, field_in, is_unreadable};
+ghost use Rattle.pb_expr.specs.OwnWorld.{shown};
 
 use crate::equal::{equal, has_item, holds_opaque, items_hold_opaque};
 use crate::expr::{Expr, Path};
@@ -33,7 +33,7 @@ use std::collections::BTreeMap;
 /// `Opaque`, which is what may not be read.
 #[cycle(eval)]
 pub fn eval<V: Vars>(alloc: Global, expr: &Expr, vars: &V) -> Result<Value, AllocError>
-    ensures { IfOk result (λ v. view v ≡ shown (eval_of (V.holds vars.now) (expr_view expr.now))) }
+    ensures { IfOk result (λ v. view v ≡ shown (outcome_of (V.world vars.now) (expr_view expr.now))) }
 {
     match expr {
         Expr::Literal(known) => Ok(known.clone()?),
@@ -66,7 +66,7 @@ pub fn eval<V: Vars>(alloc: Global, expr: &Expr, vars: &V) -> Result<Value, Allo
 
 #[cycle(eval)]
 fn all_of<V: Vars>(alloc: Global, operands: &Vec<Expr>, vars: &V) -> Result<Value, AllocError>
-    ensures { IfOk result (λ v. view v ≡ shown (eval_all (V.holds vars.now) (exprs_view operands.now.items))) }
+    ensures { IfOk result (λ v. view v ≡ shown (eval_all (V.world vars.now) (exprs_view operands.now.items))) }
 {
     for operand in operands {
         let found = eval(alloc, operand, vars)?;
@@ -81,7 +81,7 @@ fn all_of<V: Vars>(alloc: Global, operands: &Vec<Expr>, vars: &V) -> Result<Valu
 
 #[cycle(eval)]
 fn any_of<V: Vars>(alloc: Global, operands: &Vec<Expr>, vars: &V) -> Result<Value, AllocError>
-    ensures { IfOk result (λ v. view v ≡ shown (eval_any (V.holds vars.now) (exprs_view operands.now.items))) }
+    ensures { IfOk result (λ v. view v ≡ shown (eval_any (V.world vars.now) (exprs_view operands.now.items))) }
 {
     for operand in operands {
         let found = eval(alloc, operand, vars)?;
@@ -96,7 +96,7 @@ fn any_of<V: Vars>(alloc: Global, operands: &Vec<Expr>, vars: &V) -> Result<Valu
 
 #[cycle(eval)]
 fn list_of<V: Vars>(alloc: Global, items: &Vec<Expr>, vars: &V) -> Result<Value, AllocError>
-    ensures { IfOk result (λ v. view v ≡ shown (eval_items (V.holds vars.now) (exprs_view items.now.items))) }
+    ensures { IfOk result (λ v. view v ≡ shown (eval_items (V.world vars.now) (exprs_view items.now.items))) }
 {
     let mut values = Vec::new(alloc);
     for item in items {
@@ -115,7 +115,7 @@ fn record_of<V: Vars>(
     fields: &BTreeMap<String, Expr>,
     vars: &V,
 ) -> Result<Value, AllocError>
-    ensures { IfOk result (λ v. view v ≡ shown (eval_parts (V.holds vars.now) (parts_view fields.now.entries))) }
+    ensures { IfOk result (λ v. view v ≡ shown (eval_parts (V.world vars.now) (parts_view fields.now.entries))) }
 {
     let mut values = BTreeMap::new(alloc);
     for (name, field) in fields.iter() {
@@ -136,7 +136,7 @@ fn put(fields: &mut Fields, name: String, found: Value) -> Result<(), AllocError
 }
 
 fn value_of_path<V: Vars>(path: &Path, vars: &V) -> Result<Value, AllocError>
-    ensures { IfOk result (λ v. view v ≡ shown (or_stuck undefined (λ d. value_below (names_of path.now.steps.items) d) (V.holds vars.now (string_bytes path.now.root)))) }
+    ensures { IfOk result (λ v. view v ≡ shown (read (names_of path.now.steps.items) (found (field_value (string_bytes path.now.root) (V.world vars.now).mine)))) }
 {
     match vars.value(path.root.as_str()) {
         Some(held) => Ok(inner_value(held, &path.steps)?),
@@ -192,7 +192,7 @@ fn is_opaque(found: &Value) -> bool
 }
 
 fn negation_of(operand: &Value) -> Value
-    ensures { view result ≡ shown (negated (value (view operand.now))) }
+    ensures { view result ≡ shown (negated (view operand.now)) }
 {
     match operand {
         Value::Bool(holds) => Value::Bool(!*holds),
@@ -201,7 +201,7 @@ fn negation_of(operand: &Value) -> Value
 }
 
 fn equality_of(left: &Value, right: &Value) -> Value
-    ensures { view result ≡ shown (compared (λ c. c) (view left.now) (view right.now)) }
+    ensures { view result ≡ shown (equal_values (view left.now) (view right.now)) }
 {
     if holds_opaque(left) || holds_opaque(right) {
         return Value::Opaque;
@@ -210,7 +210,7 @@ fn equality_of(left: &Value, right: &Value) -> Value
 }
 
 fn inequality_of(left: &Value, right: &Value) -> Value
-    ensures { view result ≡ shown (compared (λ c. not c) (view left.now) (view right.now)) }
+    ensures { view result ≡ shown (then_go (equal_values (view left.now) (view right.now)) negated) }
 {
     if holds_opaque(left) || holds_opaque(right) {
         return Value::Opaque;

@@ -1,38 +1,43 @@
 // The kind of an expression in an environment, and why it has none.
-ghost use Rattle.std.specs.Prelude.{◌≡◌, ◌∷◌, ℕ, List, IfOk, OnOk, MatchResult, Some, None, true, option_map, string_bytes};
+ghost use Rattle.std.specs.Prelude.{◌≡◌, ◌∷◌, ℕ, List, Bool, IfOk, OnOk, MatchResult, Some, None, not, true, option_map, string_bytes};
+ghost use Rattle.pb_semantics.specs.Kind.{Cases, never, booleans, lists, recs, results, spot, slot_at as spot_at, put_slot};
 ghost use Rattle.pb_semantics.specs.Data.{count_of};
-ghost use Rattle.pb_semantics.specs.Kind.{Cases, never, booleans, lists, recs, results, slot_at as spot_at, put_slot};
-ghost use Rattle.pb_semantics.specs.Join.{join as join_of};
-ghost use Rattle.pb_semantics.specs.Fit.{
-  unfit,
-  fits,
-  holds_any as any_in,
-  any_slot_holds,
-  any_case_holds,
-  where_certain,
-  perhaps_undefined,
-  kind_below,
+ghost use Rattle.pb_semantics.specs.Fit.{holds_any as any_in, any_slot_holds, any_case_holds};
+ghost use Rattle.pb_language.specs.Expression.{equal, variable};
+ghost use Rattle.pb_language.specs.Scope.{spot_kind};
+ghost use Rattle.pb_language.specs.Kinds.{
+  known_kind,
+  known_items,
+  known_slots,
+  path_spot,
+  count,
+  kind_of as kind_found,
+  items_kind,
+  parts_slots,
+  root_spot,
+};
+ghost use Rattle.pb_language.specs.Fit.{
+  wrong_kind,
+  first,
+  asks,
+  is_any as is_anything,
   is_boolean,
   is_text as is_textual,
-  on_fit,
-  asking,
-  compared_kinds,
-  is_any as is_anything,
-  found_kinds,
-  data_kind,
-  items_kind,
-  fields_kind,
-  length_of,
-  kind_of as kind_found,
-  chain_kind as chain_found,
-  joined_kind,
-  parts_kind,
+  can_compare,
+  can_find,
+  steps_fault,
+  fault,
+  read_fault,
+  chain_fault,
+  are_booleans,
+  items_fault,
+  fields_fault,
 };
 ghost use Rattle.pb_expr.specs.declared.fit.KindFault.TheVariants.{NoMemory};
 ghost use Rattle.pb_value.specs.KindView.{kind_view, slots_view, cases_view};
 ghost use Rattle.pb_value.specs.View.{view, items_view, fields_view};
 ghost use Rattle.pb_expr.specs.ExprView.{expr_view, exprs_view, parts_view, names_of};
-ghost use Rattle.pb_expr.specs.FitView.{Finds, fault_view, certain, part_found};
+ghost use Rattle.pb_expr.specs.FitView.{Finds, own_scope, fault_view, LeadsTo, certain, joined_onto};
 
 use crate::expr::{Expr, Path};
 use pb_value::below::find;
@@ -87,7 +92,7 @@ impl<T: Drop> From<AllocFailed<T>> for KindFault {
 /// form round them.
 #[cycle(kind_of)]
 pub fn kind_of(alloc: Global, expr: &Expr, slots: &Slots) -> Result<Kind, KindFault>
-    ensures { Finds result (kind_found (slots_view slots.now.entries) (expr_view expr.now)) }
+    ensures { Finds result (fault (own_scope (slots_view slots.now.entries)) (expr_view expr.now)) (kind_found (own_scope (slots_view slots.now.entries)) (expr_view expr.now)) }
 {
     match expr {
         Expr::Literal(known) => Ok(literal_kind(alloc, known)?),
@@ -120,7 +125,7 @@ pub fn kind_of(alloc: Global, expr: &Expr, slots: &Slots) -> Result<Kind, KindFa
 
 #[cycle(kind_of)]
 fn chain_kind(alloc: Global, operands: &Vec<Expr>, slots: &Slots) -> Result<Kind, KindFault>
-    ensures { Finds result (chain_found (slots_view slots.now.entries) (exprs_view operands.now.items)) }
+    ensures { (answer : Bool) → Finds result (first (chain_fault (own_scope (slots_view slots.now.entries)) (exprs_view operands.now.items) answer) (asks wrong_kind (are_booleans (own_scope (slots_view slots.now.entries)) (exprs_view operands.now.items) answer))) booleans }
 {
     let mut are_bool = true;
     for operand in operands {
@@ -132,13 +137,14 @@ fn chain_kind(alloc: Global, operands: &Vec<Expr>, slots: &Slots) -> Result<Kind
 
 #[cycle(kind_of)]
 fn list_kind(alloc: Global, items: &Vec<Expr>, slots: &Slots) -> Result<Kind, KindFault>
-    ensures { Finds result (on_fit (λ k. fits (lists k (length_of (exprs_view items.now.items)))) (joined_kind (slots_view slots.now.entries) never (exprs_view items.now.items))) }
+    ensures { Finds result (items_fault (own_scope (slots_view slots.now.entries)) (exprs_view items.now.items)) (lists (items_kind (own_scope (slots_view slots.now.entries)) (exprs_view items.now.items)) (count (exprs_view items.now.items))) }
 {
-    let mut joined = Kind::Never;
+    let mut kinds = Vec::new(alloc);
     for item in items {
         let kind = part_kind(alloc, item, slots)?;
-        joined = join(alloc, &joined, &kind)?;
+        kinds.push(kind)?;
     }
+    let joined = join_all(alloc, &kinds)?;
     Ok(Kind::List(Arc::new(alloc, joined)?, items.len()))
 }
 
@@ -148,7 +154,7 @@ fn record_kind(
     fields: &BTreeMap<String, Expr>,
     slots: &Slots,
 ) -> Result<Kind, KindFault>
-    ensures { Finds result (parts_kind (slots_view slots.now.entries) (parts_view fields.now.entries)) }
+    ensures { Finds result (fields_fault (own_scope (slots_view slots.now.entries)) (parts_view fields.now.entries)) (recs (parts_slots (own_scope (slots_view slots.now.entries)) (parts_view fields.now.entries))) }
 {
     let mut kinds = BTreeMap::new(alloc);
     for (name, field) in fields.iter() {
@@ -161,13 +167,24 @@ fn record_kind(
 // The kind of an item or a field, which isn't `Any`.
 #[cycle(kind_of)]
 fn part_kind(alloc: Global, expr: &Expr, slots: &Slots) -> Result<Kind, KindFault>
-    ensures { Finds result (part_found (kind_found (slots_view slots.now.entries) (expr_view expr.now))) }
+    ensures { Finds result (first (fault (own_scope (slots_view slots.now.entries)) (expr_view expr.now)) (asks wrong_kind (not (is_anything (kind_found (own_scope (slots_view slots.now.entries)) (expr_view expr.now)))))) (kind_found (own_scope (slots_view slots.now.entries)) (expr_view expr.now)) }
 {
     let kind = kind_of(alloc, expr, slots)?;
     if is_any(&kind) {
         return Err(KindFault::Unfit(Unfit::WrongKind));
     }
     Ok(kind)
+}
+
+// The least kind above all of these, from the last to the first.
+fn join_all(alloc: Global, kinds: &Vec<Kind>) -> Result<Kind, AllocError>
+    ensures { IfOk result (λ k. kind_view k ≡ joined_onto kinds.now.items never) }
+{
+    let mut joined = Kind::Never;
+    for index in (0..kinds.len()).rev() {
+        joined = join(alloc, &kinds[index], &joined)?;
+    }
+    Ok(joined)
 }
 
 fn put(kinds: &mut Slots, name: String, kind: Kind) -> Result<(), AllocError>
@@ -184,7 +201,7 @@ fn put(kinds: &mut Slots, name: String, kind: Kind) -> Result<(), AllocError>
 }
 
 fn path_kind(path: &Path, slots: &Slots) -> Result<Kind, KindFault>
-    ensures { Finds result (where_certain perhaps_undefined (λ k. kind_below (names_of path.now.steps.items) k) (spot_at (string_bytes path.now.root) (slots_view slots.now.entries))) }
+    ensures { let root = variable (string_bytes path.now.root) in let names = names_of path.now.steps.items in Finds result (first (read_fault (own_scope (slots_view slots.now.entries)) root) (steps_fault names (spot_kind (root_spot (own_scope (slots_view slots.now.entries)) root)))) (spot_kind (path_spot names (root_spot (own_scope (slots_view slots.now.entries)) root))) }
 {
     match certain_kind(slots, path.root.as_str()) {
         Some(kind) => inner_kind(kind, &path.steps),
@@ -194,7 +211,7 @@ fn path_kind(path: &Path, slots: &Slots) -> Result<Kind, KindFault>
 
 // The kind at the end of the steps.
 fn inner_kind(outer: &Kind, steps: &Vec<String>) -> Result<Kind, KindFault>
-    ensures { Finds result (kind_below (names_of steps.now.items) (kind_view outer.now)) }
+    ensures { Finds result (steps_fault (names_of steps.now.items) (kind_view outer.now)) (spot_kind (path_spot (names_of steps.now.items) (spot true (kind_view outer.now)))) }
 {
     let mut here = outer;
     for step in steps {
@@ -209,8 +226,8 @@ fn inner_kind(outer: &Kind, steps: &Vec<String>) -> Result<Kind, KindFault>
 // The kind of a field, `Never` in `Never`.
 fn kind_in<'k>(outer: &'k Kind, name: &str) -> Result<&'k Kind, Unfit>
     ensures { MatchResult result
-        (λ k. (ns : List (List ℕ)) → kind_below (name.now ∷ ns) (kind_view outer.now) ≡ kind_below ns (kind_view k.now))
-        (λ u. (ns : List (List ℕ)) → kind_below (name.now ∷ ns) (kind_view outer.now) ≡ unfit (fault_view u)) }
+        (λ k. (ns : List (List ℕ)) → LeadsTo (name.now ∷ ns) (kind_view outer.now) ns (kind_view k.now))
+        (λ u. (ns : List (List ℕ)) → steps_fault (name.now ∷ ns) (kind_view outer.now) ≡ Some (fault_view u)) }
 {
     match outer {
         Kind::Never => Ok(outer),
@@ -223,8 +240,8 @@ fn kind_in<'k>(outer: &'k Kind, name: &str) -> Result<&'k Kind, Unfit>
 // The kind of a field of what is known of all cases of a result.
 fn kind_in_record<'k>(record: &'k Kind, name: &str) -> Result<&'k Kind, Unfit>
     ensures { MatchResult result
-        (λ k. (ns : List (List ℕ)) (cs : Cases) → kind_below (name.now ∷ ns) (results cs (kind_view record.now)) ≡ kind_below ns (kind_view k.now))
-        (λ u. (ns : List (List ℕ)) (cs : Cases) → kind_below (name.now ∷ ns) (results cs (kind_view record.now)) ≡ unfit (fault_view u)) }
+        (λ k. (ns : List (List ℕ)) (cs : Cases) → LeadsTo (name.now ∷ ns) (results cs (kind_view record.now)) ns (kind_view k.now))
+        (λ u. (ns : List (List ℕ)) (cs : Cases) → steps_fault (name.now ∷ ns) (results cs (kind_view record.now)) ≡ Some (fault_view u)) }
 {
     match record {
         Kind::Never => Ok(record),
@@ -258,7 +275,7 @@ fn certain_kind<'k>(slots: &'k Slots, name: &str) -> Option<&'k Kind>
 
 // The kind of a form whose operands are as it asks.
 fn asked(is_fit: bool) -> Result<Kind, KindFault>
-    ensures { Finds result (asking is_fit booleans) }
+    ensures { Finds result (asks wrong_kind is_fit) booleans }
 {
     if is_fit {
         Ok(Kind::Bool)
@@ -268,14 +285,14 @@ fn asked(is_fit: bool) -> Result<Kind, KindFault>
 }
 
 fn negation_kind(operand: &Kind) -> Result<Kind, KindFault>
-    ensures { Finds result (asking (is_boolean (kind_view operand.now)) booleans) }
+    ensures { Finds result (asks wrong_kind (is_boolean (kind_view operand.now))) booleans }
 {
     asked(is_bool(operand))
 }
 
 // What `==` and `!=` give between operands of these kinds.
 fn comparison_kind(left: &Kind, right: &Kind) -> Result<Kind, KindFault>
-    ensures { Finds result (compared_kinds (kind_view left.now) (kind_view right.now)) }
+    ensures { Finds result (asks wrong_kind (can_compare equal (kind_view left.now) (kind_view right.now))) booleans }
 {
     if holds_any(left) || holds_any(right) {
         return Err(KindFault::Unfit(Unfit::WrongKind));
@@ -285,7 +302,7 @@ fn comparison_kind(left: &Kind, right: &Kind) -> Result<Kind, KindFault>
 
 // What `in` gives between operands of these kinds.
 fn membership_kind(part: &Kind, whole: &Kind) -> Result<Kind, KindFault>
-    ensures { Finds result (found_kinds (kind_view part.now) (kind_view whole.now)) }
+    ensures { Finds result (asks wrong_kind (can_find (kind_view part.now) (kind_view whole.now))) booleans }
 {
     match whole {
         Kind::Never => asked(!is_any(part)),
@@ -366,7 +383,7 @@ fn cases_hold_any(cases: &Vec<Case<Kind>>) -> bool
 // The kind of a value that is known.
 #[cycle(literal_kind)]
 fn literal_kind(alloc: Global, known: &Value) -> Result<Kind, AllocError>
-    ensures { IfOk result (λ k. kind_view k ≡ data_kind (view known.now)) }
+    ensures { IfOk result (λ k. kind_view k ≡ known_kind (view known.now)) }
 {
     match known {
         Value::Null => Ok(Kind::Null),
@@ -381,19 +398,19 @@ fn literal_kind(alloc: Global, known: &Value) -> Result<Kind, AllocError>
 
 #[cycle(literal_kind)]
 fn literal_items(alloc: Global, items: &Vec<Value>) -> Result<Kind, AllocError>
-    ensures { IfOk result (λ k. kind_view k ≡ lists (items_kind never (items_view items.now.items)) (count_of (items_view items.now.items))) }
+    ensures { IfOk result (λ k. kind_view k ≡ lists (known_items (items_view items.now.items)) (count_of (items_view items.now.items))) }
 {
     let mut joined = Kind::Never;
-    for item in items {
-        let kind = literal_kind(alloc, item)?;
-        joined = join(alloc, &joined, &kind)?;
+    for index in (0..items.len()).rev() {
+        let kind = literal_kind(alloc, &items[index])?;
+        joined = join(alloc, &kind, &joined)?;
     }
     Ok(Kind::List(Arc::new(alloc, joined)?, items.len()))
 }
 
 #[cycle(literal_kind)]
 fn literal_fields(alloc: Global, fields: &Fields) -> Result<Kind, AllocError>
-    ensures { IfOk result (λ k. kind_view k ≡ recs (fields_kind (fields_view fields.now.entries))) }
+    ensures { IfOk result (λ k. kind_view k ≡ recs (known_slots (fields_view fields.now.entries))) }
 {
     let mut kinds = BTreeMap::new(alloc);
     for (name, field) in fields.iter() {

@@ -32,3 +32,4 @@ pub mod Least
 pub mod Short
 pub mod Certain
 pub mod PlainPass
+pub mod Untaught

@@ -11,11 +11,11 @@ use Rattle.pb_language.specs.Expression.{Name}
 use Rattle.pb_language.specs.Evaluation.{holds_opaque, any_item_opaque, any_field_opaque}
 use Rattle.pb_language.proofs.WithSlot.{record_models}
 
-neither-left : (a b : Bool) → a || b ≡ false → a ≡ false
+pub neither-left : (a b : Bool) → a || b ≡ false → a ≡ false
 neither-left true b h = h
 neither-left false b h = refl
 
-neither-right : (a b : Bool) → a || b ≡ false → b ≡ false
+pub neither-right : (a b : Bool) → a || b ≡ false → b ≡ false
 neither-right true b h = untrue (sym h)
 neither-right false b h = h
 

@@ -3,128 +3,136 @@ use Rattle.std.specs.List.Sorted.{IsStrictlySortedBy}
 use Rattle.std.specs.Map.{keys_of}
 use Rattle.std.specs.String.{string_cmp}
 use Rattle.pb_semantics.specs.Data.{field, no_fields}
-use Rattle.pb_semantics.specs.Eval.{shown, eval_of, eval_all, eval_any, eval_items, eval_parts}
+use Rattle.pb_language.specs.Evaluation.{eval, eval_all, eval_any, eval_items, eval_parts}
 use Rattle.pb_value.specs.View.{view, items_view, fields_view, fields_of}
 use Rattle.pb_value.proofs.Fields.{put_last}
 use Rattle.pb_expr.specs.ExprView.{expr_view, exprs_view, parts_view}
+use Rattle.pb_expr.specs.OwnWorld.{shown}
 use Rattle.pb_expr.specs.declared.expr.Expr.{Expr}
-use Rattle.pb_expr.proofs.Outcomes.{compared-by, found-by, after_items, after_fields, append_fields, fields-end}
-use Rattle.pb_expr.proofs.Exprs.{view-Bool, view-Opaque, view-Equal, view-Unequal, view-In}
+use Rattle.pb_expr.proofs.Outcomes.{negated-by, equal-by, unequal-by, found-by, after_items, after_fields, append_fields, fields-end}
+use Rattle.pb_expr.proofs.Exprs.{view-Bool, view-Opaque, view-Not, view-Equal, view-Unequal, view-In}
 use Rattle.pb_expr.proofs.Turns.{all-turn, all-done, any-turn, any-done, list-turn, list-spoilt, list-done, record-turn, record-spoilt, fields-last}
 use Rattle.pb_expr.proofs.eval.+eval.Goals as goal
 
 pub all_of-loop-operand-preserved : goal.all_of-loop-operand-preserved
 all_of-loop-operand-preserved g t c =
     c.loop-operand.invariant
-    ∙ all-turn (g.V.Vars.holds c.args.vars.now) c.deref-operand-items.result.now c.loop-operand.operand-index c.operand-item.result c.in_ok-found.found c.truth_of.result
+    ∙ all-turn (g.V.Vars.world c.args.vars.now) c.deref-operand-items.result.now c.loop-operand.operand-index c.operand-item.result c.in_ok-found.found c.truth_of.result
     c.loop-operand-test.true c.operand-item.is c.in_ok-found.ensures c.truth_of.ensures (c.in-Some-true.is ∙ ap Some c.in-Some-true.field-0-test)
 
 pub all_of-returns : goal.all_of-returns
 all_of-returns g t c =
-    let held = g.V.Vars.holds c.args.vars.now in
+    let w = g.V.Vars.world c.args.vars.now in
     view-Bool true
-    ∙ sym (ap (λ xs. shown (eval_all held (exprs_view xs))) (sym c.deref-operand-items.ensures.value) ∙ ap shown c.loop-operand.invariant
-    ∙ all-done held c.deref-operand-items.result.now c.loop-operand.operand-index c.loop-operand-test.false)
+    ∙ sym (ap (λ xs. shown (eval_all w (exprs_view xs))) (sym c.deref-operand-items.ensures.value) ∙ ap shown c.loop-operand.invariant
+    ∙ all-done w c.deref-operand-items.result.now c.loop-operand.operand-index c.loop-operand-test.false)
 
 pub any_of-loop-operand-preserved : goal.any_of-loop-operand-preserved
 any_of-loop-operand-preserved g t c =
     c.loop-operand.invariant
-    ∙ any-turn (g.V.Vars.holds c.args.vars.now) c.deref-operand-items.result.now c.loop-operand.operand-index c.operand-item.result c.in_ok-found.found c.truth_of.result
+    ∙ any-turn (g.V.Vars.world c.args.vars.now) c.deref-operand-items.result.now c.loop-operand.operand-index c.operand-item.result c.in_ok-found.found c.truth_of.result
     c.loop-operand-test.true c.operand-item.is c.in_ok-found.ensures c.truth_of.ensures (c.in-Some-false.is ∙ ap Some c.in-Some-false.field-0-test)
 
 pub any_of-returns : goal.any_of-returns
 any_of-returns g t c =
-    let held = g.V.Vars.holds c.args.vars.now in
+    let w = g.V.Vars.world c.args.vars.now in
     view-Bool false
-    ∙ sym (ap (λ xs. shown (eval_any held (exprs_view xs))) (sym c.deref-operand-items.ensures.value) ∙ ap shown c.loop-operand.invariant
-    ∙ any-done held c.deref-operand-items.result.now c.loop-operand.operand-index c.loop-operand-test.false)
+    ∙ sym (ap (λ xs. shown (eval_any w (exprs_view xs))) (sym c.deref-operand-items.ensures.value) ∙ ap shown c.loop-operand.invariant
+    ∙ any-done w c.deref-operand-items.result.now c.loop-operand.operand-index c.loop-operand-test.false)
+
+pub eval-returns-in_ok-operand-in-Not : goal.eval-returns-in_ok-operand-in-Not
+eval-returns-in_ok-operand-in-Not g t c =
+    let w = g.V.Vars.world c.args.vars.now in
+    let p = c.in-Not in
+    rw (p.is, view-Not p.operand) (negated-by (view c.negation_of.result) (view c.in_ok-operand-in-Not.operand) (eval w (expr_view p.operand.value)) c.negation_of.ensures
+    (c.in_ok-operand-in-Not.ensures ∙ ap (λ e. shown (eval w (expr_view e))) c.deref.ensures))
 
 pub eval-returns-in_ok-right-in-Equal : goal.eval-returns-in_ok-right-in-Equal
 eval-returns-in_ok-right-in-Equal g t c =
-    let held = g.V.Vars.holds c.args.vars.now in
+    let w = g.V.Vars.world c.args.vars.now in
     let p = c.in-Equal in
-    rw (p.is, view-Equal p.left p.right) (compared-by (λ b. b) (view c.equality_of.result) (view c.in_ok-left-in-Equal.left) (view c.in_ok-right-in-Equal.right)
-    (eval_of held (expr_view p.left.value)) (eval_of held (expr_view p.right.value)) c.equality_of.ensures
-    (c.in_ok-left-in-Equal.ensures ∙ ap (λ e. shown (eval_of held (expr_view e))) c.deref-in-Equal.ensures)
-    (c.in_ok-right-in-Equal.ensures ∙ ap (λ e. shown (eval_of held (expr_view e))) c.deref-in-Equal-2.ensures))
+    rw (p.is, view-Equal p.left p.right) (equal-by (view c.equality_of.result) (view c.in_ok-left-in-Equal.left) (view c.in_ok-right-in-Equal.right)
+    (eval w (expr_view p.left.value)) (eval w (expr_view p.right.value)) c.equality_of.ensures
+    (c.in_ok-left-in-Equal.ensures ∙ ap (λ e. shown (eval w (expr_view e))) c.deref-in-Equal.ensures)
+    (c.in_ok-right-in-Equal.ensures ∙ ap (λ e. shown (eval w (expr_view e))) c.deref-in-Equal-2.ensures))
 
 pub eval-returns-in_ok-right-in-Unequal : goal.eval-returns-in_ok-right-in-Unequal
 eval-returns-in_ok-right-in-Unequal g t c =
-    let held = g.V.Vars.holds c.args.vars.now in
+    let w = g.V.Vars.world c.args.vars.now in
     let p = c.in-Unequal in
-    rw (p.is, view-Unequal p.left p.right) (compared-by (λ b. not b) (view c.inequality_of.result) (view c.in_ok-left-in-Unequal.left) (view c.in_ok-right-in-Unequal.right)
-    (eval_of held (expr_view p.left.value)) (eval_of held (expr_view p.right.value)) c.inequality_of.ensures
-    (c.in_ok-left-in-Unequal.ensures ∙ ap (λ e. shown (eval_of held (expr_view e))) c.deref-in-Unequal.ensures)
-    (c.in_ok-right-in-Unequal.ensures ∙ ap (λ e. shown (eval_of held (expr_view e))) c.deref-in-Unequal-2.ensures))
+    rw (p.is, view-Unequal p.left p.right) (unequal-by (view c.inequality_of.result) (view c.in_ok-left-in-Unequal.left) (view c.in_ok-right-in-Unequal.right)
+    (eval w (expr_view p.left.value)) (eval w (expr_view p.right.value)) c.inequality_of.ensures
+    (c.in_ok-left-in-Unequal.ensures ∙ ap (λ e. shown (eval w (expr_view e))) c.deref-in-Unequal.ensures)
+    (c.in_ok-right-in-Unequal.ensures ∙ ap (λ e. shown (eval w (expr_view e))) c.deref-in-Unequal-2.ensures))
 
 pub eval-returns-in_ok-whole-in-In : goal.eval-returns-in_ok-whole-in-In
 eval-returns-in_ok-whole-in-In g t c =
-    let held = g.V.Vars.holds c.args.vars.now in
+    let w = g.V.Vars.world c.args.vars.now in
     let p = c.in-In in
     rw (p.is, view-In p.part p.whole) (found-by (view c.membership_of.result) (view c.in_ok-part-in-In.part) (view c.in_ok-whole-in-In.whole)
-    (eval_of held (expr_view p.part.value)) (eval_of held (expr_view p.whole.value)) c.membership_of.ensures
-    (c.in_ok-part-in-In.ensures ∙ ap (λ e. shown (eval_of held (expr_view e))) c.deref-in-In.ensures)
-    (c.in_ok-whole-in-In.ensures ∙ ap (λ e. shown (eval_of held (expr_view e))) c.deref-in-In-2.ensures))
+    (eval w (expr_view p.part.value)) (eval w (expr_view p.whole.value)) c.membership_of.ensures
+    (c.in_ok-part-in-In.ensures ∙ ap (λ e. shown (eval w (expr_view e))) c.deref-in-In.ensures)
+    (c.in_ok-whole-in-In.ensures ∙ ap (λ e. shown (eval w (expr_view e))) c.deref-in-In-2.ensures))
 
 pub list_of-returns-then-is_opaque : goal.list_of-returns-then-is_opaque
 list_of-returns-then-is_opaque g t c =
-    let held = g.V.Vars.holds c.args.vars.now in
+    let w = g.V.Vars.world c.args.vars.now in
     view-Opaque
-    ∙ sym (ap (λ xs. shown (eval_items held (exprs_view xs))) (sym c.deref-item-items.ensures.value) ∙ ap shown c.loop-item.invariant
-    ∙ list-spoilt held c.deref-item-items.result.now c.loop-item.values.items c.loop-item.item-index c.item-item.result c.in_ok-found.found c.is_opaque.result
+    ∙ sym (ap (λ xs. shown (eval_items w (exprs_view xs))) (sym c.deref-item-items.ensures.value) ∙ ap shown c.loop-item.invariant
+    ∙ list-spoilt w c.deref-item-items.result.now c.loop-item.values.items c.loop-item.item-index c.item-item.result c.in_ok-found.found c.is_opaque.result
     c.loop-item-test.true c.item-item.is c.in_ok-found.ensures c.is_opaque.ensures c.if-is_opaque.true)
 
 pub list_of-loop-item-preserved : goal.list_of-loop-item-preserved
 list_of-loop-item-preserved g t c =
-    let held = g.V.Vars.holds c.args.vars.now in
+    let w = g.V.Vars.world c.args.vars.now in
     let items = c.deref-item-items.result.now in
     c.loop-item.invariant
-    ∙ list-turn held items c.loop-item.values.items c.loop-item.item-index c.item-item.result c.in_ok-found.found c.is_opaque.result
+    ∙ list-turn w items c.loop-item.values.items c.loop-item.item-index c.item-item.result c.in_ok-found.found c.is_opaque.result
     c.loop-item-test.true c.item-item.is c.in_ok-found.ensures c.is_opaque.ensures c.if-is_opaque.false
-    ∙ ap (λ vs. after_items (items_view vs) (eval_items held (exprs_view (drop (c.loop-item.item-index + 1) items)))) (sym c.in_ok-push.ensures.items)
+    ∙ ap (λ vs. after_items (items_view vs) (eval_items w (exprs_view (drop (c.loop-item.item-index + 1) items)))) (sym c.in_ok-push.ensures.items)
 
 pub list_of-returns : goal.list_of-returns
 list_of-returns g t c =
-    let held = g.V.Vars.holds c.args.vars.now in
+    let w = g.V.Vars.world c.args.vars.now in
     c.in_ok-of_items.ensures
-    ∙ sym (ap (λ xs. shown (eval_items held (exprs_view xs))) (sym c.deref-item-items.ensures.value) ∙ ap shown c.loop-item.invariant
-    ∙ list-done held c.deref-item-items.result.now c.loop-item.values.items c.loop-item.item-index c.loop-item-test.false)
+    ∙ sym (ap (λ xs. shown (eval_items w (exprs_view xs))) (sym c.deref-item-items.ensures.value) ∙ ap shown c.loop-item.invariant
+    ∙ list-done w c.deref-item-items.result.now c.loop-item.values.items c.loop-item.item-index c.loop-item-test.false)
 
 pub record_of-returns-then-is_opaque : goal.record_of-returns-then-is_opaque
 record_of-returns-then-is_opaque g t c =
-    let held = g.V.Vars.holds c.args.vars.now in
+    let w = g.V.Vars.world c.args.vars.now in
     let e : String Global × Expr = (c.in-Some.name.now, c.in-Some.field.now) in
     let fs = fields_view c.loop-name.values.entries in
     view-Opaque
-    ∙ sym (ap shown (c.loop-name.invariant.3 ∙ ap (λ xs. after_fields fs (eval_parts held (parts_view xs))) c.in-Some.ensures.steps)
-    ∙ record-spoilt held fs e c.next.new.self c.in_ok-found.found c.is_opaque.result c.in_ok-found.ensures c.is_opaque.ensures c.if-is_opaque.true)
+    ∙ sym (ap shown (c.loop-name.invariant.3 ∙ ap (λ xs. after_fields fs (eval_parts w (parts_view xs))) c.in-Some.ensures.steps)
+    ∙ record-spoilt w fs e c.next.new.self c.in_ok-found.found c.is_opaque.result c.in_ok-found.ensures c.is_opaque.ensures c.if-is_opaque.true)
 
 pub record_of-loop-name-preserved : goal.record_of-loop-name-preserved
 record_of-loop-name-preserved g t c =
-    let held = g.V.Vars.holds c.args.vars.now in
+    let w = g.V.Vars.world c.args.vars.now in
     let inv = c.loop-name.invariant in
     let done = inv.0 in
     let e : String Global × Expr = (c.in-Some.name.now, c.in-Some.field.now) in
     let left = c.next.new.self in
     let fs = fields_view c.loop-name.values.entries in
     let all : c.args.fields.now.entries ≡ done ++ e ∷ left = inv.1 ∙ ap (λ es. done ++ es) c.in-Some.ensures.steps in
-    let last = put_last (λ x. shown (eval_of held (expr_view x))) done e left (subst (λ es. IsStrictlySortedBy string_cmp (keys_of es)) all c.iter-name-items.ensures.ordered) in
+    let last = put_last (λ x. shown (eval w (expr_view x))) done e left (subst (λ es. IsStrictlySortedBy string_cmp (keys_of es)) all c.iter-name-items.ensures.ordered) in
     let named : string_bytes c.in_ok-clone.field-0 ≡ string_bytes e.0 = c.in_ok-clone.ensures.cases in
-    let stored : fields_view c.put.new.fields.entries ≡ fields_of (map (λ m. (m.0, shown (eval_of held (expr_view m.1)))) (done ++ e ∷ [])) =
+    let stored : fields_view c.put.new.fields.entries ≡ fields_of (map (λ m. (m.0, shown (eval w (expr_view m.1)))) (done ++ e ∷ [])) =
     c.in_ok-put.ensures ∙ rw (named, c.in_ok-found.ensures, inv.2) last in (
       done ++ e ∷ [],
       all ∙ sym (append_assoc done (e ∷ []) left),
       stored,
-      inv.3 ∙ ap (λ xs. after_fields fs (eval_parts held (parts_view xs))) c.in-Some.ensures.steps
-          ∙ record-turn held fs e left c.in_ok-found.found c.is_opaque.result c.in_ok-found.ensures c.is_opaque.ensures c.if-is_opaque.false
-          ∙ ap (λ x. after_fields x (eval_parts held (parts_view left)))
-          (ap (λ x. append_fields x (field (string_bytes e.0) (shown (eval_of held (expr_view e.1))) no_fields)) inv.2 ∙ fields-last (λ x. shown (eval_of held (expr_view x))) done e ∙ sym stored),
+      inv.3 ∙ ap (λ xs. after_fields fs (eval_parts w (parts_view xs))) c.in-Some.ensures.steps
+          ∙ record-turn w fs e left c.in_ok-found.found c.is_opaque.result c.in_ok-found.ensures c.is_opaque.ensures c.if-is_opaque.false
+          ∙ ap (λ x. after_fields x (eval_parts w (parts_view left)))
+          (ap (λ x. append_fields x (field (string_bytes e.0) (shown (eval w (expr_view e.1))) no_fields)) inv.2 ∙ fields-last (λ x. shown (eval w (expr_view x))) done e ∙ sym stored),
     )
 
 pub record_of-returns : goal.record_of-returns
 record_of-returns g t c =
-    let held = g.V.Vars.holds c.args.vars.now in
+    let w = g.V.Vars.world c.args.vars.now in
     let fs = fields_view c.loop-name.values.entries in
     let nil : c.loop-name.name-iterator ≡ [] = (c.in-None.ensures).steps.0 in
     c.in_ok-of_fields.ensures
-    ∙ sym (ap shown (c.loop-name.invariant.3 ∙ ap (λ xs. after_fields fs (eval_parts held (parts_view xs))) nil ∙ fields-end fs))
+    ∙ sym (ap shown (c.loop-name.invariant.3 ∙ ap (λ xs. after_fields fs (eval_parts w (parts_view xs))) nil ∙ fields-end fs))

@@ -1,25 +1,26 @@
 use Rattle.std.proofs.Common.{◌≡◌, ◌++◌, List, map, drop, String, Global}
-use Rattle.pb_semantics.specs.Eval.{eval_of, eval_all, eval_any, eval_items, eval_parts, shown}
+use Rattle.pb_language.specs.Evaluation.{eval, eval_all, eval_any, eval_items, eval_parts}
 use Rattle.pb_value.specs.View.{items_view, fields_view, fields_of}
 use Rattle.pb_expr.specs.ExprView.{expr_view, exprs_view, parts_view}
+use Rattle.pb_expr.specs.OwnWorld.{shown}
 use Rattle.pb_expr.specs.declared.expr.Expr.{Expr}
 use Rattle.pb_expr.proofs.Outcomes.{after_items, after_fields}
 use Rattle.pb_expr.proofs.eval.+eval.Given as goal
 
 abbrev pub invariant-all_of-loop-operand : goal.invariant-all_of-loop-operand
 invariant-all_of-loop-operand g l =
-    eval_all (g.V.Vars.holds l.vars) (exprs_view l.operand-items) ≡ eval_all (g.V.Vars.holds l.vars) (exprs_view (drop l.operand-index l.operand-items))
+    eval_all (g.V.Vars.world l.vars) (exprs_view l.operand-items) ≡ eval_all (g.V.Vars.world l.vars) (exprs_view (drop l.operand-index l.operand-items))
 
 abbrev pub invariant-any_of-loop-operand : goal.invariant-any_of-loop-operand
 invariant-any_of-loop-operand g l =
-    eval_any (g.V.Vars.holds l.vars) (exprs_view l.operand-items) ≡ eval_any (g.V.Vars.holds l.vars) (exprs_view (drop l.operand-index l.operand-items))
+    eval_any (g.V.Vars.world l.vars) (exprs_view l.operand-items) ≡ eval_any (g.V.Vars.world l.vars) (exprs_view (drop l.operand-index l.operand-items))
 
 abbrev pub invariant-list_of-loop-item : goal.invariant-list_of-loop-item
 invariant-list_of-loop-item g l =
-    eval_items (g.V.Vars.holds l.vars) (exprs_view l.item-items) ≡ after_items (items_view l.values.items) (eval_items (g.V.Vars.holds l.vars) (exprs_view (drop l.item-index l.item-items)))
+    eval_items (g.V.Vars.world l.vars) (exprs_view l.item-items) ≡ after_items (items_view l.values.items) (eval_items (g.V.Vars.world l.vars) (exprs_view (drop l.item-index l.item-items)))
 
 abbrev pub invariant-record_of-loop-name : goal.invariant-record_of-loop-name
 invariant-record_of-loop-name g l =
     (done : List (String Global × Expr)) × (l.fields.entries ≡ done ++ l.name-iterator)
-    × (fields_view l.values.entries ≡ fields_of (map (λ m. (m.0, shown (eval_of (g.V.Vars.holds l.vars) (expr_view m.1)))) done))
-    × (eval_parts (g.V.Vars.holds l.vars) (parts_view l.fields.entries) ≡ after_fields (fields_view l.values.entries) (eval_parts (g.V.Vars.holds l.vars) (parts_view l.name-iterator)))
+    × (fields_view l.values.entries ≡ fields_of (map (λ m. (m.0, shown (eval (g.V.Vars.world l.vars) (expr_view m.1)))) done))
+    × (eval_parts (g.V.Vars.world l.vars) (parts_view l.fields.entries) ≡ after_fields (fields_view l.values.entries) (eval_parts (g.V.Vars.world l.vars) (parts_view l.name-iterator)))

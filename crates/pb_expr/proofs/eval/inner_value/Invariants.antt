@@ -1,5 +1,5 @@
 use Rattle.std.proofs.Common.{◌≡◌, drop}
-use Rattle.pb_semantics.specs.Eval.{value_below}
+use Rattle.pb_language.specs.Evaluation.{value_below}
 use Rattle.pb_value.specs.View.{view}
 use Rattle.pb_expr.specs.ExprView.{names_of}
 use Rattle.pb_expr.proofs.eval.inner_value.Given as goal

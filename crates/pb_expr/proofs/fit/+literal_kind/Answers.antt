@@ -1,17 +1,15 @@
-use Rattle.std.proofs.Common.{◌≡◌, [], ◌∷◌, ◌++◌, length, String, Global, string_bytes, sym, ap, ◌∙◌, subst, append_assoc, arith}
-use Rattle.std.proofs.lemmas.List.{append-nil, drop_all}
-use Rattle.std.specs.List.Sorted.{IsStrictlySortedBy}
-use Rattle.std.specs.Map.{keys_of}
-use Rattle.std.specs.String.{string_cmp}
+use Rattle.std.proofs.Common.{◌≡◌, [], ◌∷◌, ◌++◌, drop, String, Global, string_bytes, sym, ap, ◌∙◌, subst, append_assoc, arith}
+use Rattle.std.proofs.lemmas.List.{append-nil}
 use Rattle.pb_semantics.specs.Data.{count_of}
-use Rattle.pb_semantics.specs.Kind.{never, lists, recs}
-use Rattle.pb_semantics.specs.Fit.{data_kind, items_kind}
+use Rattle.pb_semantics.specs.Kind.{lists, recs}
+use Rattle.pb_language.specs.Kinds.{known_kind, known_items}
 use Rattle.pb_value.specs.View.{view, items_view}
 use Rattle.pb_value.specs.KindView.{kind_view, slots_view}
 use Rattle.pb_value.specs.declared.value.Value.{Value}
 use Rattle.pb_value.proofs.Fields.{count_of-items_view}
 use Rattle.pb_value.proofs.Views.{kind_view-List, kind_view-Rec}
-use Rattle.pb_expr.proofs.Findings.{slots_from, slots_from-fields, put_slot-last}
+use Rattle.pb_expr.proofs.Ascending.{Ascending}
+use Rattle.pb_expr.proofs.Records.{slots_from, put_slot-last, known_slots-ascending}
 use Rattle.pb_expr.proofs.fit.+literal_kind.Goals as goal
 
 pub literal_fields-loop-name-preserved : goal.literal_fields-loop-name-preserved
@@ -21,7 +19,7 @@ literal_fields-loop-name-preserved t c =
     let e : String Global × Value = (c.in-Some.name.now, c.in-Some.field.now) in
     let left = c.next.new.self in
     let all : c.args.fields.now.entries ≡ done ++ e ∷ left = inv.1 ∙ ap (λ es. done ++ es) c.in-Some.ensures.steps in
-    let last = put_slot-last (λ v. data_kind (view v)) done e left (subst (λ es. IsStrictlySortedBy string_cmp (keys_of es)) all c.iter-name-items.ensures.ordered) in
+    let last = put_slot-last (λ v. known_kind (view v)) done e left (subst (λ es. Ascending es) all c.iter-name-items.ensures.ordered) in
     let named : string_bytes c.in_ok-clone.field-0 ≡ string_bytes e.0 = c.in_ok-clone.ensures.cases in (
       done ++ e ∷ [],
       all ∙ sym (append_assoc done (e ∷ []) left),
@@ -34,16 +32,12 @@ literal_fields-returns t c =
     let nil : c.loop-name.name-iterator ≡ [] = (c.in-None.ensures).steps.0 in
     let whole : c.args.fields.now.entries ≡ inv.0 = inv.1 ∙ ap (λ es. inv.0 ++ es) nil ∙ append-nil inv.0 in
     kind_view-Rec c.in_ok-new.field-0 ∙ ap (λ m. recs (slots_view m.entries)) c.in_ok-new.ensures.ok
-    ∙ ap recs (inv.2 ∙ ap (slots_from (λ v. data_kind (view v))) (sym whole) ∙ slots_from-fields c.args.fields.now.entries)
+    ∙ ap recs (inv.2 ∙ ap (slots_from (λ v. known_kind (view v))) (sym whole) ∙ sym (known_slots-ascending c.args.fields.now.entries c.iter-name-items.ensures.ordered))
 
 pub literal_items-returns : goal.literal_items-returns
 literal_items-returns t c =
-    let items = c.deref-item-items.result.now in
-    let size : c.len.result ≡ count_of (items_view c.args.items.now.items) =
-    omega (arith, c.len.ensures, c.deref-item-items.ensures.len, ap length c.deref-item-items.ensures.value, count_of-items_view c.args.items.now.items) in
-    let joined : items_kind never (items_view c.args.items.now.items) ≡ kind_view c.loop-item.joined =
-    ap (λ vs. items_kind never (items_view vs)) (sym c.deref-item-items.ensures.value) ∙ c.loop-item.invariant
-    ∙ ap (λ vs. items_kind (kind_view c.loop-item.joined) (items_view vs)) (drop_all c.loop-item.item-index items c.loop-item-test.false) in
+    let size : c.len.result ≡ count_of (items_view c.args.items.now.items) = omega (arith, c.len.ensures, count_of-items_view c.args.items.now.items) in
+    let first : c.loop-index.index ≡ 0 = omega arith in
     kind_view-List c.in_ok-new.field-0 c.len.result
-    ∙ ap (λ k. lists k c.len.result) (ap kind_view c.in_ok-new.ensures.ok ∙ sym joined)
-    ∙ ap (lists (items_kind never (items_view c.args.items.now.items))) size
+    ∙ ap (λ k. lists k c.len.result) (ap kind_view c.in_ok-new.ensures.ok ∙ c.loop-index.invariant ∙ ap (λ i. known_items (items_view (drop i c.args.items.now.items))) first)
+    ∙ ap (lists (known_items (items_view c.args.items.now.items))) size

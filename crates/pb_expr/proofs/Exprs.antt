@@ -1,24 +1,16 @@
 -- The layers of values and of expressions.
-use Rattle.std.proofs.Common.{◌≡◌, Bool, Box, String, Global, string_bytes, rules}
-use Rattle.std.specs.declared.sync.Arc.{Arc}
-use Rattle.pb_semantics.specs.Data.{boolean, text, opaque}
+use Rattle.std.proofs.Common.{◌≡◌, Bool, Box, Global, rules}
+use Rattle.pb_semantics.specs.Data.{boolean, opaque}
 use Rattle.pb_language.specs.Expression.{equal, negation, comparison, membership}
 use Rattle.pb_value.specs.View.{view}
 use Rattle.pb_value.specs.declared.value.Value as Value-of
 use Rattle.pb_value.specs.declared.value.Value.{the_lemmas as value_lemmas}
-use Rattle.pb_semantics.specs.Kind.{never, anything}
-use Rattle.pb_value.specs.KindView.{kind_view}
-use Rattle.pb_value.specs.declared.kind.Kind as Kind-of
-use Rattle.pb_value.specs.declared.kind.Kind.{the_lemmas as kind_lemmas}
 use Rattle.pb_expr.specs.ExprView.{expr_view}
 use Rattle.pb_expr.specs.declared.expr.Expr.{Expr, the_lemmas}
 use Rattle.pb_expr.specs.declared.expr.Expr as Expr-of
 
 pub view-Bool : (b : Bool) → view (Value-of.Bool b) ≡ boolean b
 view-Bool b = search (rules, value_lemmas)
-
-pub view-Text : (s : Arc (String Global) Global) → view (Value-of.Text s) ≡ text (string_bytes s.value)
-view-Text s = search (rules, value_lemmas)
 
 pub view-Opaque : view Value-of.Opaque ≡ opaque
 view-Opaque = search (rules, value_lemmas)
@@ -34,9 +26,3 @@ view-Unequal a b = search (rules, the_lemmas)
 
 pub view-In : (a b : Box Expr Global) → expr_view (Expr-of.In a b) ≡ membership (expr_view a.value) (expr_view b.value)
 view-In a b = search (rules, the_lemmas)
-
-pub kind_view-Never : kind_view Kind-of.Never ≡ never
-kind_view-Never = search (rules, kind_lemmas)
-
-pub kind_view-Any : kind_view Kind-of.Any ≡ anything
-kind_view-Any = search (rules, kind_lemmas)

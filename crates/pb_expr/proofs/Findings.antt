@@ -1,33 +1,19 @@
 -- The fault and the kind of a form beside those of its operands.
-use Rattle.std.proofs.Common.{◌≡◌, ℕ, suc, List, [], ◌∷◌, ◌++◌, length, Bool, true, false, ◌&&◌, Option, Some, None, refl, sym, ap, ◌∙◌}
-use Rattle.pb_semantics.specs.Kind.{KindData, Slots, Cases, Spot, never, recs, nowhere, spot, slot_at}
+use Rattle.std.proofs.Common.{◌≡◌, suc, List, [], ◌∷◌, ◌++◌, length, Bool, true, false, ◌&&◌, Option, Some, None, refl, sym, ap, ◌∙◌}
+use Rattle.pb_semantics.specs.Kind.{KindData, Slots, Spot, never, recs, nowhere, spot, slot_at}
 use Rattle.pb_semantics.specs.Join.{join}
 use Rattle.pb_language.specs.Expression.{Name, Expressions, expression}
-use Rattle.pb_language.specs.Scope.{Scope, spot_kind, is_certain, below_spot}
+use Rattle.pb_language.specs.Scope.{Scope, spot_kind, below_spot}
 use Rattle.pb_language.specs.Kinds.{path_spot, count, kind_of}
-use Rattle.pb_language.specs.Fit.{Fault, perhaps_undefined, perhaps_missing, first, asks, is_boolean, field_fault, steps_fault, fault, chain_fault, are_booleans}
+use Rattle.pb_language.specs.Fit.{Fault, perhaps_missing, first, is_boolean, field_fault, steps_fault, fault, chain_fault, are_booleans}
 use Rattle.pb_language.specs.Narrow.{narrow}
 use Rattle.pb_language.proofs.Untaught.{narrow_untaught}
 use Rattle.pb_value.specs.KindView.{kind_view}
 use Rattle.pb_value.specs.declared.kind.Kind.{Kind}
 use Rattle.pb_expr.specs.ExprView.{expr_view, exprs_view}
-use Rattle.pb_expr.specs.FitView.{Fails, Finds, LeadsTo, certain, joined_onto}
+use Rattle.pb_expr.specs.FitView.{LeadsTo, certain, joined_onto}
 use Rattle.pb_expr.specs.declared.expr.Expr.{Expr}
-use Rattle.pb_expr.specs.declared.fit.KindFault.{KindFault}
-use Rattle.pb_expr.specs.declared.fit.KindFault.TheVariants as variant
 use Rattle.pb_expr.proofs.Untaught.{expr-untaught}
-
-pub first-none : (f : Option Fault) → first f None ≡ f
-first-none None = refl
-first-none (Some x) = refl
-
--- a fault of an operand is the form's, where those before it have none
-pub fails-first : (e : KindFault) (f g : Option Fault) → Fails e f → Fails e (first f g)
-fails-first (variant.Unfit u) f g h = rw h refl
-fails-first variant.NoMemory f g h = tt
-
-pub fails-second : (e : KindFault) (f g k : Option Fault) → f ≡ None → Fails e g → Fails e (first f (first g k))
-fails-second e f g k h i = rw h (fails-first e g k i)
 
 -- a chain knows at each operand what it knew before the first
 pub chain-turn : (c : Scope) (e : Expr) (es : Expressions) (b : Bool) → fault c (expr_view e) ≡ None → chain_fault c (expression (expr_view e) es) b ≡ chain_fault c es b
@@ -53,16 +39,6 @@ certain-spot : (s : Spot) (k : KindData) → certain s ≡ Some k → s ≡ spot
 certain-spot nowhere k h = cc
 certain-spot (spot true j) k h = ap (spot true) cc
 certain-spot (spot false j) k h = cc
-
--- a name that is certainly there, and one that isn't
-pub root-certain : (r : KindData → Option Fault → Type 0) (ns : List Name) (s : Spot) (k : KindData) → certain s ≡ Some k → r (spot_kind (path_spot ns (spot true k))) (steps_fault ns k)
-    → r (spot_kind (path_spot ns s)) (first (asks perhaps_undefined (is_certain s)) (steps_fault ns (spot_kind s)))
-root-certain r ns s k h i = rw (certain-spot s k h) i
-
-pub root-uncertain : (s : Spot) (g : Option Fault) → certain s ≡ None → first (asks perhaps_undefined (is_certain s)) g ≡ Some perhaps_undefined
-root-uncertain nowhere g h = refl
-root-uncertain (spot true k) g h = cc
-root-uncertain (spot false k) g h = refl
 
 -- a field that is certainly there, and one that isn't
 pub field-certain : (n : Name) (ns : List Name) (ss : Slots) (k : KindData) → certain (slot_at n ss) ≡ Some k → LeadsTo (n ∷ ns) (recs ss) ns k

@@ -1,26 +1,17 @@
 -- The value of a form beside the values of its operands.
-use Rattle.std.proofs.Common.{◌≡◌, ℕ, List, [], ◌∷◌, ◌++◌, Bool, true, false, ◌||◌, Option, Some, None, refl, sym, ap, ◌∙◌}
+use Rattle.std.proofs.Common.{◌≡◌, ℕ, List, [], ◌∷◌, ◌++◌, Bool, true, false, ◌||◌, Some, refl, sym, ap, ◌∙◌}
 use Rattle.pb_semantics.specs.Data.{Data, Items, Fields, null, boolean, int, text, list, rec, opaque, no_items, item, no_fields, field}
 use Rattle.pb_language.specs.Expression.{Expressions, no_expressions, expression}
 use Rattle.pb_language.specs.World.{World}
-use Rattle.pb_language.specs.Evaluation.{Outcome, Stuck, value, stuck, wrong_sort, then_go, value_below, only_boolean, negated, and_then, or_then, holds_opaque, equal_values, found_in, put_item, put_part, eval, eval_all, eval_any}
+use Rattle.pb_language.specs.Evaluation.{Outcome, Stuck, value, stuck, wrong_sort, then_go, only_boolean, negated, and_then, or_then, holds_opaque, equal_values, found_in, put_item, put_part, eval, eval_all, eval_any}
 use Rattle.pb_value.specs.View.{view, items_view}
 use Rattle.pb_value.specs.declared.value.Value.{Value}
-use Rattle.pb_expr.specs.ExprView.{truth, field_in, is_unreadable}
+use Rattle.pb_expr.specs.ExprView.{truth, is_unreadable}
 use Rattle.pb_expr.specs.OwnWorld.{shown}
 
 or_right : (b : Bool) → (b || true) ≡ true
 or_right true = refl
 or_right false = refl
-
--- a step into what has no such field has no value
-pub below-none : (n : List ℕ) (ns : List (List ℕ)) (d : Data) → field_in n d ≡ None → shown (value_below (n ∷ ns) d) ≡ opaque
-below-none n ns (rec fs) h = rw h refl
-below-none n ns d h = refl
-
-pub below-some : (n : List ℕ) (ns : List (List ℕ)) (d e : Data) → field_in n d ≡ Some e → value_below (n ∷ ns) d ≡ value_below ns e
-below-some n ns (rec fs) e h = rw h refl
-below-some n ns d e h = cc
 
 -- an operand without a value may as well be opaque
 pub negated-by : (r d : Data) (o : Outcome) → r ≡ shown (negated d) → d ≡ shown o → r ≡ shown (then_go o negated)
@@ -85,18 +76,6 @@ and-true w (value (boolean true)) es e = all_only w es
 and-true w (value (boolean false)) es e = cc
 and-true w (value d) es e = cc
 
-pub and-false : (o p : Outcome) → truth (shown o) ≡ Some false → shown (then_go o (λ d. and_then d p)) ≡ boolean false
-and-false (stuck s) p e = cc
-and-false (value (boolean true)) p e = cc
-and-false (value (boolean false)) p e = refl
-and-false (value d) p e = cc
-
-pub and-none : (o p : Outcome) → truth (shown o) ≡ None → shown (then_go o (λ d. and_then d p)) ≡ opaque
-and-none (stuck s) p e = refl
-and-none (value (boolean true)) p e = cc
-and-none (value (boolean false)) p e = cc
-and-none (value d) p e = refl
-
 -- a chain of `or`
 or_only : (o p : Outcome) → then_go (then_go o (λ d. or_then d p)) only_boolean ≡ then_go o (λ d. or_then d p)
 or_only (stuck s) p = refl
@@ -114,25 +93,13 @@ or-false w (value (boolean true)) es e = cc
 or-false w (value (boolean false)) es e = any_only w es
 or-false w (value d) es e = cc
 
-pub or-true : (o p : Outcome) → truth (shown o) ≡ Some true → shown (then_go o (λ d. or_then d p)) ≡ boolean true
-or-true (stuck s) p e = cc
-or-true (value (boolean true)) p e = refl
-or-true (value (boolean false)) p e = cc
-or-true (value d) p e = cc
-
-pub or-none : (o p : Outcome) → truth (shown o) ≡ None → shown (then_go o (λ d. or_then d p)) ≡ opaque
-or-none (stuck s) p e = refl
-or-none (value (boolean true)) p e = cc
-or-none (value (boolean false)) p e = cc
-or-none (value d) p e = refl
-
 -- a part that may be read goes into the whole, and one that may not spoils it
-abbrev pub with_first_item : Data → Outcome → Outcome
+abbrev with_first_item : Data → Outcome → Outcome
 with_first_item d (value (list ds)) = value (list (item d ds))
 with_first_item d (value e) = stuck wrong_sort
 with_first_item d (stuck s) = stuck s
 
-abbrev pub with_first_field : List ℕ → Data → Outcome → Outcome
+abbrev with_first_field : List ℕ → Data → Outcome → Outcome
 with_first_field n d (value (rec fs)) = value (rec (field n d fs))
 with_first_field n d (value e) = stuck wrong_sort
 with_first_field n d (stuck s) = stuck s

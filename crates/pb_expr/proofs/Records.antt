@@ -1,10 +1,9 @@
 -- The slots of a record, built in the order of the fields' names.
-use Rattle.std.proofs.Common.{◌≡◌, ℕ, List, [], ◌∷◌, ◌++◌, Bool, true, false, cond, String, Global, Less, Greater, string_bytes, string_cmp, nat_cmp, bytes_eq, refl, sym, ap, ◌∙◌}
+use Rattle.std.proofs.Common.{◌≡◌, List, [], ◌∷◌, ◌++◌, true, false, String, Global, Less, Greater, string_bytes, nat_cmp, bytes_eq, refl, sym, ap, ◌∙◌}
 use Rattle.std.proofs.lemmas.Cmp.{nat_list_cmp_total}
 use Rattle.std.proofs.lemmas.Map.Text.{is_eq-slice_cmp}
 use Rattle.std.specs.Cmp.Lexicographic.{slice_cmp}
 use Rattle.std.specs.List.Sorted.{IsStrictlySortedBy}
-use Rattle.std.specs.Map.{keys_of}
 use Rattle.std.specs.Ordering.{is_eq, ordering_reverse}
 use Rattle.pb_semantics.specs.Kind.{KindData, Slots, no_slots, slot, put_slot}
 use Rattle.pb_language.specs.Scope.{Scope, without_slot, with_slot}

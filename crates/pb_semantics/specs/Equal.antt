@@ -2,7 +2,7 @@
 use Rattle.std.specs.Prelude.{ℕ, List, [], ◌∷◌, Bool, true, false, ◌&&◌, ◌||◌, nat_eq}
 use Rattle.std.specs.Ordering.{int_eq}
 use Rattle.std.specs.Str.{bytes_eq}
-use Rattle.pb_semantics.specs.Data.{Data, Items, Fields, null, boolean, int, text, list, rec, opaque, no_items, item, no_fields, field, bool_eq}
+use Rattle.pb_semantics.specs.Data.{Data, Items, Fields, null, boolean, int, text, list, rec, no_items, item, no_fields, field, bool_eq}
 
 abbrev mutual
   pub data_eq : Data → Data → Bool
@@ -23,22 +23,6 @@ abbrev mutual
   fields_eq no_fields no_fields = true
   fields_eq (field n d fs) (field m e gs) = bytes_eq n m && (data_eq d e && fields_eq fs gs)
   fields_eq fs gs = false
-
--- what may not be read lies in it, at any depth
-abbrev mutual
-  pub has_opaque : Data → Bool
-  has_opaque opaque = true
-  has_opaque (list ds) = any_opaque ds
-  has_opaque (rec fs) = any_field_opaque fs
-  has_opaque d = false
-
-  pub any_opaque : Items → Bool
-  any_opaque no_items = false
-  any_opaque (item d ds) = has_opaque d || any_opaque ds
-
-  pub any_field_opaque : Fields → Bool
-  any_field_opaque no_fields = false
-  any_field_opaque (field n d fs) = has_opaque d || any_field_opaque fs
 
 abbrev pub is_item : Data → Items → Bool
 is_item d no_items = false

@@ -9,8 +9,6 @@ pub mod Render
 pub mod Well
 pub mod Laws
 pub mod Rows
-pub mod Expr
-pub mod Eval
 pub mod Fit
 pub mod Signature
 pub mod Admission

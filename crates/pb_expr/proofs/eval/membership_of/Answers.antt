@@ -1,7 +1,7 @@
 use Rattle.std.proofs.Common.{refl, ap, ◌∙◌}
 use Rattle.pb_semantics.specs.Data.{boolean}
-use Rattle.pb_value.proofs.Views.{view-Rec}
-use Rattle.pb_expr.proofs.Exprs.{view-Bool, view-Text}
+use Rattle.pb_value.proofs.Views.{view-Rec, view-Text}
+use Rattle.pb_expr.proofs.Exprs.{view-Bool}
 use Rattle.pb_expr.proofs.eval.membership_of.Goals as goal
 
 pub returns-in-Text-Rec : goal.returns-in-Text-Rec

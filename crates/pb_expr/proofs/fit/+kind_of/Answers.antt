@@ -27,7 +27,7 @@ chain_kind-loop-operand-preserved t c =
     record {
       faults = λ b. c.loop-operand.invariant.faults b ∙ ap (λ es. chain_fault s (exprs_view es) b) next ∙ chain-turn s e rest b c.in_ok-kind.ensures.0;
       kinds = λ b. c.loop-operand.invariant.kinds b ∙ ap (λ es. are_bool && are_booleans s (exprs_view es) b) next
-              ∙ booleans-turn are_bool c.is_bool-are_bool.result (kind_view c.in_ok-kind.kind) s e rest b c.is_bool-are_bool.ensures c.in_ok-kind.ensures.1;
+          ∙ booleans-turn are_bool c.is_bool-are_bool.result (kind_view c.in_ok-kind.kind) s e rest b c.is_bool-are_bool.ensures c.in_ok-kind.ensures.1;
     }
 
 pub list_kind-loop-item-preserved : goal.list_kind-loop-item-preserved
@@ -42,8 +42,8 @@ list_kind-loop-item-preserved t c =
     record {
       faults = c.loop-item.invariant.faults ∙ ap (λ es. items_fault s (exprs_view es)) next ∙ ap (λ f. first f (items_fault s rest)) c.in_ok-kind.ensures.0;
       kinds = c.loop-item.invariant.kinds ∙ ap (λ es. joined_onto kinds (items_kind s (exprs_view es))) next
-              ∙ ap (λ k. joined_onto kinds (join k (items_kind s rest))) (sym c.in_ok-kind.ensures.1) ∙ sym (onto-last kinds c.in_ok-kind.kind (items_kind s rest))
-              ∙ ap (λ ks. joined_onto ks (items_kind s rest)) (sym c.in_ok-push.ensures.items);
+          ∙ ap (λ k. joined_onto kinds (join k (items_kind s rest))) (sym c.in_ok-kind.ensures.1) ∙ sym (onto-last kinds c.in_ok-kind.kind (items_kind s rest))
+          ∙ ap (λ ks. joined_onto ks (items_kind s rest)) (sym c.in_ok-push.ensures.items);
     }
 
 pub list_kind-returns : goal.list_kind-returns
@@ -60,7 +60,7 @@ list_kind-returns t c =
     ap (λ xs. items_kind s (exprs_view xs)) whole ∙ c.loop-item.invariant.kinds ∙ ap (λ xs. joined_onto kinds (items_kind s (exprs_view xs))) past ∙ sym c.in_ok-joined.ensures in (
       ap (λ xs. items_fault s (exprs_view xs)) whole ∙ c.loop-item.invariant.faults ∙ ap (λ xs. items_fault s (exprs_view xs)) past,
       kind_view-List c.in_ok-new.field-0 c.len.result ∙ ap (λ k. lists k c.len.result) (ap kind_view c.in_ok-new.ensures.ok ∙ sym joined)
-      ∙ ap (lists (items_kind s es)) size,
+          ∙ ap (lists (items_kind s es)) size,
     )
 
 pub record_kind-loop-name-preserved : goal.record_kind-loop-name-preserved
@@ -78,7 +78,7 @@ record_kind-loop-name-preserved t c =
       done ++ e ∷ [],
       all ∙ sym (append_assoc done (e ∷ []) left),
       c.in_ok-put.ensures ∙ ap (λ n. put_slot n true (kind_view c.in_ok-kind.kind) kinds) named
-      ∙ ap (λ k. put_slot (string_bytes e.0) true k kinds) c.in_ok-kind.ensures.1 ∙ ap (put_slot (string_bytes e.0) true (f e.1)) inv.2 ∙ last,
+          ∙ ap (λ k. put_slot (string_bytes e.0) true k kinds) c.in_ok-kind.ensures.1 ∙ ap (put_slot (string_bytes e.0) true (f e.1)) inv.2 ∙ last,
       inv.3 ∙ ap (λ es. fields_fault s (parts_view es)) c.in-Some.ensures.steps ∙ ap (λ x. first x (fields_fault s (parts_view left))) c.in_ok-kind.ensures.0,
     )
 
@@ -90,5 +90,5 @@ record_kind-returns t c =
     let whole : c.args.fields.now.entries ≡ inv.0 = inv.1 ∙ ap (λ es. inv.0 ++ es) nil ∙ append-nil inv.0 in (
       inv.3 ∙ ap (λ es. fields_fault s (parts_view es)) nil,
       kind_view-Rec c.in_ok-new.field-0 ∙ ap (λ m. recs (slots_view m.entries)) c.in_ok-new.ensures.ok
-      ∙ ap recs (inv.2 ∙ ap (slots_from (λ (x : Expr). kind_of s (expr_view x))) (sym whole) ∙ sym (parts_slots-ascending s c.args.fields.now.entries c.iter-name-items.ensures.ordered)),
+          ∙ ap recs (inv.2 ∙ ap (slots_from (λ (x : Expr). kind_of s (expr_view x))) (sym whole) ∙ sym (parts_slots-ascending s c.args.fields.now.entries c.iter-name-items.ensures.ordered)),
     )

@@ -40,3 +40,4 @@ pub mod PlainViews
 pub mod PlainRows
 pub mod PlainRules
 pub mod PlainJudged
+pub mod PlainMachine

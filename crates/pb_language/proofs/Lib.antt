@@ -41,3 +41,4 @@ pub mod PlainRows
 pub mod PlainRules
 pub mod PlainJudged
 pub mod PlainMachine
+pub mod PlainSteps

@@ -146,13 +146,14 @@ abbrev pub is_before : Standing → Bool
 is_before before = true
 is_before s = false
 
-abbrev pub is_inside : Standing → Bool
-is_inside (inside ps) = true
-is_inside s = false
-
 abbrev pub are_left : List PlainTask → Bool
 are_left [] = false
 are_left (t ∷ ts) = true
+
+-- it is in a task
+abbrev pub is_inside : Standing → List PlainTask → Bool
+is_inside (inside ps) ts = are_left ts
+is_inside s ts = false
 
 -- the host waits before a task, and a host may run
 abbrev pub can_begin : ℕ → PlainRun → Bool
@@ -160,7 +161,7 @@ can_begin forks r = is_before r.standing && (are_left r.tasks && nat_lt 0 forks)
 
 -- it has nothing more to run, or is gone
 abbrev pub is_through : PlainRun → Bool
-is_through r = not (is_inside r.standing) && not (is_before r.standing && are_left r.tasks)
+is_through r = not (is_inside r.standing r.tasks) && not (is_before r.standing && are_left r.tasks)
 
 abbrev pub is_going : PlainRun → Bool
 is_going r = not r.is_stopped && not r.is_over
@@ -174,7 +175,7 @@ plain_start ms h forks zero r = cond (is_going r && can_begin forks r) (started 
 plain_start ms h forks (suc k) r = r
 
 abbrev pub plain_give : Registry → Name → ℕ → List Answer → PlainRun → PlainRun
-plain_give ms h zero xs r = cond (is_going r && is_inside r.standing) (given_to ms h r xs r.standing) r
+plain_give ms h zero xs r = cond (is_going r && is_inside r.standing r.tasks) (given_to ms h r xs r.standing) r
 plain_give ms h (suc k) xs r = r
 
 -- what an event changes; one that isn't enabled changes nothing
@@ -183,6 +184,18 @@ plain_step ms h forks r (start k) = plain_start ms h forks k r
 plain_step ms h forks r (give k xs) = plain_give ms h k xs r
 plain_step ms h forks r turn = cond (is_going r && is_through r) (record r { is_over = true }) r
 plain_step ms h forks r stop = cond (is_going r) (record r { is_stopped = true }) r
+
+-- what may happen while the run goes on; the one host has number 0
+abbrev pub plain_is_possible : ℕ → PlainRun → Event → Bool
+plain_is_possible forks r (start zero) = can_begin forks r
+plain_is_possible forks r (give zero xs) = is_inside r.standing r.tasks
+plain_is_possible forks r turn = is_through r
+plain_is_possible forks r stop = true
+plain_is_possible forks r e = false
+
+-- the events that aren't passed over
+abbrev pub plain_is_enabled : ℕ → PlainRun → Event → Bool
+plain_is_enabled forks r e = is_going r && plain_is_possible forks r e
 
 abbrev pub plain_run_from : Registry → Name → ℕ → PlainRun → List Event → PlainRun
 plain_run_from ms h forks r [] = r

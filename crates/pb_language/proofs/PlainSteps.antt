@@ -113,7 +113,6 @@ module _ (ms : Registry) where
 
       task_given : (xs : List Answer) (s : Standing) (ts : List PlainTask) → step (whole (going s ts)) (give zero xs) ≡ whole (plain_step ms h forks (going s ts) (give zero xs))
       task_given xs (inside ps) (t ∷ ts) = answers_given t ts ps (admit_passes (here t ts).action ps xs)
-      task_given xs before [] = refl
       task_given xs s ts = refl
 
       batch_turned : (s : Standing) (ts : List PlainTask) → step (whole (going s ts)) turn ≡ whole (plain_step ms h forks (going s ts) turn)

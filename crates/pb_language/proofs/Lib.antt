@@ -40,3 +40,5 @@ pub mod PlainViews
 pub mod PlainRows
 pub mod PlainRules
 pub mod PlainJudged
+pub mod PlainMachine
+pub mod PlainSteps

@@ -2,3 +2,5 @@ pub mod Codes
 pub mod Meaning
 pub mod Way
 pub mod ResultTables
+pub mod Faults
+pub mod Judges

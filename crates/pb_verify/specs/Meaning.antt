@@ -1,26 +1,14 @@
--- What a book, an inventory and a refusal stand for, and what it is to judge.
+-- What an inventory and a refusal stand for.
 use Rattle.std.specs.Prelude.{◌≡◌, ℕ, zero, suc, List, [], ◌∷◌, map, Option, Some, None, option_map, string_bytes, Result, Ok, Err, Bool, true, false, nat_eq}
 use Rattle.pb_language.specs.Expression.{Name}
 use Rattle.pb_language.specs.World.{Group, HostVariables, name_at}
-use Rattle.pb_language.specs.Book as language
-use Rattle.pb_language.specs.Plain.{plain_play}
 use Rattle.pb_language.specs.Program as program
 use Rattle.pb_language.specs.Verdict as verdict
 use Rattle.pb_language.specs.Verdict.{Verdict, accepted, refused}
 use Rattle.pb_inventory.specs.Hosts.{HostData, GroupData, InventoryData}
-use Rattle.pb_book.specs.Books.{plays_of}
-use Rattle.pb_book.specs.Meaning.{plain_tasks}
-use Rattle.pb_book.specs.declared.book.Book.{Book}
-use Rattle.pb_book.specs.declared.book.Play.{Play}
 use Rattle.pb_verify.specs.declared.refusal.Code.{Code}
 use Rattle.pb_verify.specs.declared.refusal.Code.TheVariants.{N00, P01, I01, A01, A02, A03, V01, V03, V04, V07, V08}
 use Rattle.pb_verify.specs.declared.refusal.Refusal.{Refusal}
-
-abbrev pub play_of : Play → language.PlayData
-play_of p = plain_play p.line (plain_tasks p.tasks.items)
-
-abbrev pub book_of : Book → language.Book
-book_of b = map play_of (plays_of b)
 
 abbrev pub member_names : List HostData → List ℕ → List Name
 member_names hs [] = []
@@ -46,3 +34,13 @@ code_number c = 0
 
 abbrev pub refusal_of : Refusal → verdict.Refusal
 refusal_of r = record { code = code_number r.code; line = r.line; host = option_map (λ n. string_bytes n) r.host }
+
+-- the number in an accepted verdict is that one
+abbrev pub accepts : ℕ → Verdict → Bool
+accepts n (accepted m) = nat_eq n m
+accepts n (refused r) = false
+
+-- the first of two refusals, where there is one
+abbrev pub or_later : Option verdict.Refusal → Option verdict.Refusal → Option verdict.Refusal
+or_later None o = o
+or_later (Some r) o = Some r

@@ -25,6 +25,8 @@ pub struct Checked {
 }
 
 impl Model for Checked {
+    ghost use Rattle.std.specs.Prelude.{◌≡◌, true};
+    ghost use Rattle.pb_verify.specs.Judges.{is_accepted};
     ghost use Rattle.pb_verify.specs.declared.checked.Accepted.{Accepted};
     ghost use Rattle.pb_value.specs.contracts.value.Value as value;
     ghost use Rattle.pb_value.specs.contracts.kind.Kind as kind;
@@ -39,6 +41,8 @@ impl Model for Checked {
         (codes, btree_map_code, hash_map_code, value.the_row.coded, kind.the_row.coded, expr.the_row.coded) };
 
     ghost view = { λ a. a.accepted.value };
+
+    ghost invariant = { λ a. is_accepted a.accepted.value ≡ true };
 }
 
 impl Clone for Checked {
@@ -54,11 +58,13 @@ impl Clone for Checked {
 }
 
 impl Checked {
-    ghost use Rattle.std.specs.Prelude.{length};
+    ghost use Rattle.std.specs.Prelude.{length, true};
     ghost use Rattle.pb_inventory.specs.Inventory.{inventory_view};
+    ghost use Rattle.pb_verify.specs.Judges.{is_accepted};
 
-    /// Accepts without judging, for the verifier alone.
+    /// What was accepted.
     pub(crate) fn of(alloc: Global, accepted: Accepted) -> Result<Checked, AllocError>
+        requires { is_accepted accepted ≡ true }
         ensures { IfOk result (λ c. c ≡ accepted) }
     {
         Ok(Checked {
@@ -68,7 +74,8 @@ impl Checked {
 
     /// The most module calls that a run of the book hands out.
     pub fn budget(&self) -> u64
-        ensures { result ≡ self.now.budget }
+        ensures budget { result ≡ self.now.budget }
+        ensures accepted { is_accepted self.now ≡ true }
     {
         self.accepted.budget
     }

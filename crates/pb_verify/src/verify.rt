@@ -1,15 +1,28 @@
 // The verdict on a book.
-ghost use Rattle.std.specs.Prelude.{◌≡◌, IfOk, length};
-ghost use Rattle.pb_book.specs.Books.{plays_of};
+ghost use Rattle.std.specs.Prelude.{◌≡◌, true, IfOk, Some, None, option_map, slice_get};
+ghost use Rattle.pb_language.specs.Expression.{Name};
+ghost use Rattle.pb_language.specs.Judged.{judged};
+ghost use Rattle.pb_language.specs.Plain.{are_plain_tasks, lone_host};
+ghost use Rattle.pb_language.specs.Verdict.{code_of as number_of};
+ghost use Rattle.pb_expr.specs.FitView.{fault_view};
+ghost use Rattle.pb_verify.specs.Faults.{fault_refusal};
+ghost use Rattle.pb_language.proofs.PlainPass.{plain_rules, plain_flow};
+ghost use Rattle.pb_semantics.specs.Kind.{no_slots};
+ghost use Rattle.pb_sig.specs.Modules.{modules_of};
 ghost use Rattle.pb_inventory.specs.Inventory.{inventory_view};
-ghost use Rattle.pb_verify.specs.Budget.{budget_for};
+ghost use Rattle.pb_book.specs.Books.{plays_of, book_of};
+ghost use Rattle.pb_book.specs.Lines.{are_known, names_known};
+ghost use Rattle.pb_book.specs.Meaning.{plain_tasks};
+ghost use Rattle.pb_verify.specs.Judges.{Judges};
+ghost use Rattle.pb_verify.specs.Meaning.{code_number, inventory_of, refusal_of, or_later};
 
-use crate::budget::budget_of;
+use crate::budget::calls_in;
 use crate::checked::{Accepted, Checked};
-use crate::refusal::Refusal;
+use crate::refusal::{Code, Refusal};
 use crate::rules::first_offence;
 use crate::walk::{Fault, first_fault, opening};
-use pb_book::book::Book;
+use pb_book::book::{Book, Task};
+use pb_expr::fit::Unfit;
 use pb_inventory::inventory::Inventory;
 use pb_sig::registry::Registry;
 use std::alloc::{AllocError, AllocFailed, Global};
@@ -22,37 +35,48 @@ pub enum VerifyFault {
 }
 
 impl From<AllocError> for VerifyFault {
+    ghost use Rattle.std.specs.Prelude.{◌≡◌};
+    ghost use Rattle.pb_verify.specs.declared.verify.VerifyFault.TheVariants.{NoMemory};
+
+    ghost from_gives = { λ _ e. e ≡ NoMemory };
+
     fn from(_: AllocError) -> VerifyFault {
         VerifyFault::NoMemory
     }
 }
 
 impl<T: Drop> From<AllocFailed<T>> for VerifyFault {
+    ghost use Rattle.std.specs.Prelude.{◌≡◌};
+    ghost use Rattle.pb_verify.specs.declared.verify.VerifyFault.TheVariants.{NoMemory};
+
+    ghost from_gives = { λ _ e. e ≡ NoMemory };
+
     fn from(_: AllocFailed<T>) -> VerifyFault {
         VerifyFault::NoMemory
     }
 }
 
-/// Judges a book for an inventory. Each module that the book names is in the registry.
-/// A refusal is the first in this order: the rules that follow no host (parameters, then names, by line),
-/// then the texts that may meet an undefined variable, a missing field or a value of the wrong kind,
-/// by line and then by host.
+/// Judges a book for an inventory: accepted with its budget of module calls, or the first refusal in this order: the rules
+/// that follow no host (parameters, then names, by line), then the texts that may meet an undefined variable, a missing
+/// field or a value of the wrong kind, by line and then by host. Each module that the book names is in the registry.
 pub fn verify(
     alloc: Global,
     book: Book,
     inventory: Inventory,
     registry: Registry,
 ) -> Result<Checked, VerifyFault>
+    requires { names_known (modules_of registry) (plays_of book) ≡ true }
     ensures handed { IfOk result (λ c. (c.book ≡ book) × (c.inventory ≡ inventory) × (c.registry ≡ registry)) }
-    ensures budget { IfOk result (λ c. c.budget ≡ budget_for (plays_of book) (length (inventory_view inventory).hosts)) }
+    ensures judged { Judges result (judged (modules_of registry) (inventory_of (inventory_view inventory)) (book_of book)) }
 {
-    if let Some(refusal) = first_offence(&book, &registry) {
-        return Err(VerifyFault::Refused(refusal));
+    let mut budget = 0;
+    if let [play] = book.plays() {
+        let tasks = play.tasks.as_slice();
+        if let Some(refusal) = first_refusal(alloc, tasks, &inventory, &registry)? {
+            return Err(VerifyFault::Refused(refusal));
+        }
+        budget = calls_in(tasks);
     }
-    if let Some(refusal) = first_unfit(alloc, &book, &inventory, &registry)? {
-        return Err(VerifyFault::Refused(refusal));
-    }
-    let budget = budget_of(&book, &inventory);
     let accepted = Accepted {
         book,
         inventory,
@@ -62,38 +86,49 @@ pub fn verify(
     Ok(Checked::of(alloc, accepted)?)
 }
 
-// The least line over all hosts, and there the first host.
-fn first_unfit(
+// The first refusal of the tasks, by the rules that follow no host and then on the way of the one host that there is.
+fn first_refusal(
     alloc: Global,
-    book: &Book,
+    tasks: &[Task],
     inventory: &Inventory,
     registry: &Registry,
-) -> Result<Option<Refusal>, AllocError> {
-    let hosts = inventory.hosts();
-    let mut first: Option<Refusal> = None;
-    for host in 0..hosts {
-        let name = inventory.host_name(host);
-        let environment = opening(alloc, name, inventory.group_names(host).len())?;
-        if let Some(fault) = first_fault(alloc, book, registry, environment)? {
-            if comes_before(fault.line, &first) {
-                first = Some(refusal_of(alloc, fault, name)?);
-            }
-        }
+) -> Result<Option<Refusal>, AllocError>
+    requires known { are_known (modules_of registry.now) tasks.now ≡ true }
+    requires plain { are_plain_tasks (plain_tasks tasks.now) ≡ true }
+    ensures { IfOk result (λ o. (h : Name) → inventory_of (inventory_view inventory.now) ≡ lone_host h
+        → option_map refusal_of o ≡ or_later (plain_rules (modules_of registry.now) (plain_tasks tasks.now))
+            (plain_flow (modules_of registry.now) h 0 no_slots (plain_tasks tasks.now))) }
+{
+    if let Some(refusal) = first_offence(tasks, registry) {
+        return Ok(Some(refusal));
     }
-    Ok(first)
+    if inventory.hosts() == 0 {
+        return Ok(None);
+    }
+    let name = inventory.host_name(0);
+    let environment = opening(alloc, name, inventory.group_names(0).len())?;
+    match first_fault(alloc, tasks, registry, environment)? {
+        Some(fault) => Ok(Some(refusal_at(alloc, fault, name)?)),
+        None => Ok(None),
+    }
 }
 
-fn comes_before(line: u32, first: &Option<Refusal>) -> bool {
-    match first {
-        Some(refusal) => line < refusal.line,
-        None => true,
-    }
-}
-
-fn refusal_of(alloc: Global, fault: Fault, host: &str) -> Result<Refusal, AllocError> {
+fn refusal_at(alloc: Global, fault: Fault, host: &str) -> Result<Refusal, AllocError>
+    ensures { IfOk result (λ r. refusal_of r ≡ fault_refusal host.now fault) }
+{
     Ok(Refusal {
-        code: fault.code,
+        code: code_of(fault.unfit),
         line: fault.line,
         host: Some(String::from_str(alloc, host)?),
     })
+}
+
+fn code_of(unfit: Unfit) -> Code
+    ensures { code_number result ≡ number_of (fault_view unfit) }
+{
+    match unfit {
+        Unfit::Undefined => Code::V01,
+        Unfit::MissingField => Code::V03,
+        Unfit::WrongKind => Code::V04,
+    }
 }

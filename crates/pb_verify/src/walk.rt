@@ -1,6 +1,6 @@
 // One host's way through the tasks: what is known of its variables, and the first expression that isn't fit.
 ghost use Rattle.std.specs.Prelude.{◌≡◌, ◌&&◌, ℕ, Bool, true, false, not, None, IfOk, OnOk, map, option_map, string_bytes, codes};
-ghost use Rattle.pb_semantics.specs.Kind.{Slots as SlotsData, no_slots, slot_at, put_slot};
+ghost use Rattle.pb_semantics.specs.Kind.{no_slots, spot, slot_at, put_slot};
 ghost use Rattle.pb_semantics.specs.Below.{below as is_below};
 ghost use Rattle.pb_language.specs.Book.{Registry as Modules};
 ghost use Rattle.pb_language.specs.Cases.{parts_set, set_spot, is_conditional};
@@ -13,6 +13,7 @@ ghost use Rattle.pb_language.specs.Plain.{are_plain_tasks};
 ghost use Rattle.pb_language.specs.Plays.{argument_or};
 ghost use Rattle.pb_language.proofs.PlainPass.{plain_rules, plain_flow};
 ghost use Rattle.pb_value.specs.KindView.{kind_view, slots_view, is_always};
+ghost use Rattle.pb_value.specs.Found.{spot_view};
 ghost use Rattle.pb_expr.specs.ExprView.{expr_view};
 ghost use Rattle.pb_expr.specs.FitView.{own_scope};
 ghost use Rattle.pb_sig.specs.Modules.{modules_of};
@@ -29,7 +30,7 @@ use pb_expr::expr::Expr;
 use pb_expr::fit::{KindFault, Unfit, kind_of};
 use pb_sig::registry::Registry;
 use pb_sig::signature::{Module, Parameter};
-use pb_value::below::below;
+use pb_value::below::{below, find};
 use pb_value::join::join;
 use pb_value::kind::{Kind, Presence, Slot, Slots};
 use std::alloc::{AllocError, Global};

@@ -1,5 +1,6 @@
 use Rattle.std.proofs.Common.{◌≡◌, ◌∙◌, ℕ, List, Global, String, Some, ap, is_some, string_bytes, sym}
-use Rattle.pb_sig.specs.Modules.{builtin_view, module_at, modules_of}
+use Rattle.pb_sig.specs.ModuleView.{builtin_view}
+use Rattle.pb_sig.specs.Modules.{module_at, modules_of}
 use Rattle.pb_sig.proofs.Found.{module_at-own}
 use Rattle.pb_book.proofs.task.work_of.Goals as goal
 

@@ -1,8 +1,7 @@
 // What a run keeps of one host.
-ghost use Rattle.std.specs.Prelude.{◌≡◌, ◌<◌, ◌+◌, ◌^◌, ℕ, IfOk, option_map, string_bytes};
-ghost use Rattle.std.specs.Map.{lookup};
-ghost use Rattle.std.specs.Str.{bytes_eq};
-ghost use Rattle.pb_value.specs.View.{view};
+ghost use Rattle.std.specs.Prelude.{◌≡◌, ◌<◌, ◌+◌, ◌^◌, ℕ, IfOk};
+ghost use Rattle.pb_value.specs.View.{fields_view};
+ghost use Rattle.pb_expr.specs.OwnWorld.{own_world};
 ghost use Rattle.pb_strategy.specs.Recaps.{nothing, counted, Counts};
 
 use crate::recap::{Ending, Recap};
@@ -29,7 +28,7 @@ impl HostVars {
 }
 
 impl Vars for HostVars {
-    ghost holds = { λ s n. option_map view (lookup (λ k. bytes_eq n (string_bytes k)) s.values.entries) };
+    ghost world = { λ s. own_world (fields_view s.values.entries) };
 
     fn value(&self, name: &str) -> Option<&Value> {
         self.values.get(name)

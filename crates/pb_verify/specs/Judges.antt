@@ -1,14 +1,29 @@
 -- What it is to judge: an accepted book with the number of the verdict, else its refusal.
-use Rattle.std.specs.Prelude.{◌≡◌, Result, Ok, Err, Bool}
+use Rattle.std.specs.Prelude.{◌≡◌, ℕ, List, map, Result, Ok, Err, Bool}
+use Rattle.pb_semantics.specs.Kind.{no_slots}
+use Rattle.pb_language.specs.Expression.{Name}
+use Rattle.pb_language.specs.Book.{Book, Registry}
 use Rattle.pb_language.specs.Judged.{judged}
-use Rattle.pb_language.specs.Verdict.{Verdict, accepted, refused}
+use Rattle.pb_language.specs.Plain.{PlainTask, plain_play}
+use Rattle.pb_language.specs.Verdict.{Verdict, accepted, refused, offence_verdict}
+use Rattle.pb_language.proofs.PlainPass.{plain_rules, plain_flow, plain_calls}
 use Rattle.pb_sig.specs.Modules.{modules_of}
 use Rattle.pb_inventory.specs.Inventory.{inventory_view}
 use Rattle.pb_book.specs.Books.{book_of}
-use Rattle.pb_verify.specs.Meaning.{inventory_of, refusal_of, accepts}
+use Rattle.pb_book.specs.Meaning.{plain_tasks}
+use Rattle.pb_book.specs.declared.book.Play.{Play}
+use Rattle.pb_verify.specs.Meaning.{inventory_of, refusal_of, accepts, or_later}
 use Rattle.pb_verify.specs.declared.checked.Accepted.{Accepted}
 use Rattle.pb_verify.specs.declared.verify.VerifyFault.{VerifyFault}
 use Rattle.pb_verify.specs.declared.verify.VerifyFault.TheVariants.{Refused, NoMemory}
+
+-- the book of these plays
+abbrev pub plays_mean : List Play → Book
+plays_mean ps = map (λ p. plain_play p.line (plain_tasks p.tasks.items)) ps
+
+-- the rules, then the host's way, then the number of calls
+abbrev pub tasks_verdict : Registry → Name → List PlainTask → Verdict
+tasks_verdict ms h ts = offence_verdict (or_later (plain_rules ms ts) (plain_flow ms h 0 no_slots ts)) (accepted (plain_calls ts))
 
 -- what was handed in is accepted, with that budget
 abbrev pub is_accepted : Accepted → Bool
@@ -19,6 +34,6 @@ Refuses (Refused r) v = v ≡ refused (refusal_of r)
 Refuses NoMemory v = Unit {0}
 
 -- accepted with that budget, or refused with that refusal, unless memory ran out
-abbrev pub Judges : Result Accepted VerifyFault → Verdict → Type 0
-Judges (Ok a) v = v ≡ accepted a.budget
+abbrev pub Judges : Result ℕ VerifyFault → Verdict → Type 0
+Judges (Ok n) v = v ≡ accepted n
 Judges (Err e) v = Refuses e v

@@ -75,3 +75,8 @@ fn fills(arguments: &Vec<Argument>, parameters: &[Parameter]) -> bool
 {
     all_parameters(arguments, parameters) && all_given(parameters, arguments)
 }
+fn all_parameters(arguments: &Vec<Argument>, parameters: &[Parameter]) -> bool { arguments.len() > parameters.len() }
+fn all_given(parameters: &[Parameter], arguments: &Vec<Argument>) -> bool { arguments.len() > parameters.len() }
+fn is_message(arguments: &Vec<Argument>) -> bool { arguments.len() > 0 }
+fn are_variables(arguments: &Vec<Argument>) -> bool { arguments.len() > 0 }
+fn writes_reserved(task: &Task) -> bool { task.arguments.len() > 0 }

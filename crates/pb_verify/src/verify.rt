@@ -1,9 +1,9 @@
 // The verdict on a book.
-ghost use Rattle.std.specs.Prelude.{◌≡◌, true, IfOk, Some, None, option_map, slice_get};
+ghost use Rattle.std.specs.Prelude.{◌≡◌, true, IfOk, IfErr, option_map};
 ghost use Rattle.pb_language.specs.Expression.{Name};
 ghost use Rattle.pb_language.specs.Judged.{judged};
 ghost use Rattle.pb_language.specs.Plain.{are_plain_tasks, lone_host};
-ghost use Rattle.pb_language.specs.Verdict.{code_of as number_of};
+ghost use Rattle.pb_language.specs.Verdict.{accepted, code_of as number_of};
 ghost use Rattle.pb_expr.specs.FitView.{fault_view};
 ghost use Rattle.pb_verify.specs.Faults.{fault_refusal};
 ghost use Rattle.pb_language.proofs.PlainPass.{plain_rules, plain_flow};
@@ -11,9 +11,9 @@ ghost use Rattle.pb_semantics.specs.Kind.{no_slots};
 ghost use Rattle.pb_sig.specs.Modules.{modules_of};
 ghost use Rattle.pb_inventory.specs.Inventory.{inventory_view};
 ghost use Rattle.pb_book.specs.Books.{plays_of, book_of};
-ghost use Rattle.pb_book.specs.Lines.{are_known, names_known};
-ghost use Rattle.pb_book.specs.Meaning.{plain_tasks};
-ghost use Rattle.pb_verify.specs.Judges.{Judges};
+ghost use Rattle.pb_book.specs.Lines.{are_known, is_numbered, names_known};
+ghost use Rattle.pb_book.specs.Meaning.{are_plain_plays, plain_tasks};
+ghost use Rattle.pb_verify.specs.Judges.{Judges, Refuses, plays_mean, tasks_verdict};
 ghost use Rattle.pb_verify.specs.Meaning.{code_number, inventory_of, refusal_of, or_later};
 
 use crate::budget::calls_in;
@@ -21,7 +21,7 @@ use crate::checked::{Accepted, Checked};
 use crate::refusal::{Code, Refusal};
 use crate::rules::first_offence;
 use crate::walk::{Fault, first_fault, opening};
-use pb_book::book::{Book, Task};
+use pb_book::book::{Book, Play, Task};
 use pb_expr::fit::Unfit;
 use pb_inventory::inventory::Inventory;
 use pb_sig::registry::Registry;
@@ -67,16 +67,12 @@ pub fn verify(
 ) -> Result<Checked, VerifyFault>
     requires { names_known (modules_of registry) (plays_of book) ≡ true }
     ensures handed { IfOk result (λ c. (c.book ≡ book) × (c.inventory ≡ inventory) × (c.registry ≡ registry)) }
-    ensures judged { Judges result (judged (modules_of registry) (inventory_of (inventory_view inventory)) (book_of book)) }
+    ensures accepted { IfOk result (λ c. judged (modules_of registry) (inventory_of (inventory_view inventory)) (book_of book)
+        ≡ accepted c.budget) }
+    ensures refused { IfErr result (λ e.
+        Refuses e (judged (modules_of registry) (inventory_of (inventory_view inventory)) (book_of book))) }
 {
-    let mut budget = 0;
-    if let [play] = book.plays() {
-        let tasks = play.tasks.as_slice();
-        if let Some(refusal) = first_refusal(alloc, tasks, &inventory, &registry)? {
-            return Err(VerifyFault::Refused(refusal));
-        }
-        budget = calls_in(tasks);
-    }
+    let budget = judge(alloc, book.plays(), &inventory, &registry)?;
     let accepted = Accepted {
         book,
         inventory,
@@ -84,6 +80,42 @@ pub fn verify(
         budget,
     };
     Ok(Checked::of(alloc, accepted)?)
+}
+
+// The budget of the plays, of which there is one at most.
+fn judge(
+    alloc: Global,
+    plays: &[Play],
+    inventory: &Inventory,
+    registry: &Registry,
+) -> Result<u64, VerifyFault>
+    requires numbered { is_numbered plays.now ≡ true }
+    requires plain { are_plain_plays plays.now ≡ true }
+    requires known { names_known (modules_of registry.now) plays.now ≡ true }
+    ensures { Judges result (judged (modules_of registry.now) (inventory_of (inventory_view inventory.now)) (plays_mean plays.now)) }
+{
+    match plays {
+        [play] => judge_tasks(alloc, play.tasks.as_slice(), inventory, registry),
+        _ => Ok(0),
+    }
+}
+
+// The budget of the tasks of a play on the one host that there is.
+fn judge_tasks(
+    alloc: Global,
+    tasks: &[Task],
+    inventory: &Inventory,
+    registry: &Registry,
+) -> Result<u64, VerifyFault>
+    requires known { are_known (modules_of registry.now) tasks.now ≡ true }
+    requires plain { are_plain_tasks (plain_tasks tasks.now) ≡ true }
+    ensures { (h : Name) → inventory_of (inventory_view inventory.now) ≡ lone_host h
+        → Judges result (tasks_verdict (modules_of registry.now) h (plain_tasks tasks.now)) }
+{
+    if let Some(refusal) = first_refusal(alloc, tasks, inventory, registry)? {
+        return Err(VerifyFault::Refused(refusal));
+    }
+    Ok(calls_in(tasks))
 }
 
 // The first refusal of the tasks, by the rules that follow no host and then on the way of the one host that there is.

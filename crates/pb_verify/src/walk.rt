@@ -281,7 +281,7 @@ fn set(
 // What is known of a variable that is perhaps set, where it may have been there before.
 fn met(alloc: Global, before: Option<&Slot<Kind>>, kind: Kind) -> Result<Slot<Kind>, AllocError>
     ensures { IfOk result (λ s. spot (is_always s.presence) (kind_view s.kind)
-        ≡ set_spot false (spot_view before) (kind_view kind)) }
+        ≡ set_spot false (spot_view before.entry) (kind_view kind)) }
 {
     match before {
         Some(slot) => Ok(Slot {

@@ -1,0 +1,61 @@
+-- The verdict of the definitions on the books that are built so far.
+use Rattle.std.proofs.Common.{◌≡◌, ◌≤◌, ◌<◌, arith, slice_index_or, ℕ, suc, List, [], ◌∷◌, Bool, true, false, ◌&&◌, ◌==◌, Option, Some, None, length, map, nat_le, refl, sym, ap, ◌∙◌}
+use Rattle.std.proofs.lemmas.Bool.{eqb-true}
+use Rattle.pb_semantics.specs.Kind.{no_slots}
+use Rattle.pb_semantics.proofs.Bools.{untrue, and-left, and-right}
+use Rattle.pb_language.specs.Book.{Registry}
+use Rattle.pb_language.specs.Expression.{Name}
+use Rattle.pb_language.specs.Judged.{judged}
+use Rattle.pb_language.specs.Plain.{PlainTask, plain_play, lone_host, are_plain_tasks, are_lined}
+use Rattle.pb_language.specs.Program.{Inventory}
+use Rattle.pb_language.specs.Verdict.{Verdict, Refusal, accepted, offence_verdict}
+use Rattle.pb_language.proofs.PlainJudged.{plain_judged, empty_judged}
+use Rattle.pb_language.proofs.PlainPass.{plain_rules, plain_flow, plain_calls}
+use Rattle.pb_book.specs.Lines.{are_from, is_numbered}
+use Rattle.pb_book.specs.Meaning.{plain_tasks, are_plain_plays}
+use Rattle.pb_book.specs.declared.book.Play.{Play}
+use Rattle.pb_book.specs.declared.book.Task.{Task}
+use Rattle.pb_verify.specs.Judges.{plays_mean, tasks_verdict}
+use Rattle.pb_verify.specs.Meaning.{or_later}
+
+both_offences : (o p : Option Refusal) (v : Verdict) → offence_verdict o (offence_verdict p v) ≡ offence_verdict (or_later o p) v
+both_offences None p v = refl
+both_offences (Some r) p v = refl
+
+lined : (n : ℕ) (ts : List Task) → are_from n ts ≡ are_lined n (plain_tasks ts)
+lined n [] = refl
+lined n (t ∷ ts) = ap (λ b. (t.line == n) && b) (lined (suc n) ts)
+
+counted : (ts : List Task) → length (plain_tasks ts) ≡ length ts
+counted [] = refl
+counted (t ∷ ts) = ap suc (counted ts)
+
+-- no play is accepted with no call
+pub no_plays : (ms : Registry) (h : Name) (inventory : Inventory) → inventory ≡ lone_host h → judged ms inventory (plays_mean []) ≡ accepted 0
+no_plays ms h inventory e = rw e (empty_judged ms h)
+
+-- one play is judged in one pass
+pub one_play : (ms : Registry) (h : Name) (inventory : Inventory) (p : Play) → inventory ≡ lone_host h → is_numbered (p ∷ []) ≡ true → are_plain_plays (p ∷ []) ≡ true
+    → judged ms inventory (plays_mean (p ∷ [])) ≡ tasks_verdict ms h (plain_tasks p.tasks.items)
+one_play ms h inventory p e n q =
+    let ts = p.tasks.items in
+    let later = are_from 2 ts && nat_le (length ts) 4095 in
+    let first : p.line ≡ 1 = eqb-true p.line 1 (and-left (p.line == 1) later n) in
+    let rest = and-right (p.line == 1) later n in
+    let plain = and-left (are_plain_tasks (plain_tasks ts)) true q in
+    let from : are_lined (suc p.line) (plain_tasks ts) ≡ true = rw first (sym (lined 2 ts) ∙ and-left (are_from 2 ts) (nat_le (length ts) 4095) rest) in
+    let few : nat_le (length (plain_tasks ts)) 4095 ≡ true = rw (counted ts) (and-right (are_from 2 ts) (nat_le (length ts) 4095) rest) in
+    ap (λ i. judged ms i (plays_mean (p ∷ []))) e ∙ plain_judged ms h p.line (plain_tasks ts) plain from few
+    ∙ both_offences (plain_rules ms (plain_tasks ts)) (plain_flow ms h 0 no_slots (plain_tasks ts)) (accepted (plain_calls (plain_tasks ts)))
+
+-- a list of one item
+pub only_item : (ps : List Play) (p : Play) → 1 ≤ length ps → length ps < 2 → p ≡ slice_index_or ps 0 p → ps ≡ p ∷ []
+only_item [] p a b e = absurd (omega arith)
+only_item (q ∷ []) p a b e = ap (λ x. x ∷ []) (sym e)
+only_item (q ∷ r ∷ ps) p a b e = absurd (omega arith)
+
+-- numbered plays are one at most
+pub no_item : (ps : List Play) → is_numbered ps ≡ true → (length ps ≡ 1 → ⊥) → ps ≡ []
+no_item [] n f = refl
+no_item (q ∷ []) n f = absurd (f refl)
+no_item (q ∷ r ∷ ps) n f = untrue n

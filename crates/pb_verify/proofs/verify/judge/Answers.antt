@@ -1,0 +1,25 @@
+use Rattle.std.proofs.Common.{ap, ◌≡◌, ◌∷◌, [], List, sym, subst, ◌∙◌, true}
+use Rattle.pb_sig.specs.Modules.{modules_of}
+use Rattle.pb_inventory.specs.Inventory.{inventory_view}
+use Rattle.pb_language.specs.Judged.{judged}
+use Rattle.pb_language.specs.Verdict.{Verdict}
+use Rattle.pb_book.specs.Lines.{is_numbered}
+use Rattle.pb_book.specs.Meaning.{are_plain_plays, plain_tasks}
+use Rattle.pb_book.specs.declared.book.Play.{Play}
+use Rattle.pb_verify.specs.Judges.{Judges, plays_mean, tasks_verdict}
+use Rattle.pb_verify.specs.Meaning.{inventory_of}
+use Rattle.pb_verify.proofs.Lone.{alone}
+use Rattle.pb_verify.proofs.Verdicts.{one_play, no_plays, only_item, no_item}
+use Rattle.pb_verify.proofs.verify.judge.Goals as goal
+
+pub returns-in-len1 : goal.returns-in-len1
+returns-in-len1 c =
+    let a = alone (inventory_view c.args.inventory.now) c.args.inventory.now.lone in
+    let p = c.play-item.result in
+    let ms = modules_of c.args.registry.now in
+    let is = only_item c.args.plays.now p c.in-len1.len_at_least c.in-len1.len_below c.play-item.is in
+    let numbered = subst (λ (ps : List Play). is_numbered ps ≡ true) is c.requires.numbered in
+    let plain = subst (λ (ps : List Play). are_plain_plays ps ≡ true) is c.requires.plain in
+    subst (λ (v : Verdict). Judges c.judge_tasks.result v)
+    (ap (λ ts. tasks_verdict ms a.host.name (plain_tasks ts)) c.as_slice.ensures.value ∙ sym (ap (λ ps. judged ms (inventory_of (inventory_view c.args.inventory.now)) (plays_mean ps)) is ∙ one_play ms a.host.name (inventory_of (inventory_view c.args.inventory.now)) p a.stands numbered plain))
+    (c.judge_tasks.ensures a.host.name a.stands)

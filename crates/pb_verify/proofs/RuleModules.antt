@@ -1,5 +1,5 @@
 -- The module that a name finds is the one that tasks of that name call.
-use Rattle.std.proofs.Common.{◌≡◌, ℕ, List, [], ◌∷◌, Bool, true, false, cond, bytes_eq, Option, Some, refl, sym, ap, ◌∙◌}
+use Rattle.std.proofs.Common.{◌≡◌, ℕ, List, [], ◌∷◌, Bool, true, false, cond, bytes_eq, Option, Some, refl, ap, ◌∙◌}
 use Rattle.pb_semantics.specs.Signature.{ModuleData}
 use Rattle.pb_semantics.proofs.Bools.{untrue}
 use Rattle.pb_semantics.proofs.Names.{same_name, own_name}
@@ -9,7 +9,8 @@ use Rattle.pb_sig.specs.Modules.{module_at}
 turned : (n m : List ℕ) → bytes_eq n m ≡ true → bytes_eq m n ≡ true
 turned n m h = ap (λ k. bytes_eq m k) (same_name n m h) ∙ own_name m
 
-found_step : (q r : Bool) (k m named : ModuleData) (rest : Option ModuleData) → (q ≡ true → r ≡ true) → (r ≡ true → q ≡ true) → (rest ≡ Some m → named ≡ m) → cond q (Some k) rest ≡ Some m → cond r k named ≡ m
+found_step : (q r : Bool) (k m named : ModuleData) (rest : Option ModuleData) → (q ≡ true → r ≡ true) → (r ≡ true → q ≡ true) → (rest ≡ Some m → named ≡ m)
+    → cond q (Some k) rest ≡ Some m → cond r k named ≡ m
 found_step true true k m named rest x y there h = (cc)
 found_step true false k m named rest x y there h = untrue (x refl)
 found_step false true k m named rest x y there h = untrue (y refl)

@@ -2,6 +2,12 @@
 ghost use Rattle.std.specs.Prelude.{◌≡◌, ◌≤◌, IfOk, length, true};
 ghost use Rattle.pb_sig.specs.Modules.{modules_of};
 ghost use Rattle.pb_language.specs.Plain.{are_plain_tasks, is_plain_task};
+ghost use Rattle.pb_language.specs.Rules.{
+  are_name_bytes,
+  is_digit as is_name_digit,
+  is_letter as is_name_letter,
+  is_variable_name,
+};
 ghost use Rattle.pb_language.specs.Simple.{are_simple, parts_simple};
 ghost use Rattle.pb_book.specs.Lines.{are_from, are_known, is_known};
 ghost use Rattle.pb_book.specs.Meaning.{argument_parts, condition_view, plain_task, plain_tasks};
@@ -151,21 +157,36 @@ fn register_of(fields: &Fields) -> Result<Option<Arc<String>>, FormFault> {
 }
 
 /// Whether a variable can have that name: 1 to 128 ASCII letters, digits or `_`, the first no digit.
-pub fn is_variable(name: &str) -> bool {
-    let Some(first) = name.as_bytes().first() else {
-        return false;
-    };
-    if first.is_ascii_digit() || name.len() > MOST_NAME_BYTES {
-        return false;
+pub fn is_variable(name: &str) -> bool
+    ensures { result ≡ is_variable_name name.now }
+{
+    match name.as_bytes() {
+        [] => false,
+        [first, rest @ ..] => {
+            is_letter(*first) && are_bytes_of_names(rest) && rest.len() < MOST_NAME_BYTES
+        }
     }
-    for byte in name.as_bytes() {
-        if !is_name_byte(*byte) {
+}
+
+fn are_bytes_of_names(bytes: &[u8]) -> bool
+    ensures { result ≡ are_name_bytes bytes.now }
+{
+    for byte in bytes {
+        if !is_letter(*byte) && !is_digit(*byte) {
             return false;
         }
     }
     true
 }
 
-fn is_name_byte(byte: u8) -> bool {
-    matches!(byte, b'a'..=b'z' | b'A'..=b'Z' | b'0'..=b'9' | b'_')
+fn is_letter(byte: u8) -> bool
+    ensures { result ≡ is_name_letter byte }
+{
+    matches!(byte, b'A'..=b'Z' | b'a'..=b'z' | b'_')
+}
+
+fn is_digit(byte: u8) -> bool
+    ensures { result ≡ is_name_digit byte }
+{
+    byte.is_ascii_digit()
 }

@@ -1,5 +1,6 @@
 // The rules that need no following of hosts: parameters and reserved names.
-ghost use Rattle.std.specs.Prelude.{◌≡◌, ◌&&◌, true, Some, map, option_map};
+ghost use Rattle.std.specs.Prelude.{◌≡◌, ◌&&◌, ◌∷◌, [], List, true, Some, codes, map, option_map};
+ghost use Rattle.pb_language.specs.Book.{set_fact_work};
 ghost use Rattle.pb_language.specs.Plain.{task_data};
 ghost use Rattle.pb_language.specs.Rules.{
   any_among,
@@ -10,12 +11,14 @@ ghost use Rattle.pb_language.specs.Rules.{
   has_required,
   is_parameter as names_parameter,
   is_well_formed as is_well,
-  is_well_given,
+  part_names,
   reserved_names,
+  set_names,
   written_names,
 };
 ghost use Rattle.pb_language.proofs.PlainPass.{plain_rules};
 ghost use Rattle.pb_semantics.specs.Keeps.{is_among};
+ghost use Rattle.pb_semantics.specs.Signature.{ModuleData};
 ghost use Rattle.pb_sig.specs.Modules.{modules_of};
 ghost use Rattle.pb_sig.specs.Views.{parameter_view};
 ghost use Rattle.pb_book.specs.Lines.{are_known, is_known};
@@ -27,6 +30,37 @@ use pb_book::book::{Argument, Task, Work};
 use pb_book::task::is_variable;
 use pb_sig::registry::Registry;
 use pb_sig::signature::{Module, Parameter};
+
+/// The names that no task may register or set.
+const RESERVED: [&str; 27] = [
+    "inventory_hostname",
+    "groups",
+    "group_names",
+    "hostvars",
+    "ansible_play_batch",
+    "item",
+    "ansible_failed_result",
+    "ansible_facts",
+    "ansible_hostname",
+    "ansible_system",
+    "ansible_os_family",
+    "ansible_distribution",
+    "ansible_processor_vcpus",
+    "ansible_memtotal_mb",
+    "and",
+    "or",
+    "not",
+    "in",
+    "is",
+    "true",
+    "false",
+    "True",
+    "False",
+    "none",
+    "None",
+    "if",
+    "else",
+];
 
 /// The first offence of the tasks against them: the least line, and on one line parameters before names.
 pub fn first_offence(tasks: &[Task], registry: &Registry) -> Option<Refusal>
@@ -75,8 +109,136 @@ fn fills(arguments: &Vec<Argument>, parameters: &[Parameter]) -> bool
 {
     all_parameters(arguments, parameters) && all_given(parameters, arguments)
 }
-fn all_parameters(arguments: &Vec<Argument>, parameters: &[Parameter]) -> bool { arguments.len() > parameters.len() }
-fn all_given(parameters: &[Parameter], arguments: &Vec<Argument>) -> bool { arguments.len() > parameters.len() }
-fn is_message(arguments: &Vec<Argument>) -> bool { arguments.len() > 0 }
-fn are_variables(arguments: &Vec<Argument>) -> bool { arguments.len() > 0 }
-fn writes_reserved(task: &Task) -> bool { task.arguments.len() > 0 }
+
+fn all_parameters(arguments: &Vec<Argument>, parameters: &[Parameter]) -> bool
+    ensures { result ≡ are_parameters (map parameter_view parameters.now) (argument_parts arguments.now.items) }
+{
+    for argument in arguments {
+        if !is_parameter(argument.name.as_str(), parameters) {
+            return false;
+        }
+    }
+    true
+}
+
+fn is_parameter(name: &str, parameters: &[Parameter]) -> bool
+    ensures { result ≡ names_parameter name.now (map parameter_view parameters.now) }
+{
+    for parameter in parameters {
+        if name == parameter.name.as_str() {
+            return true;
+        }
+    }
+    false
+}
+
+fn all_given(parameters: &[Parameter], arguments: &Vec<Argument>) -> bool
+    ensures { result ≡ has_required (map parameter_view parameters.now) (argument_parts arguments.now.items) }
+{
+    for parameter in parameters {
+        if parameter.required && !is_given(parameter.name.as_str(), arguments) {
+            return false;
+        }
+    }
+    true
+}
+
+fn is_given(name: &str, arguments: &Vec<Argument>) -> bool
+    ensures { result ≡ has_part name.now (argument_parts arguments.now.items) }
+{
+    for argument in arguments {
+        if name == argument.name.as_str() {
+            return true;
+        }
+    }
+    false
+}
+
+// The message alone.
+fn is_message(arguments: &Vec<Argument>) -> bool
+    ensures { result ≡ has_part (codes "msg") (argument_parts arguments.now.items)
+        && are_among (codes "msg" ∷ []) (argument_parts arguments.now.items) }
+{
+    is_given("msg", arguments) && all_messages(arguments)
+}
+
+fn all_messages(arguments: &Vec<Argument>) -> bool
+    ensures { result ≡ are_among (codes "msg" ∷ []) (argument_parts arguments.now.items) }
+{
+    for argument in arguments {
+        if argument.name.as_str() != "msg" {
+            return false;
+        }
+    }
+    true
+}
+
+// At least one name, and each can be set.
+fn are_variables(arguments: &Vec<Argument>) -> bool
+    ensures { (ms : List ModuleData) → result
+        ≡ is_well ms (set_fact_work (argument_parts arguments.now.items)) }
+{
+    !arguments.is_empty() && all_settable(arguments)
+}
+
+fn all_settable(arguments: &Vec<Argument>) -> bool
+    ensures { result ≡ can_be_set (argument_parts arguments.now.items) }
+{
+    for argument in arguments {
+        let name = argument.name.as_str();
+        if !is_variable(name) || name == "cacheable" {
+            return false;
+        }
+    }
+    true
+}
+
+// A name that it registers or sets is reserved.
+fn writes_reserved(task: &Task) -> bool
+    ensures { result
+        ≡ any_among (written_names (Some (task_data (plain_task task.now)))) reserved_names }
+{
+    let registers = match &task.register {
+        Some(name) => is_reserved(name.as_str()),
+        None => false,
+    };
+    registers || sets_reserved(task)
+}
+
+fn sets_reserved(task: &Task) -> bool
+    ensures { result ≡ any_among (set_names (plain_task task.now).work) reserved_names }
+{
+    match &task.work {
+        Work::SetFact => any_reserved(&task.arguments),
+        Work::Module(_) | Work::Debug => false,
+    }
+}
+
+fn any_reserved(arguments: &Vec<Argument>) -> bool
+    ensures { result ≡ any_among (part_names (argument_parts arguments.now.items)) reserved_names }
+{
+    for argument in arguments {
+        if is_reserved(argument.name.as_str()) {
+            return true;
+        }
+    }
+    false
+}
+
+// A name of expressions, of the executor or of gathered facts.
+fn is_reserved(name: &str) -> bool
+    ensures { result ≡ is_among name.now reserved_names }
+{
+    is_one_of(name, &RESERVED)
+}
+
+fn is_one_of(name: &str, words: &[&str]) -> bool
+    ensures { result ≡ is_among name.now (map (λ w. w.now) words.now) }
+{
+    for word in words {
+        if name == *word {
+            return true;
+        }
+    }
+    false
+}

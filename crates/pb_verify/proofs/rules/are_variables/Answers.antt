@@ -1,0 +1,16 @@
+use Rattle.std.proofs.Common.{◌≡◌, List, [], ◌∷◌, Bool, false, ◌==◌, length, rules, vec_len}
+use Rattle.pb_semantics.specs.Signature.{ModuleData}
+use Rattle.pb_language.specs.Book.{set_fact_work}
+use Rattle.pb_language.specs.Rules.{can_be_set, is_well_formed}
+use Rattle.pb_book.specs.Meaning.{argument_parts}
+use Rattle.pb_book.specs.declared.book.Argument.{Argument}
+use Rattle.pb_verify.proofs.rules.are_variables.Goals as goal
+
+some_names : (q : Bool) (ms : List ModuleData) (xs : List Argument) → false ≡ (length xs == 0) → q ≡ can_be_set (argument_parts xs) → q ≡ is_well_formed ms (set_fact_work (argument_parts xs))
+some_names q ms [] h e = (cc)
+some_names q ms (x ∷ xs) h e = e
+
+pub returns-then-not-is_empty : goal.returns-then-not-is_empty
+returns-then-not-is_empty c ms =
+    let same : vec_len c.args.arguments.now ≡ length c.args.arguments.now.items = search rules in
+    some_names c.all_settable.result ms c.args.arguments.now.items (rw same at c.if-not-is_empty.ensures) c.all_settable.ensures

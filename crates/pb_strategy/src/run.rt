@@ -1,8 +1,9 @@
 // The run: where each host stands, and the history that brought it there.
 ghost use Rattle.std.specs.Prelude.{◌≡◌, ◌<◌, ◌≤◌, ◌+◌, ◌^◌, ◌++◌, ◌∷◌, [], length, replicate, set, ℕ, IfOk, IfErr, IsErr, OnErr, OnOk, Some, option_map, slice_get, true, false};
 ghost use Rattle.pb_inventory.specs.Inventory.{inventory_view};
-ghost use Rattle.pb_strategy.specs.History.{RunState, after, IsAfterJob, IsAfterTake, is_stopped, is_ended, is_over};
-ghost use Rattle.pb_strategy.specs.Inside.{recaps_of, handed_of};
+ghost use Rattle.pb_book.specs.Books.{plays_of};
+ghost use Rattle.pb_strategy.specs.History.{RunState, after, IsAfterJob, IsAfterTake, has_no_plays, is_stopped, is_ended, is_over};
+ghost use Rattle.pb_strategy.specs.Inside.{recaps_of, handed_of, is_phase_over, is_phase_stopped};
 ghost use Rattle.pb_strategy.specs.Recaps.{nothing, counted, Counts};
 ghost use Rattle.pb_strategy.specs.Tally.{recap_of, gives_of, IsOneMore};
 
@@ -67,18 +68,13 @@ impl Run {
           handed = 0;
         }) }
     {
-        let phase = if checked.book().plays().is_empty() {
-            Phase::Ended
-        } else {
-            Phase::Going
-        };
         Ok(Run {
             checked: checked.clone()?,
             forks,
             history: Vec::with_capacity(alloc, 1)?,
             hosts: opening_hosts(alloc, checked)?,
             fixed: FixedResults::new(alloc)?,
-            phase,
+            phase: opening_phase(checked),
         })
     }
 
@@ -224,6 +220,17 @@ impl Run {
             Some(state) => state.recap,
             None => Recap::new(),
         }
+    }
+}
+
+// A run of a book without plays has ended.
+fn opening_phase(checked: &Checked) -> Phase
+    ensures over { is_phase_over result ≡ has_no_plays (plays_of checked.now.book) }
+    ensures going { is_phase_stopped result ≡ false }
+{
+    match checked.book().plays() {
+        [] => Phase::Ended,
+        _ => Phase::Going,
     }
 }
 

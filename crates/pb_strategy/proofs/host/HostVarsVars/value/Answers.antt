@@ -1,0 +1,8 @@
+use Rattle.std.proofs.Common.{option_map, ap, ◌∙◌}
+use Rattle.pb_value.specs.View.{view}
+use Rattle.pb_value.proofs.Fields.{view_of_ref}
+use Rattle.pb_strategy.proofs.HostFields.{field-lookup}
+use Rattle.pb_strategy.proofs.host.HostVarsVars.value.Goals as goal
+
+pub returns : goal.returns
+returns c = view_of_ref c.get.result ∙ ap (option_map view) c.get.ensures.value ∙ field-lookup c.args.name.now c.args.self.now.values.entries

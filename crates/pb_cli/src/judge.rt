@@ -1,12 +1,14 @@
 // The verdict on the bytes of a playbook and an inventory.
 ghost use Rattle.std.specs.Prelude.{◌≡◌, ◌⊎◌, ◌<◌, Ok, Err, IfOk, IsUtf8, is_some, length, true, false};
+ghost use Rattle.pb_language.specs.Judged.{judged};
+ghost use Rattle.pb_language.specs.Verdict.{accepted};
 ghost use Rattle.pb_sig.specs.Table.{builtins};
 ghost use Rattle.pb_sig.specs.Modules.{modules_of};
 ghost use Rattle.pb_inventory.specs.Hosts.{InventoryData};
 ghost use Rattle.pb_inventory.specs.Inventory.{inventory_view};
-ghost use Rattle.pb_book.specs.Books.{plays_of};
+ghost use Rattle.pb_book.specs.Books.{book_of, plays_of};
 ghost use Rattle.pb_book.specs.Lines.{names_known};
-ghost use Rattle.pb_verify.specs.Budget.{budget_for};
+ghost use Rattle.pb_verify.specs.Meaning.{inventory_of};
 ghost use Rattle.pb_cli.specs.Judged.{inventory_verdict, refused};
 
 use pb_book::book::Book;
@@ -111,8 +113,8 @@ pub fn judge(
     ensures read { IfOk result (λ c. inventory_verdict inventory.now ≡ Ok (inventory_view c.inventory)) }
     ensures modules { IfOk result (λ c. modules_of c.registry ≡ builtins) }
     ensures known { IfOk result (λ c. names_known builtins (plays_of c.book) ≡ true) }
-    ensures budget { IfOk result (λ c.
-        c.budget ≡ budget_for (plays_of c.book) (length (inventory_view c.inventory).hosts)) }
+    ensures accepted { IfOk result (λ c.
+        judged builtins (inventory_of (inventory_view c.inventory)) (book_of c.book) ≡ accepted c.budget) }
 {
     if signatures.is_some() {
         return Err(whole(Code::N00));

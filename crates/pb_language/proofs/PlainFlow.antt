@@ -45,7 +45,7 @@ both_below (sets n a k r) w ss = further (below k (spot_kind (slot_at n ss))) (b
   further false e = refl
 
 module _ (ms : Registry) where
-  work_fault_same : (w : Work) (c d : Scope) → is_plain_work w ≡ true → SameOwn c d → action_fault c (plain_action ms w) ≡ action_fault d (plain_action ms w)
+  pub work_fault_same : (w : Work) (c d : Scope) → is_plain_work w ≡ true → SameOwn c d → action_fault c (plain_action ms w) ≡ action_fault d (plain_action ms w)
   work_fault_same (module_work n ps) c d s o = rw (same_arguments _ ps c d s o) refl
   work_fault_same (debug_work ps) c d s o =
       let m = simple_argument (codes "msg") ps s in
@@ -53,7 +53,7 @@ module _ (ms : Registry) where
   work_fault_same (set_fact_work ps) c d s o = same_fields ps c d s o
   work_fault_same w c d s o = untrue s
 
-  work_sets_same : (w : Work) (c d : Scope) (t : Task) → is_plain_work w ≡ true → SameOwn c d → action_sets c t (plain_action ms w) ≡ action_sets d t (plain_action ms w)
+  pub work_sets_same : (w : Work) (c d : Scope) (t : Task) → is_plain_work w ≡ true → SameOwn c d → action_sets c t (plain_action ms w) ≡ action_sets d t (plain_action ms w)
   work_sets_same (module_work n ps) c d t s o = refl
   work_sets_same (debug_work ps) c d t s o = refl
   work_sets_same (set_fact_work ps) c d t s o = same_sets _ ps c d s o

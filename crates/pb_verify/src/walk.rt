@@ -1,5 +1,5 @@
 // One host's way through the tasks: what is known of its variables, and the first expression that isn't fit.
-ghost use Rattle.std.specs.Prelude.{◌≡◌, ◌&&◌, ℕ, Bool, true, false, not, None, IfOk, OnOk, map, option_map, string_bytes, codes};
+ghost use Rattle.std.specs.Prelude.{◌≡◌, ◌&&◌, ℕ, Bool, true, false, not, None, IfOk, OnOk, map, option_map, string_bytes, codes, is_some};
 ghost use Rattle.pb_semantics.specs.Kind.{no_slots, spot, slot_at, put_slot};
 ghost use Rattle.pb_semantics.specs.Below.{below as is_below};
 ghost use Rattle.pb_language.specs.Book.{Registry as Modules};
@@ -7,16 +7,17 @@ ghost use Rattle.pb_language.specs.Cases.{parts_set, set_spot, is_conditional};
 ghost use Rattle.pb_language.specs.Expression.{Name, no_expressions, expression, no_parts};
 ghost use Rattle.pb_language.specs.Expansion.{part_named};
 ghost use Rattle.pb_language.specs.Fit.{first, asks, wrong_kind, is_any as is_anything, is_boolean, fault, fields_fault};
-ghost use Rattle.pb_language.specs.Judgement.{conditions_fault, arguments_fault, parameter_kind};
+ghost use Rattle.pb_language.specs.Judgement.{action_fault, conditions_fault, arguments_fault, parameter_kind};
 ghost use Rattle.pb_language.specs.Kinds.{kind_of as kind_found};
 ghost use Rattle.pb_language.specs.Plain.{are_plain_tasks};
-ghost use Rattle.pb_language.specs.Plays.{argument_or};
+ghost use Rattle.pb_language.specs.Task.{call_of};
+ghost use Rattle.pb_language.specs.Plays.{argument_or, module_named};
 ghost use Rattle.pb_language.proofs.PlainPass.{plain_rules, plain_flow};
 ghost use Rattle.pb_value.specs.KindView.{kind_view, slots_view, is_always};
 ghost use Rattle.pb_value.specs.Found.{spot_view};
 ghost use Rattle.pb_expr.specs.ExprView.{expr_view};
 ghost use Rattle.pb_expr.specs.FitView.{own_scope};
-ghost use Rattle.pb_sig.specs.Modules.{modules_of};
+ghost use Rattle.pb_sig.specs.Modules.{module_at, modules_of};
 ghost use Rattle.pb_sig.specs.Views.{parameter_view};
 ghost use Rattle.pb_book.specs.Lines.{are_known, is_known};
 ghost use Rattle.pb_book.specs.Meaning.{argument_parts, condition_view, plain_task, plain_tasks, work_of};
@@ -106,9 +107,7 @@ fn task_asked(
     }
     match &task.work {
         Work::Module(name) => {
-            if let Some(found) = registry.find(name.as_str()) {
-                arguments_asked(alloc, &task.arguments, found.params(), environment)?;
-            }
+            call_asked(alloc, name.as_str(), &task.arguments, registry, environment)?;
             Ok(Vec::new(alloc))
         }
         Work::Debug => {
@@ -116,6 +115,24 @@ fn task_asked(
             Ok(Vec::new(alloc))
         }
         Work::SetFact => sets_asked(alloc, &task.arguments, environment),
+    }
+}
+
+// The arguments of a module that is there.
+fn call_asked(
+    alloc: Global,
+    name: &str,
+    arguments: &Vec<Argument>,
+    registry: &Registry,
+    environment: &Slots,
+) -> Result<(), KindFault>
+    requires { is_some (module_at name.now (modules_of registry.now)) ≡ true }
+    ensures { Asks result (action_fault (own_scope (slots_view environment.now.entries))
+        (call_of (module_named name.now (modules_of registry.now)) (argument_parts arguments.now.items))) }
+{
+    match registry.find(name) {
+        Some(found) => arguments_asked(alloc, arguments, found.params(), environment),
+        None => unreachable!(),
     }
 }
 
@@ -168,7 +185,7 @@ fn argument_named<'a>(arguments: &'a Vec<Argument>, name: &str) -> Option<&'a Ex
     ensures { option_map (λ e. expr_view e.now) result ≡ part_named name.now (argument_parts arguments.now.items) }
 {
     for argument in arguments {
-        if argument.name.as_str() == name {
+        if name == argument.name.as_str() {
             return Some(&argument.value);
         }
     }
@@ -207,7 +224,7 @@ fn is_of(kind: &Kind, name: &str, parameters: &[Parameter]) -> bool
     ensures { result ≡ is_below (kind_view kind.now) (parameter_kind name.now (map parameter_view parameters.now)) }
 {
     for parameter in parameters {
-        if parameter.name.as_str() == name {
+        if name == parameter.name.as_str() {
             return below(kind, &parameter.kind);
         }
     }

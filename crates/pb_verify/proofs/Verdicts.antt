@@ -8,7 +8,8 @@ use Rattle.pb_language.specs.Expression.{Name}
 use Rattle.pb_language.specs.Judged.{judged}
 use Rattle.pb_language.specs.Plain.{PlainTask, plain_play, lone_host, are_plain_tasks, are_lined}
 use Rattle.pb_language.specs.Program.{Inventory}
-use Rattle.pb_language.specs.Verdict.{Verdict, Refusal, accepted, offence_verdict}
+use Rattle.pb_language.specs.Verdict.{Verdict, Refusal, accepted, refused, offence_verdict}
+use Rattle.pb_language.specs.Theorem.{are_distinct, host_names}
 use Rattle.pb_language.proofs.PlainJudged.{plain_judged, empty_judged}
 use Rattle.pb_language.proofs.PlainPass.{plain_rules, plain_flow, plain_calls}
 use Rattle.pb_book.specs.Lines.{are_from, is_numbered}
@@ -16,7 +17,7 @@ use Rattle.pb_book.specs.Meaning.{plain_tasks, are_plain_plays}
 use Rattle.pb_book.specs.declared.book.Play.{Play}
 use Rattle.pb_book.specs.declared.book.Task.{Task}
 use Rattle.pb_verify.specs.Judges.{plays_mean, tasks_verdict}
-use Rattle.pb_verify.specs.Meaning.{or_later}
+use Rattle.pb_verify.specs.Meaning.{or_later, accepts}
 
 both_offences : (o p : Option Refusal) (v : Verdict) → offence_verdict o (offence_verdict p v) ≡ offence_verdict (or_later o p) v
 both_offences None p v = refl
@@ -59,3 +60,12 @@ pub no_item : (ps : List Play) → is_numbered ps ≡ true → (length ps ≡ 1 
 no_item [] n f = refl
 no_item (q ∷ []) n f = absurd (f refl)
 no_item (q ∷ r ∷ ps) n f = untrue n
+
+-- an accepted verdict has that number
+pub accepts_is : (n : ℕ) (v : Verdict) → accepts n v ≡ true → v ≡ accepted n
+accepts_is n (accepted m) h = ap accepted (sym (eqb-true n m h))
+accepts_is n (refused r) h = untrue h
+
+-- one host is no two
+pub lone_distinct : (h : Name) (inventory : Inventory) → inventory ≡ lone_host h → are_distinct (host_names inventory.hosts) ≡ true
+lone_distinct h inventory e = rw e refl

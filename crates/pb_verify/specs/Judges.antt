@@ -4,6 +4,8 @@ use Rattle.pb_semantics.specs.Kind.{no_slots}
 use Rattle.pb_language.specs.Expression.{Name}
 use Rattle.pb_language.specs.Book.{Book, Registry}
 use Rattle.pb_language.specs.Judged.{judged}
+use Rattle.pb_language.specs.Machine.{Event, State}
+use Rattle.pb_language.specs.Theorem.{run_of}
 use Rattle.pb_language.specs.Plain.{PlainTask, plain_play}
 use Rattle.pb_language.specs.Verdict.{Verdict, accepted, refused, offence_verdict}
 use Rattle.pb_language.proofs.PlainPass.{plain_rules, plain_flow, plain_calls}
@@ -28,6 +30,10 @@ tasks_verdict ms h ts = offence_verdict (or_later (plain_rules ms ts) (plain_flo
 -- what was handed in is accepted, with that budget
 abbrev pub is_accepted : Accepted → Bool
 is_accepted a = accepts a.budget (judged (modules_of a.registry) (inventory_of (inventory_view a.inventory)) (book_of a.book))
+
+-- the run of what was accepted, after these events
+abbrev pub run_of_accepted : Accepted → ℕ → List Event → State
+run_of_accepted a forks es = run_of (modules_of a.registry) (inventory_of (inventory_view a.inventory)) (book_of a.book) forks es
 
 abbrev pub Refuses : VerifyFault → Verdict → Type 0
 Refuses (Refused r) v = v ≡ refused (refusal_of r)

@@ -58,9 +58,10 @@ impl Clone for Checked {
 }
 
 impl Checked {
-    ghost use Rattle.std.specs.Prelude.{length, true};
+    ghost use Rattle.std.specs.Prelude.{ℕ, ◌≤◌, List, length, true, false};
+    ghost use Rattle.pb_language.specs.Machine.{Event};
     ghost use Rattle.pb_inventory.specs.Inventory.{inventory_view};
-    ghost use Rattle.pb_verify.specs.Judges.{is_accepted};
+    ghost use Rattle.pb_verify.specs.Judges.{is_accepted, run_of_accepted};
 
     /// What was accepted.
     pub(crate) fn of(alloc: Global, accepted: Accepted) -> Result<Checked, AllocError>
@@ -72,10 +73,13 @@ impl Checked {
         })
     }
 
-    /// The most module calls that a run of the book hands out.
+    /// The most module calls that a run of the book hands out. Whatever the number of forks, the order of events and the
+    /// answers of modules: no step of the run is stuck, and it hands out no more calls.
     pub fn budget(&self) -> u64
         ensures budget { result ≡ self.now.budget }
         ensures accepted { is_accepted self.now ≡ true }
+        ensures sound { (forks : ℕ) (es : List Event) → (run_of_accepted self.now forks es).is_stuck ≡ false }
+        ensures within { (forks : ℕ) (es : List Event) → (run_of_accepted self.now forks es).handed ≤ result }
     {
         self.accepted.budget
     }

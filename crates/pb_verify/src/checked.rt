@@ -79,7 +79,7 @@ impl Checked {
         ensures budget { result ≡ self.now.budget }
         ensures accepted { is_accepted self.now ≡ true }
         ensures sound { (forks : ℕ) (es : List Event) → (run_of_accepted self.now forks es).is_stuck ≡ false }
-        ensures within { (forks : ℕ) (es : List Event) → (run_of_accepted self.now forks es).handed ≤ result }
+        ensures within { (forks : ℕ) (es : List Event) → (run_of_accepted self.now forks es).handed ≤ self.now.budget }
     {
         self.accepted.budget
     }

@@ -1,6 +1,6 @@
 -- A run of plain tasks on one host, as a machine over the tasks that are left.
-use Rattle.std.specs.Prelude.{ℕ, zero, suc, ◌+◌, List, [], ◌∷◌, Bool, true, false, not, ◌&&◌, ◌||◌, nat_lt, cond, Option, Some, None, codes}
-use Rattle.pb_semantics.specs.Data.{Data, Fields, no_fields}
+use Rattle.std.specs.Prelude.{ℕ, zero, suc, ◌+◌, List, [], ◌∷◌, Bool, true, false, not, ◌&&◌, nat_lt, cond, None}
+use Rattle.pb_semantics.specs.Data.{Fields, no_fields}
 use Rattle.pb_language.specs.Expression.{Name}
 use Rattle.pb_language.specs.World.{World}
 use Rattle.pb_language.specs.Task.{Task}
@@ -11,7 +11,7 @@ use Rattle.pb_language.specs.Plays.{play_with}
 use Rattle.pb_language.specs.Program.{Batch}
 use Rattle.pb_language.specs.Setting.{named_fields}
 use Rattle.pb_language.specs.Start.{Pass, Plan, planned, halted, plan_of, call_count}
-use Rattle.pb_language.specs.Give.{Answer, Own, Ended, Results, results_are, no_results, Admitted, admitted, breached, unreached, admit_passes, end_all, any_failed, message_of, written_variables}
+use Rattle.pb_language.specs.Give.{Answer, Ended, Results, results_are, no_results, Admitted, admitted, breached, unreached, admit_passes, end_all, any_failed, message_of, written_variables}
 use Rattle.pb_language.specs.Machine.{Event, start, give, turn, stop, Ready, over, begins, Stage, waits, runs, Recap, Host, State, gone, empty_recap, task_recap}
 use Rattle.pb_language.proofs.PlainPass.{plain_run, lone_setting}
 

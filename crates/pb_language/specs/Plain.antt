@@ -1,14 +1,9 @@
 -- Books of the first path: one play on all hosts, of tasks that call a module, show a message or set variables, on an inventory of one host.
-use Rattle.std.specs.Prelude.{ℕ, suc, ◌+◌, List, [], ◌∷◌, Bool, true, false, not, ◌&&◌, ◌==◌, cond, Option, Some, None, codes}
+use Rattle.std.specs.Prelude.{ℕ, suc, List, [], ◌∷◌, Bool, true, false, ◌&&◌, ◌==◌, Option, None, codes}
 use Rattle.pb_semantics.specs.Data.{no_fields}
-use Rattle.pb_semantics.specs.Kind.{Slots, no_slots}
-use Rattle.pb_semantics.specs.Keeps.{is_among}
-use Rattle.pb_language.specs.Expression.{Name, Expression, Expressions, Parts, no_parts}
-use Rattle.pb_language.specs.Expansion.{part_named}
+use Rattle.pb_language.specs.Expression.{Name, Expressions, no_parts}
 use Rattle.pb_language.specs.Simple.{are_simple, parts_simple}
-use Rattle.pb_language.specs.World.{Group}
-use Rattle.pb_language.specs.Book.{Work, module_work, debug_work, set_fact_work, assert_work, fail_work, TaskData, Steps, no_steps, task_step, PlayData, Registry}
-use Rattle.pb_language.specs.Plays.{action_of, module_named}
+use Rattle.pb_language.specs.Book.{Work, module_work, debug_work, set_fact_work, assert_work, fail_work, TaskData, Steps, no_steps, task_step, PlayData}
 use Rattle.pb_language.specs.Program.{Inventory}
 
 pub record PlainTask : Type 0 where

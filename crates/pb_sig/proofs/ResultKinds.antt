@@ -1,15 +1,15 @@
 -- The kinds of results beside their cases.
-use Rattle.std.proofs.Common.{◌≡◌, ℕ, List, [], ◌∷◌, Bool, true, false, cond, Vec, String, Global, string_bytes, refl, sym, ap, ◌∙◌, codes}
+use Rattle.std.proofs.Common.{◌≡◌, [], ◌∷◌, Bool, true, false, cond, Vec, Global, string_bytes, refl, sym, ap, ◌∙◌, codes}
 use Rattle.std.proofs.Common.{rules}
 use Rattle.std.specs.Str.{bytes_eq}
 use Rattle.std.specs.declared.sync.Arc.{Arc}
-use Rattle.pb_semantics.specs.Kind.{KindData, Slots, Cases, Shape, never, booleans, no_slots, slot, recs, results, no_cases, one, put_slot, is_listed, ok_shape, skipped_shape}
+use Rattle.pb_semantics.specs.Kind.{KindData, Slots, Cases, Shape, booleans, no_slots, slot, recs, results, no_cases, one, put_slot, is_listed, ok_shape, skipped_shape}
 use Rattle.pb_semantics.specs.Join.{join, append_cases}
 use Rattle.pb_semantics.proofs.Bools.{untrue}
 use Rattle.pb_language.specs.Expression.{Name}
-use Rattle.pb_language.specs.Cases.{skipped_slots, ended_kind}
+use Rattle.pb_language.specs.Cases.{ended_kind}
 use Rattle.pb_language.specs.Narrow.{results_of}
-use Rattle.pb_language.specs.Scope.{without_slot, with_slot}
+use Rattle.pb_language.specs.Scope.{without_slot}
 use Rattle.pb_value.specs.KindView.{kind_view, cases_view, shape_view}
 use Rattle.pb_value.specs.declared.kind.Case.{Case}
 use Rattle.pb_value.specs.declared.kind.Kind.{Kind}

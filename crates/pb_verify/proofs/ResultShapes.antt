@@ -1,5 +1,5 @@
 -- What a table of results says of a module that is known.
-use Rattle.std.proofs.Common.{◌≡◌, List, [], ◌∷◌, map, Bool, true, false, not, ◌&&◌, cond, Option, Some, None, is_some, bytes_eq, codes, refl, sym, ap, ◌∙◌}
+use Rattle.std.proofs.Common.{◌≡◌, List, [], ◌∷◌, map, Bool, true, false, not, ◌&&◌, cond, Option, Some, None, is_some, bytes_eq, codes, refl, ap, ◌∙◌}
 use Rattle.pb_semantics.specs.Kind.{KindData, Slots, recs, slot_at, is_listed}
 use Rattle.pb_semantics.specs.Signature.{ModuleData, is_shape, are_free, is_certain_boolean}
 use Rattle.pb_semantics.proofs.Bools.{and-right, not-true, untrue}

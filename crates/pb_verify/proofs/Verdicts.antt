@@ -1,12 +1,12 @@
 -- The verdict of the definitions on the books that are built so far.
-use Rattle.std.proofs.Common.{◌≡◌, ◌≤◌, ◌<◌, arith, slice_index_or, ℕ, suc, List, [], ◌∷◌, Bool, true, false, ◌&&◌, ◌==◌, Option, Some, None, length, map, nat_le, refl, sym, ap, ◌∙◌}
+use Rattle.std.proofs.Common.{◌≡◌, ◌≤◌, ◌<◌, arith, slice_index_or, ℕ, suc, List, [], ◌∷◌, true, ◌&&◌, ◌==◌, Option, Some, None, length, nat_le, refl, sym, ap, ◌∙◌}
 use Rattle.std.proofs.lemmas.Bool.{eqb-true}
 use Rattle.pb_semantics.specs.Kind.{no_slots}
 use Rattle.pb_semantics.proofs.Bools.{untrue, and-left, and-right}
 use Rattle.pb_language.specs.Book.{Registry}
 use Rattle.pb_language.specs.Expression.{Name}
 use Rattle.pb_language.specs.Judged.{judged}
-use Rattle.pb_language.specs.Plain.{PlainTask, plain_play, lone_host, are_plain_tasks, are_lined}
+use Rattle.pb_language.specs.Plain.{lone_host, are_plain_tasks, are_lined}
 use Rattle.pb_language.specs.Program.{Inventory}
 use Rattle.pb_language.specs.Verdict.{Verdict, Refusal, accepted, refused, offence_verdict}
 use Rattle.pb_language.specs.Theorem.{are_distinct, host_names}

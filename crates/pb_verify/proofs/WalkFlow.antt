@@ -1,13 +1,13 @@
 -- The tasks that are left on a host's way, and how one task takes it further.
-use Rattle.std.proofs.Common.{◌≡◌, ℕ, suc, List, [], ◌∷◌, map, Bool, true, false, not, ◌&&◌, cond, Option, Some, None, option_map, is_some, string_bytes, refl, sym, ap, ◌∙◌, subst}
+use Rattle.std.proofs.Common.{◌≡◌, ℕ, suc, List, [], ◌∷◌, Bool, true, false, not, ◌&&◌, cond, Option, Some, None, is_some, string_bytes, refl, sym, ap, ◌∙◌}
 use Rattle.pb_semantics.specs.Kind.{Slots, no_slots}
 use Rattle.pb_semantics.specs.Signature.{ModuleData}
 use Rattle.pb_semantics.proofs.Bools.{untrue, and-left, and-right}
 use Rattle.pb_language.specs.Book.{Registry}
-use Rattle.pb_language.specs.Cases.{Sets, is_conditional, is_setup}
-use Rattle.pb_language.specs.Expression.{Name, Parts, no_parts}
+use Rattle.pb_language.specs.Cases.{is_conditional, is_setup}
+use Rattle.pb_language.specs.Expression.{Name, Parts}
 use Rattle.pb_language.specs.Fit.{Fault}
-use Rattle.pb_language.specs.Judgement.{is_lawful, task_fault, going_slots}
+use Rattle.pb_language.specs.Judgement.{is_lawful, going_slots}
 use Rattle.pb_language.specs.Plain.{PlainTask, task_data, is_plain_task, are_plain_tasks}
 use Rattle.pb_language.specs.Plays.{module_named}
 use Rattle.pb_language.specs.Rules.{is_well_formed, reserved_names, written_names, any_among}
@@ -16,7 +16,7 @@ use Rattle.pb_language.proofs.PlainPass.{plain_run, lone_setting, plain_rules, p
 use Rattle.pb_sig.specs.ModuleView.{are_plain_modules}
 use Rattle.pb_sig.specs.Modules.{module_at}
 use Rattle.pb_book.specs.Lines.{is_known, are_known}
-use Rattle.pb_book.specs.Meaning.{work_of, plain_task, plain_tasks, condition_view, argument_parts}
+use Rattle.pb_book.specs.Meaning.{work_of, plain_task, plain_tasks}
 use Rattle.pb_book.specs.declared.book.Task.{Task}
 use Rattle.pb_book.specs.declared.book.Work.{Work}
 use Rattle.pb_book.specs.declared.book.Work.TheVariants.{Module, Debug, SetFact}

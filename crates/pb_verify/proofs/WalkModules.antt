@@ -1,7 +1,7 @@
 -- A module that a registry finds keeps the laws, so a call of it is asked its arguments alone.
-use Rattle.std.proofs.Common.{◌≡◌, List, [], ◌∷◌, Bool, true, false, not, ◌&&◌, cond, Option, Some, None, is_some, bytes_eq, refl, sym, ap, ◌∙◌}
+use Rattle.std.proofs.Common.{◌≡◌, List, [], ◌∷◌, Bool, true, false, not, ◌&&◌, cond, Option, Some, bytes_eq, ap, ◌∙◌}
 use Rattle.pb_semantics.specs.Signature.{ModuleData}
-use Rattle.pb_semantics.proofs.Bools.{and-left, and-right, untrue}
+use Rattle.pb_semantics.proofs.Bools.{and-left, and-right}
 use Rattle.pb_language.specs.Expression.{Name, Parts}
 use Rattle.pb_language.specs.Task.{call_of}
 use Rattle.pb_language.specs.Cases.{is_setup}

@@ -1,12 +1,11 @@
 -- A name that isn't reserved is written in what is known and in the environment of the place alike.
-use Rattle.std.proofs.Common.{◌≡◌, List, [], ◌∷◌, Bool, true, false, ◌||◌, cond, bytes_eq, codes, refl, sym, ap, ◌∙◌, subst}
-use Rattle.pb_semantics.specs.Kind.{KindData, Slots, Spot, texts, hosts, lists, recs, nowhere, spot, slot_at}
+use Rattle.std.proofs.Common.{◌≡◌, [], ◌∷◌, Bool, true, false, ◌||◌, cond, bytes_eq, codes, refl, sym, ap, ◌∙◌, subst}
+use Rattle.pb_semantics.specs.Kind.{Slots, Spot, texts, hosts, lists, recs, nowhere, spot, slot_at}
 use Rattle.pb_semantics.specs.Keeps.{is_among}
-use Rattle.pb_semantics.proofs.Bools.{untrue}
-use Rattle.pb_semantics.proofs.Names.{same_name, own_name}
+use Rattle.pb_semantics.proofs.Names.{same_name}
 use Rattle.pb_semantics.proofs.PutSlots.{at_put}
 use Rattle.pb_language.specs.Expression.{Name, Parts, no_parts, part}
-use Rattle.pb_language.specs.Cases.{Sets, set_spot, parts_set, with_sets}
+use Rattle.pb_language.specs.Cases.{set_spot, parts_set, with_sets}
 use Rattle.pb_language.specs.Kinds.{kind_of}
 use Rattle.pb_language.specs.Rules.{reserved_names, part_names, any_among}
 use Rattle.pb_language.specs.Scope.{Scope, with_spot}

@@ -1,8 +1,6 @@
 -- The names that a task sets, one after the other.
-use Rattle.std.proofs.Common.{◌≡◌, List, [], ◌∷◌, ◌++◌, Bool, String, Global, string_bytes, refl, sym, ap, ◌∙◌}
+use Rattle.std.proofs.Common.{◌≡◌, List, [], ◌∷◌, ◌++◌, Bool, String, Global, string_bytes, refl, ap}
 use Rattle.std.specs.declared.sync.Arc.{Arc}
-use Rattle.pb_semantics.specs.Kind.{KindData}
-use Rattle.pb_language.specs.Expression.{Name}
 use Rattle.pb_language.specs.Cases.{Sets, no_sets, sets, append_sets}
 use Rattle.pb_value.specs.KindView.{kind_view}
 use Rattle.pb_value.specs.declared.kind.Kind.{Kind}

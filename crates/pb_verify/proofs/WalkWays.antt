@@ -1,15 +1,14 @@
 -- One task on a host's way: it asks the same of what is known and of the environment of its place, and both are alike after it.
-use Rattle.std.proofs.Common.{◌≡◌, ℕ, suc, List, [], ◌∷◌, ◌++◌, Bool, true, false, not, ◌&&◌, cond, Option, Some, None, is_some, codes, string_bytes, refl, sym, ap, ◌∙◌, subst}
-use Rattle.pb_semantics.specs.Kind.{KindData, Slots, no_slots, no_cases, one, recs, spot, skipped_shape}
+use Rattle.std.proofs.Common.{◌≡◌, ℕ, ◌++◌, Bool, true, false, not, ◌&&◌, cond, Option, Some, None, refl, sym}
+use Rattle.pb_semantics.specs.Kind.{KindData, Slots, no_cases, one, recs, spot, skipped_shape}
 use Rattle.pb_semantics.specs.Keeps.{is_among}
 use Rattle.pb_semantics.specs.Join.{append_cases}
-use Rattle.pb_semantics.specs.Signature.{ModuleData}
 use Rattle.pb_semantics.proofs.Bools.{untrue, and-left, and-right, not-true}
-use Rattle.pb_language.specs.Book.{Work, module_work, debug_work, set_fact_work, assert_work, fail_work, Registry}
-use Rattle.pb_language.specs.Cases.{Sets, is_conditional, is_setup, is_lawful_shape, slots_of, skipped_slots, action_name, action_sets, answered_cases, going_cases, with_sets, with_register}
-use Rattle.pb_language.specs.Expression.{Name, Expressions, Parts, no_parts}
+use Rattle.pb_language.specs.Book.{Work, module_work, debug_work, set_fact_work, Registry}
+use Rattle.pb_language.specs.Cases.{is_conditional, is_setup, is_lawful_shape, skipped_slots, action_name, action_sets, answered_cases, with_sets, with_register}
+use Rattle.pb_language.specs.Expression.{Name}
 use Rattle.pb_language.specs.Fit.{Fault, first}
-use Rattle.pb_language.specs.Judgement.{is_lawful, conditions_fault, action_fault, task_fault, task_sets, task_kind, going_slots}
+use Rattle.pb_language.specs.Judgement.{is_lawful, action_fault, task_fault, going_slots}
 use Rattle.pb_language.specs.Narrow.{results_of, cases_with}
 use Rattle.pb_language.specs.Plain.{PlainTask, task_data, is_plain_work, is_plain_task}
 use Rattle.pb_language.specs.Plays.{module_named}

@@ -1,13 +1,13 @@
 -- What an inventory and a refusal stand for.
-use Rattle.std.specs.Prelude.{◌≡◌, ℕ, zero, suc, List, [], ◌∷◌, map, Option, Some, None, option_map, string_bytes, Result, Ok, Err, Bool, true, false, nat_eq}
+use Rattle.std.specs.Prelude.{ℕ, List, [], ◌∷◌, map, Option, Some, None, option_map, string_bytes, Bool, false, nat_eq}
 use Rattle.pb_language.specs.Expression.{Name}
-use Rattle.pb_language.specs.World.{Group, HostVariables, name_at}
+use Rattle.pb_language.specs.World.{name_at}
 use Rattle.pb_language.specs.Program as program
 use Rattle.pb_language.specs.Verdict as verdict
 use Rattle.pb_language.specs.Verdict.{Verdict, accepted, refused}
-use Rattle.pb_inventory.specs.Hosts.{HostData, GroupData, InventoryData}
+use Rattle.pb_inventory.specs.Hosts.{HostData, InventoryData}
 use Rattle.pb_verify.specs.declared.refusal.Code.{Code}
-use Rattle.pb_verify.specs.declared.refusal.Code.TheVariants.{N00, P01, I01, A01, A02, A03, V01, V03, V04, V07, V08}
+use Rattle.pb_verify.specs.declared.refusal.Code.TheVariants.{V01, V03, V04, V07, V08}
 use Rattle.pb_verify.specs.declared.refusal.Refusal.{Refusal}
 
 abbrev pub member_names : List HostData → List ℕ → List Name

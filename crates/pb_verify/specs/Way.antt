@@ -4,7 +4,7 @@ use Rattle.std.specs.declared.alloc.Global.{Global}
 use Rattle.std.specs.declared.sync.Arc.{Arc}
 use Rattle.std.specs.Prelude.{String}
 use Rattle.pb_semantics.specs.Kind.{KindData, Slots, Spot, nowhere, spot, slot_at, put_slot}
-use Rattle.pb_language.specs.Expression.{Name, Parts}
+use Rattle.pb_language.specs.Expression.{Name}
 use Rattle.pb_language.specs.Book.{Work, module_work, debug_work, set_fact_work, assert_work, fail_work, Registry}
 use Rattle.pb_language.specs.Fit.{Fault, first}
 use Rattle.pb_language.specs.Judgement.{conditions_fault, action_fault}

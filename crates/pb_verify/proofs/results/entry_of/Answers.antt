@@ -1,12 +1,9 @@
-use Rattle.std.proofs.Common.{◌≡◌, true, refl, sym, ap, ◌∙◌, string_bytes}
+use Rattle.std.proofs.Common.{◌≡◌, refl, sym, ap, ◌∙◌, string_bytes}
 use Rattle.pb_semantics.specs.Kind.{recs}
 use Rattle.pb_semantics.specs.Signature.{is_shape}
 use Rattle.pb_language.specs.Cases.{slots_of}
-use Rattle.pb_language.specs.Narrow.{results_of}
 use Rattle.pb_value.specs.KindView.{kind_view, slots_view}
 use Rattle.pb_value.proofs.Views.{kind_view-Rec}
-use Rattle.pb_sig.specs.ModuleView.{builtin_view}
-use Rattle.pb_sig.specs.Results.{result_cases, result_kind}
 use Rattle.pb_verify.proofs.ResultShapes.{unfailed}
 use Rattle.pb_verify.proofs.results.entry_of.Goals as goal
 

@@ -1,4 +1,4 @@
-use Rattle.std.proofs.Common.{ap, ◌≡◌, ◌∷◌, [], List, sym, subst, ◌∙◌, true}
+use Rattle.std.proofs.Common.{ap, ◌≡◌, List, sym, subst, ◌∙◌, true}
 use Rattle.pb_sig.specs.Modules.{modules_of}
 use Rattle.pb_inventory.specs.Inventory.{inventory_view}
 use Rattle.pb_language.specs.Judged.{judged}
@@ -9,7 +9,7 @@ use Rattle.pb_book.specs.declared.book.Play.{Play}
 use Rattle.pb_verify.specs.Judges.{Judges, plays_mean, tasks_verdict}
 use Rattle.pb_verify.specs.Meaning.{inventory_of}
 use Rattle.pb_verify.proofs.Lone.{alone}
-use Rattle.pb_verify.proofs.Verdicts.{one_play, no_plays, only_item, no_item}
+use Rattle.pb_verify.proofs.Verdicts.{one_play, only_item}
 use Rattle.pb_verify.proofs.verify.judge.Goals as goal
 
 pub returns-in-len1 : goal.returns-in-len1

@@ -1,4 +1,4 @@
-use Rattle.std.proofs.Common.{Some, option_map, subst, sym, ap, ◌∙◌}
+use Rattle.std.proofs.Common.{option_map, subst, sym, ap, ◌∙◌}
 use Rattle.pb_language.specs.Judgement.{arguments_fault}
 use Rattle.pb_value.specs.KindView.{slots_view}
 use Rattle.pb_expr.specs.FitView.{own_scope}

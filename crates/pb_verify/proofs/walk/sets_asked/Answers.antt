@@ -1,10 +1,8 @@
-use Rattle.std.proofs.Common.{◌≡◌, ◌+◌, [], ◌∷◌, ◌++◌, drop, string_bytes, sym, ap, ◌∙◌}
+use Rattle.std.proofs.Common.{◌≡◌, ◌+◌, ◌∷◌, drop, string_bytes, sym, ap, ◌∙◌}
 use Rattle.std.proofs.lemmas.List.{drop_all}
-use Rattle.pb_language.specs.Cases.{append_sets, no_sets, sets, parts_set}
-use Rattle.pb_language.specs.Kinds.{kind_of}
+use Rattle.pb_language.specs.Cases.{append_sets, sets, parts_set}
 use Rattle.pb_language.specs.Fit.{fields_fault, first}
 use Rattle.pb_value.specs.KindView.{kind_view, slots_view}
-use Rattle.pb_expr.specs.ExprView.{expr_view}
 use Rattle.pb_expr.specs.FitView.{own_scope}
 use Rattle.pb_expr.proofs.Turns.{drop-at}
 use Rattle.pb_book.specs.Meaning.{argument_parts}

@@ -1,6 +1,6 @@
-use Rattle.std.proofs.Common.{◌≡◌, refl, true, false, ap, ◌∙◌, codes, string_bytes}
-use Rattle.pb_semantics.specs.Kind.{Slots, booleans, put_slot, recs, ok_shape, skipped_shape}
-use Rattle.pb_language.specs.Cases.{skipped_slots, ended_kind}
+use Rattle.std.proofs.Common.{◌≡◌, refl, true, ap, ◌∙◌, codes, string_bytes}
+use Rattle.pb_semantics.specs.Kind.{booleans, recs, ok_shape, skipped_shape}
+use Rattle.pb_language.specs.Cases.{skipped_slots}
 use Rattle.pb_language.specs.Scope.{with_slot}
 use Rattle.pb_value.specs.KindView.{slots_view, kind_view, shape_view}
 use Rattle.pb_value.proofs.Views.{kind_view-Rec}

@@ -99,9 +99,14 @@ module _ (ms : Registry) (before now : Slots) (all : List PlainTask) where
           let p = w.0 in
           let env = w.1.0 in
           let next = going_slots (lone_setting h) (plain_run ms p t) env in
-          let asked = asked_here ms h p t now env plain w.1.1.0 ∙ e in
-          (suc p, (next, (
-            stands_after ms h p t now env plain w.1.1.0 kept free,
-            ap (λ o. fault_or h t.line o (plain_flow ms h (suc p) next rest)) (sym asked) ∙ w.1.1.1,
-          )));
+          let asked = asked_here ms h p t now env plain w.1.1.0 ∙ e in (
+            suc p,
+            (
+              next,
+              (
+                stands_after ms h p t now env plain w.1.1.0 kept free,
+                ap (λ o. fault_or h t.line o (plain_flow ms h (suc p) next rest)) (sym asked) ∙ w.1.1.1,
+              ),
+            ),
+          );
     }

@@ -129,7 +129,7 @@ fn first_refusal(
     requires plain { are_plain_tasks (plain_tasks tasks.now) ≡ true }
     ensures { IfOk result (λ o. (h : Name) → inventory_of (inventory_view inventory.now) ≡ lone_host h
         → option_map refusal_of o ≡ or_later (plain_rules (modules_of registry.now) (plain_tasks tasks.now))
-            (plain_flow (modules_of registry.now) h 0 no_slots (plain_tasks tasks.now))) }
+        (plain_flow (modules_of registry.now) h 0 no_slots (plain_tasks tasks.now))) }
 {
     if let Some(refusal) = first_offence(tasks, registry) {
         return Ok(Some(refusal));

@@ -82,9 +82,17 @@ pub fn opening(alloc: Global, name: &str, groups: usize) -> Result<Slots, AllocE
     let mut names = BTreeSet::new(alloc);
     drop(names.insert(String::from_str(alloc, name)?)?);
     let host = certain(Kind::Host(Arc::new(alloc, names)?));
-    put(&mut environment, String::from_str(alloc, "inventory_hostname")?, host)?;
+    put(
+        &mut environment,
+        String::from_str(alloc, "inventory_hostname")?,
+        host,
+    )?;
     let list = certain(Kind::List(Arc::new(alloc, Kind::Text)?, groups));
-    put(&mut environment, String::from_str(alloc, "group_names")?, list)?;
+    put(
+        &mut environment,
+        String::from_str(alloc, "group_names")?,
+        list,
+    )?;
     Ok(environment)
 }
 
@@ -167,12 +175,16 @@ fn arguments_asked(
     Ok(())
 }
 
-fn message_asked(alloc: Global, arguments: &Vec<Argument>, environment: &Slots) -> Result<(), KindFault>
+fn message_asked(
+    alloc: Global,
+    arguments: &Vec<Argument>,
+    environment: &Slots,
+) -> Result<(), KindFault>
     ensures { Asks result (first
         (fault (own_scope (slots_view environment.now.entries))
-            (argument_or (part_named (codes "msg") (argument_parts arguments.now.items))))
+        (argument_or (part_named (codes "msg") (argument_parts arguments.now.items))))
         (asks wrong_kind (not (is_anything (kind_found (own_scope (slots_view environment.now.entries))
-            (argument_or (part_named (codes "msg") (argument_parts arguments.now.items)))))))) }
+        (argument_or (part_named (codes "msg") (argument_parts arguments.now.items)))))))) }
 {
     if let Some(message) = argument_named(arguments, "msg") {
         drop(value_asked(alloc, message, environment)?);
@@ -193,7 +205,11 @@ fn argument_named<'a>(arguments: &'a Vec<Argument>, name: &str) -> Option<&'a Ex
 }
 
 // The values are of kinds that are known.
-fn sets_asked(alloc: Global, arguments: &Vec<Argument>, environment: &Slots) -> Result<Sets, KindFault>
+fn sets_asked(
+    alloc: Global,
+    arguments: &Vec<Argument>,
+    environment: &Slots,
+) -> Result<Sets, KindFault>
     ensures fault { Asks result (fields_fault (own_scope (slots_view environment.now.entries)) (argument_parts arguments.now.items)) }
     ensures sets { IfOk result (λ s. (a : Bool) → sets_of a s.items
         ≡ parts_set (own_scope (slots_view environment.now.entries)) a (argument_parts arguments.now.items)) }
@@ -260,9 +276,9 @@ fn write(
     ensures { OnOk result ((ms : Modules) → Lists results.now ms → is_known ms task.now.work ≡ true
         → slots_view environment.new.entries
         ≡ all_set (sets_of (not (is_conditional (condition_view task.now.when))) sets.items)
-            (registered (option_map (λ n. string_bytes n.value) task.now.register)
-            (work_result ms (is_conditional (condition_view task.now.when)) (work_of task.now.work no_parts))
-            (slots_view environment.old.entries))) }
+        (registered (option_map (λ n. string_bytes n.value) task.now.register)
+        (work_result ms (is_conditional (condition_view task.now.when)) (work_of task.now.work no_parts))
+        (slots_view environment.old.entries))) }
 {
     let may_skip = task.when.is_some();
     if let Some(name) = &task.register {

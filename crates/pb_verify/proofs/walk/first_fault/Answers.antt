@@ -41,7 +41,7 @@ returns-in-Err-Unfit c =
     let way = subst (λ ts. Way ms before now (plain_tasks tasks) (plain_tasks ts)) next c.loop-task.invariant.way in
     let fault = subst (λ e. Fails e (own_fault ms now (plain_task t))) c.in-Err-Unfit.field-0-is c.in-Err-Unfit.ensures.fault in
     λ h s. ap (λ u. Some (fault_refusal h (record { unfit = u; line = t.line }))) c.in-Err-Unfit.unfit-is
-        ∙ way_fault ms before now (plain_tasks tasks) (plain_task t) (plain_tasks rest) plain way (fault_view c.in-Err-Unfit.unfit) fault h s
+    ∙ way_fault ms before now (plain_tasks tasks) (plain_task t) (plain_tasks rest) plain way (fault_view c.in-Err-Unfit.unfit) fault h s
 
 pub loop-task-preserved : goal.loop-task-preserved
 loop-task-preserved c =
@@ -61,8 +61,8 @@ loop-task-preserved c =
     let kept = known_kept ms t.work (argument_parts t.arguments.items) c.args.registry.now.plain known in
     let on = way_on ms before now (plain_tasks tasks) p (plain_tasks rest) (first_plain ms t rest left) way c.in-Ok.ensures.fault kept (first_free ms t rest left) in
     let written = c.in_ok-write-in-Ok.ensures ms c.in_ok-results.ensures known
-        ∙ ap (λ s. all_set s (registered p.register (work_result ms q (work_of t.work no_parts)) now)) (c.in-Ok.ensures.sets (not q))
-        ∙ ap (λ k. all_set (own_sets (own_scope now) (not q) p.work) (registered p.register k now)) (same_result ms q t.work no_parts (argument_parts t.arguments.items)) in
+    ∙ ap (λ s. all_set s (registered p.register (work_result ms q (work_of t.work no_parts)) now)) (c.in-Ok.ensures.sets (not q))
+    ∙ ap (λ k. all_set (own_sets (own_scope now) (not q) p.work) (registered p.register k now)) (same_result ms q t.work no_parts (argument_parts t.arguments.items)) in
     record { left = later_rest ms t rest left; way = subst (λ ss. Way ms before ss (plain_tasks tasks) (plain_tasks rest)) (sym written) on }
 
 pub returns : goal.returns

@@ -15,12 +15,12 @@ returns-in-Some c =
     let named = c.as_str.ensures.value ∙ ap string_bytes c.deref.ensures in
     MatchResult-weaker c.clone.result c.clone.ensures.cases
     (λ k e ms l h.
-      let known = subst (λ w. is_known ms w ≡ true) c.in-Module.is h in
-      let found : Some (kind_view c.in-Some.kind.now) ≡ Some (work_result ms c.args.may_skip (module_work (string_bytes c.in-Module.name.value) no_parts)) =
-          module_kind_found (string_bytes c.in-Module.name.value) c.args.may_skip (map entry_listed c.args.self.now.modules.items) ms no_parts (Some (kind_view c.in-Some.kind.now))
-          (ap (option_map (λ k. kind_view k.now)) (sym c.in-Some.is) ∙ c.module_kind.ensures ∙ ap (λ n. kind_listed n c.args.may_skip (map entry_listed c.args.self.now.modules.items)) named) l.modules known in
-      let same : kind_view c.in-Some.kind.now ≡ work_result ms c.args.may_skip (module_work (string_bytes c.in-Module.name.value) no_parts) = cc in
-      e ∙ same ∙ ap (λ w. work_result ms c.args.may_skip (work_of w no_parts)) (sym c.in-Module.is))
+    let known = subst (λ w. is_known ms w ≡ true) c.in-Module.is h in
+    let found : Some (kind_view c.in-Some.kind.now) ≡ Some (work_result ms c.args.may_skip (module_work (string_bytes c.in-Module.name.value) no_parts)) =
+    module_kind_found (string_bytes c.in-Module.name.value) c.args.may_skip (map entry_listed c.args.self.now.modules.items) ms no_parts (Some (kind_view c.in-Some.kind.now))
+    (ap (option_map (λ k. kind_view k.now)) (sym c.in-Some.is) ∙ c.module_kind.ensures ∙ ap (λ n. kind_listed n c.args.may_skip (map entry_listed c.args.self.now.modules.items)) named) l.modules known in
+    let same : kind_view c.in-Some.kind.now ≡ work_result ms c.args.may_skip (module_work (string_bytes c.in-Module.name.value) no_parts) = cc in
+    e ∙ same ∙ ap (λ w. work_result ms c.args.may_skip (work_of w no_parts)) (sym c.in-Module.is))
     (λ y e. tt)
 
 pub returns-in-None : goal.returns-in-None
@@ -28,6 +28,6 @@ returns-in-None c ms l h =
     let named = c.as_str.ensures.value ∙ ap string_bytes c.deref.ensures in
     let known = subst (λ w. is_known ms w ≡ true) c.in-Module.is h in
     let found : None ≡ Some (work_result ms c.args.may_skip (module_work (string_bytes c.in-Module.name.value) no_parts)) =
-        module_kind_found (string_bytes c.in-Module.name.value) c.args.may_skip (map entry_listed c.args.self.now.modules.items) ms no_parts None
-        (ap (option_map (λ k. kind_view k.now)) (sym c.in-None.is) ∙ c.module_kind.ensures ∙ ap (λ n. kind_listed n c.args.may_skip (map entry_listed c.args.self.now.modules.items)) named) l.modules known in
+    module_kind_found (string_bytes c.in-Module.name.value) c.args.may_skip (map entry_listed c.args.self.now.modules.items) ms no_parts None
+    (ap (option_map (λ k. kind_view k.now)) (sym c.in-None.is) ∙ c.module_kind.ensures ∙ ap (λ n. kind_listed n c.args.may_skip (map entry_listed c.args.self.now.modules.items)) named) l.modules known in
     cc

@@ -1,4 +1,4 @@
-use Rattle.std.proofs.Common.{◌≡◌, ◌<◌, count_by, is_some, sym, ◌∙◌, rules}
+use Rattle.std.proofs.Common.{◌<◌, count_by, is_some, sym, ◌∙◌, rules}
 use Rattle.pb_strategy.specs.Jobs.{ticket_in}
 use Rattle.pb_strategy.proofs.Jobs.{one_out}
 use Rattle.pb_strategy.proofs.run.Run.take.Goals as goal

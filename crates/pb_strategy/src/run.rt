@@ -1,5 +1,5 @@
 // The run: where each host stands, and the history that brought it there.
-ghost use Rattle.std.specs.Prelude.{◌≡◌, ◌<◌, ◌≤◌, ◌+◌, ◌^◌, ◌++◌, ◌∷◌, [], length, replicate, set, ℕ, IfOk, IfErr, IfSome, IsErr, OnErr, OnOk, Some, None, count_by, is_some, option_map, slice_get, true, false};
+ghost use Rattle.std.specs.Prelude.{◌≡◌, ◌<◌, ◌≤◌, ◌+◌, ◌^◌, ◌++◌, ◌∷◌, [], length, replicate, set, ℕ, IfOk, IfErr, IfSome, IsErr, OnErr, OnOk, Some, None, count_by, get_or, is_some, option_map, slice_get, true, false};
 ghost use Rattle.pb_inventory.specs.Inventory.{inventory_view};
 ghost use Rattle.pb_book.specs.Books.{plays_of};
 ghost use Rattle.pb_strategy.specs.History.{RunState, after, IsAfterJob, IsAfterTake, has_no_plays, is_stopped, is_ended, is_over};
@@ -111,7 +111,8 @@ impl Run {
     // Starts the next task of a host that is ready.
     fn begin(&mut self, host: usize) -> Result<Job, AllocError>
         requires going { is_stopped self.old.history ≡ false }
-        requires host { host < length self.old.recaps }
+        requires there { host < length self.old.recaps }
+        requires free { ticket_out host self.old.history ≡ None }
         ensures job { IfOk result (λ j. (j.host ≡ host) × IsAfterJob j self.old self.new) }
         ensures few { OnOk result (self.new.handed < 2 ^ 63) }
         ensures err { OnErr result (self.new ≡ self.old) }
@@ -279,7 +280,8 @@ fn running(hosts: &[HostState]) -> usize
 
 // The waiting host with the lowest place, ties by host order, where fewer hosts than the forks are running.
 fn ready_host(hosts: &[HostState], tasks: &[Task], forks: usize) -> Option<usize>
-    ensures { IfSome result (λ h. h < length hosts.now) }
+    ensures there { IfSome result (λ h. h < length hosts.now) }
+    ensures free { IfSome result (λ h. get_or (tickets_of hosts.now) h None ≡ None) }
 {
     if running(hosts) >= forks {
         return None;
@@ -349,7 +351,8 @@ impl Run {
     // Something can still happen, and the host is ready.
     fn can_start(&self, host: usize) -> bool
         ensures going { result ≡ true → is_stopped self.now.history ≡ false }
-        ensures host { result ≡ true → host < length self.now.recaps }
+        ensures there { result ≡ true → host < length self.now.recaps }
+        ensures free { result ≡ true → ticket_out host self.now.history ≡ None }
     {
         match self.phase {
             Phase::Going => is_ready(&self.hosts, tasks_of(&self.checked), self.forks, host),
@@ -431,7 +434,8 @@ fn is_through(state: &HostState, tasks: usize) -> bool {
 }
 
 fn is_ready(hosts: &[HostState], tasks: &[Task], forks: usize, host: usize) -> bool
-    ensures { result ≡ true → host < length hosts.now }
+    ensures there { result ≡ true → host < length hosts.now }
+    ensures free { result ≡ true → get_or (tickets_of hosts.now) host None ≡ None }
 {
     match hosts.get(host) {
         Some(state) => {

@@ -20,7 +20,7 @@ invariant_of-self-2 c =
     let none : length c.self.inside.hosts.items ≤ c.args.host → c.len.result ≡ 0 = λ past. search rules in
     let more : handed_of c.set_running.new.hosts.items ≡ old + c.len.result =
     more_handed _ old c.len.result c.args.host (length c.self.inside.hosts.items) c.set_running.ensures.handed c.set_running.ensures.past none few in
-    let there : c.args.host < length (recaps_of c.self.inside.hosts.items) = rw (← c.self.view_is) at c.requires.host in
+    let there : c.args.host < length (recaps_of c.self.inside.hosts.items) = rw (← c.self.view_is) at c.requires.there in
     let within : c.args.host < length (tickets_of c.self.inside.hosts.items) =
     omega (arith, there, length-map c.self.inside.hosts.items (λ h. h.recap), length-map c.self.inside.hosts.items (λ h. ticket_in h.stage)) in
     let ticket : c.len-ticket.result ≡ length c.self.inside.history.items = search rules in

@@ -1,7 +1,8 @@
 -- A run that goes on by one event.
-use Rattle.std.proofs.Common.{◌≡◌, ◌<◌, ◌≤◌, ℕ, arith, List, [], ◌∷◌, ◌++◌, Bool, true, false, ◌||◌, length, vec_capacity, refl, sym, ap, ◌∙◌}
+use Rattle.std.proofs.Common.{◌≡◌, ◌<◌, ◌≤◌, ℕ, arith, List, [], ◌∷◌, ◌++◌, Bool, true, false, ◌||◌, length, vec_capacity, get_or, None, refl, sym, ap, ◌∙◌}
 use Rattle.pb_strategy.specs.History.{RunState, after, is_stop, is_stopped, is_turn, is_turned, is_over, has_no_plays}
-use Rattle.pb_strategy.specs.Inside.{IsRun, run_state, recaps_of, handed_of, is_phase_over}
+use Rattle.pb_strategy.specs.Inside.{IsRun, run_state, recaps_of, tickets_of, handed_of, is_phase_over}
+use Rattle.pb_strategy.specs.Jobs.{ticket_out}
 use Rattle.pb_strategy.specs.Tally.{IsTally}
 use Rattle.pb_inventory.specs.Inventory.{inventory_view}
 use Rattle.std.proofs.lemmas.List.{length-map, length_push}
@@ -56,12 +57,13 @@ is_over-same r s book same = rw (book, same) refl
 pub goes_on : (a b : Inside) (e : Event) → IsRun a → is_stop e ≡ false → is_turn e ≡ false → b.checked ≡ a.checked → b.phase ≡ a.phase
     → b.history.items ≡ a.history.items ++ e ∷ [] → length b.history.items < vec_capacity b.history
     → length (recaps_of b.hosts.items) ≡ length (recaps_of a.hosts.items) → IsTally b.history.items (recaps_of b.hosts.items)
-    → handed_of b.hosts.items ≤ length b.history.items → IsRun b
-goes_on a b e i unlike other book same items room many tally handed = record {
+    → handed_of b.hosts.items ≤ length b.history.items → ((k : ℕ) → get_or (tickets_of b.hosts.items) k None ≡ ticket_out k b.history.items) → IsRun b
+goes_on a b e i unlike other book same items room many tally handed tickets = record {
   room = λ _. room;
   stopped = rw (items, is_stopped-more a.history.items e, unlike, or-false (is_stopped a.history.items), same) i.stopped;
   over = is_over-same (run_state b) (after (run_state a) e) book items ∙ is_over-more (run_state a) e unlike other ∙ i.over ∙ ap is_phase_over (sym same);
   hosts = sym (length-map b.hosts.items _) ∙ many ∙ length-map a.hosts.items _ ∙ i.hosts ∙ ap (λ k. length (inventory_view k.inventory).hosts) (sym book);
   tally = tally;
   handed = handed;
+  tickets = tickets;
 }

@@ -1,3 +1,4 @@
 pub mod Histories
 pub mod Tallies
 pub mod HostFields
+pub mod Jobs

@@ -3,3 +3,4 @@ pub mod Inside
 pub mod Faults
 pub mod Recaps
 pub mod Tally
+pub mod Jobs

@@ -42,6 +42,11 @@ pub enum GiveError {
 }
 
 impl From<AllocError> for GiveError {
+    ghost use Rattle.std.specs.Prelude.{◌≡◌};
+    ghost use Rattle.pb_strategy.specs.declared.event.GiveError.TheVariants.{NoMemory};
+
+    ghost from_gives = { λ _ e. e ≡ NoMemory };
+
     fn from(_: AllocError) -> GiveError {
         GiveError::NoMemory
     }

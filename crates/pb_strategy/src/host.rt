@@ -1,7 +1,8 @@
 // What a run keeps of one host.
-ghost use Rattle.std.specs.Prelude.{◌≡◌, ◌<◌, ◌+◌, ◌^◌, ℕ, IfOk};
+ghost use Rattle.std.specs.Prelude.{◌≡◌, ◌<◌, ◌+◌, ◌^◌, ℕ, IfOk, None, is_some};
 ghost use Rattle.pb_value.specs.View.{fields_view};
 ghost use Rattle.pb_expr.specs.OwnWorld.{own_world};
+ghost use Rattle.pb_strategy.specs.Jobs.{ticket_in, is_ticket};
 ghost use Rattle.pb_strategy.specs.Recaps.{nothing, counted, Counts};
 
 use crate::recap::{Ending, Recap};
@@ -81,6 +82,7 @@ impl HostState {
     ) -> Result<HostState, AllocError>
         ensures recap { IfOk result (λ s. s.recap ≡ nothing) }
         ensures calls { IfOk result (λ s. s.calls ≡ 0) }
+        ensures ticket { IfOk result (λ s. ticket_in s.stage ≡ None) }
     {
         let name = Arc::new(alloc, String::from_str(alloc, name)?)?;
         let mut values = IndexMap::new(alloc);
@@ -102,8 +104,17 @@ impl HostState {
         })
     }
 
+    /// Whether a job of it is out.
+    pub fn is_busy(&self) -> bool
+        ensures { result ≡ is_some (ticket_in self.now.stage) }
+    {
+        matches!(self.stage, Stage::Running { .. })
+    }
+
     /// Whether its job of that ticket is out.
-    pub fn is_running(&self, job: usize) -> bool {
+    pub fn is_running(&self, job: usize) -> bool
+        ensures { result ≡ is_ticket job (ticket_in self.now.stage) }
+    {
         match &self.stage {
             Stage::Running { ticket, .. } => *ticket == job,
             Stage::Waiting | Stage::Left => false,
@@ -115,6 +126,7 @@ impl HostState {
         ensures counted { (tasks : ℕ) → Counts self.old.recap tasks → tasks + 1 < 2 ^ 64
             → self.new.recap ≡ counted ending self.old.recap }
         ensures calls { self.new.calls ≡ self.old.calls }
+        ensures ticket { ticket_in self.new.stage ≡ None }
     {
         self.recap = self.recap.with(ending);
         match ending {

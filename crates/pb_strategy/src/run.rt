@@ -1,9 +1,10 @@
 // The run: where each host stands, and the history that brought it there.
-ghost use Rattle.std.specs.Prelude.{◌≡◌, ◌<◌, ◌≤◌, ◌+◌, ◌^◌, ◌++◌, ◌∷◌, [], length, replicate, set, ℕ, IfOk, IfErr, IsErr, OnErr, OnOk, Some, option_map, slice_get, true, false};
+ghost use Rattle.std.specs.Prelude.{◌≡◌, ◌<◌, ◌≤◌, ◌+◌, ◌^◌, ◌++◌, ◌∷◌, [], length, replicate, set, ℕ, IfOk, IfErr, IfSome, IsErr, OnErr, OnOk, Some, None, count_by, get_or, is_some, option_map, slice_get, true, false};
 ghost use Rattle.pb_inventory.specs.Inventory.{inventory_view};
 ghost use Rattle.pb_book.specs.Books.{plays_of};
 ghost use Rattle.pb_strategy.specs.History.{RunState, after, IsAfterJob, IsAfterTake, has_no_plays, is_stopped, is_ended, is_over};
-ghost use Rattle.pb_strategy.specs.Inside.{recaps_of, handed_of, is_phase_over, is_phase_stopped};
+ghost use Rattle.pb_strategy.specs.Inside.{recaps_of, tickets_of, handed_of, is_phase_over, is_phase_stopped};
+ghost use Rattle.pb_strategy.specs.Jobs.{ticket_in, ticket_out, is_job_out};
 ghost use Rattle.pb_strategy.specs.Recaps.{nothing, counted, Counts};
 ghost use Rattle.pb_strategy.specs.Tally.{recap_of, gives_of, IsOneMore};
 
@@ -87,6 +88,8 @@ impl Run {
         ensures stopped { is_stopped self.old.history ≡ true → result ≡ Ok Taken.Stopped }
         ensures ended { is_stopped self.old.history ≡ false → is_ended self.old ≡ true
             → (result ≡ Ok Taken.Finished) × (self.new ≡ self.old) }
+        ensures idle { IfOk result (λ t. t ≡ Taken.Idle
+            → (k : ℕ) × (p : ℕ) × (ticket_out k self.old.history ≡ Some p)) }
     {
         match self.phase {
             Phase::Stopped => return Ok(Taken::Stopped),
@@ -107,7 +110,9 @@ impl Run {
 
     // Starts the next task of a host that is ready.
     fn begin(&mut self, host: usize) -> Result<Job, AllocError>
-        requires { is_stopped self.old.history ≡ false }
+        requires going { is_stopped self.old.history ≡ false }
+        requires there { host < length self.old.recaps }
+        requires free { ticket_out host self.old.history ≡ None }
         ensures job { IfOk result (λ j. (j.host ≡ host) × IsAfterJob j self.old self.new) }
         ensures few { OnOk result (self.new.handed < 2 ^ 63) }
         ensures err { OnErr result (self.new ≡ self.old) }
@@ -148,16 +153,18 @@ impl Run {
         ensures stopped { is_stopped self.old.history ≡ true → IfErr result (λ e. e.0 ≡ GiveError.Stopped) }
         ensures refused { is_stopped self.old.history ≡ true → IsErr result }
         ensures stopped_only { IfErr result (λ e. e.0 ≡ GiveError.Stopped → is_stopped self.old.history ≡ true) }
+        ensures done_only { OnOk result (is_job_out job.host job.ticket self.old.history ≡ true) }
+        ensures stranger { is_stopped self.old.history ≡ false → is_job_out job.host job.ticket self.old.history ≡ false
+            → IfErr result (λ e. e.0 ≡ GiveError.Stranger) × IsErr result }
+        ensures stranger_only { IfErr result (λ e. e.0 ≡ GiveError.Stranger
+            → is_job_out job.host job.ticket self.old.history ≡ false) }
     {
         if let Phase::Stopped = self.phase {
             return Err((GiveError::Stopped, job, answers));
         }
-        let found = match (
-            self.hosts.get(job.host),
-            task_of(&self.checked, &self.hosts, job.host),
-        ) {
-            (Some(state), Some(task)) if state.is_running(job.ticket) => {
-                outcome_of(&self.checked, &self.fixed, state, task, &answers)
+        let found = match self.hosts.get(job.host) {
+            Some(state) if state.is_running(job.ticket) => {
+                outcome_of(&self.checked, &self.fixed, state, &answers)
             }
             _ => return Err((GiveError::Stranger, job, answers)),
         };
@@ -238,6 +245,8 @@ fn opening_hosts(alloc: Global, checked: &Checked) -> Result<Vec<HostState>, All
     ensures recaps { IfOk result (λ hs. recaps_of hs.items
         ≡ replicate (length (inventory_view checked.now.inventory).hosts) nothing) }
     ensures handed { IfOk result (λ hs. handed_of hs.items ≡ 0) }
+    ensures tickets { IfOk result (λ hs. tickets_of hs.items
+        ≡ replicate (length (inventory_view checked.now.inventory).hosts) None) }
 {
     let inventory = checked.inventory();
     let count = inventory.hosts();
@@ -257,15 +266,23 @@ fn tasks_of(checked: &Checked) -> &[Task] {
     }
 }
 
-fn running(hosts: &[HostState]) -> usize {
-    hosts
-        .iter()
-        .filter(|state| matches!(state.stage, Stage::Running { .. }))
-        .count()
+fn running(hosts: &[HostState]) -> usize
+    ensures { result ≡ count_by (λ h. is_some (ticket_in h.stage)) hosts.now }
+{
+    let mut busy = 0;
+    for state in hosts {
+        if state.is_busy() {
+            busy += 1;
+        }
+    }
+    busy
 }
 
 // The waiting host with the lowest place, ties by host order, where fewer hosts than the forks are running.
-fn ready_host(hosts: &[HostState], tasks: &[Task], forks: usize) -> Option<usize> {
+fn ready_host(hosts: &[HostState], tasks: &[Task], forks: usize) -> Option<usize>
+    ensures there { IfSome result (λ h. h < length hosts.now) }
+    ensures free { IfSome result (λ h. get_or (tickets_of hosts.now) h None ≡ None) }
+{
     if running(hosts) >= forks {
         return None;
     }
@@ -333,7 +350,9 @@ impl Run {
 
     // Something can still happen, and the host is ready.
     fn can_start(&self, host: usize) -> bool
-        ensures { result ≡ true → is_stopped self.now.history ≡ false }
+        ensures going { result ≡ true → is_stopped self.now.history ≡ false }
+        ensures there { result ≡ true → host < length self.now.recaps }
+        ensures free { result ≡ true → ticket_out host self.now.history ≡ None }
     {
         match self.phase {
             Phase::Going => is_ready(&self.hosts, tasks_of(&self.checked), self.forks, host),
@@ -414,7 +433,10 @@ fn is_through(state: &HostState, tasks: usize) -> bool {
     }
 }
 
-fn is_ready(hosts: &[HostState], tasks: &[Task], forks: usize, host: usize) -> bool {
+fn is_ready(hosts: &[HostState], tasks: &[Task], forks: usize, host: usize) -> bool
+    ensures there { result ≡ true → host < length hosts.now }
+    ensures free { result ≡ true → get_or (tickets_of hosts.now) host None ≡ None }
+{
     match hosts.get(host) {
         Some(state) => {
             matches!(state.stage, Stage::Waiting)
@@ -457,6 +479,7 @@ fn begin_on(
 
 fn set_running(hosts: &mut Vec<HostState>, host: usize, stage: Stage, calls: usize)
     ensures recaps { recaps_of hosts.new.items ≡ recaps_of hosts.old.items }
+    ensures tickets { tickets_of hosts.new.items ≡ set (tickets_of hosts.old.items) host (ticket_in stage) }
     ensures handed { host < length hosts.old.items → handed_of hosts.old.items + calls < 2 ^ 64
         → handed_of hosts.new.items ≡ handed_of hosts.old.items + calls }
     ensures past { length hosts.old.items ≤ host → handed_of hosts.new.items ≡ handed_of hosts.old.items }
@@ -479,11 +502,10 @@ fn outcome_of(
     checked: &Checked,
     fixed: &FixedResults,
     state: &HostState,
-    task: &Task,
     answers: &Vec<Answer>,
 ) -> Result<Outcome, AllocError> {
-    match &state.stage {
-        Stage::Running { pending, .. } => {
+    match (&state.stage, tasks_of(checked).get(state.place)) {
+        (Stage::Running { pending, .. }, Some(task)) => {
             finish(
                 *answers.allocator(),
                 task,
@@ -493,13 +515,14 @@ fn outcome_of(
                 fixed,
             )
         }
-        Stage::Waiting | Stage::Left => Err(AllocError),
+        _ => Err(AllocError),
     }
 }
 
 // Makes room for what the host's task writes.
 fn room_for(hosts: &mut Vec<HostState>, host: usize, found: &Outcome) -> Result<(), AllocError>
     ensures recaps { recaps_of hosts.new.items ≡ recaps_of hosts.old.items }
+    ensures tickets { tickets_of hosts.new.items ≡ tickets_of hosts.old.items }
     ensures handed { handed_of hosts.new.items ≡ handed_of hosts.old.items }
 {
     match hosts.get_mut(host) {
@@ -511,6 +534,7 @@ fn room_for(hosts: &mut Vec<HostState>, host: usize, found: &Outcome) -> Result<
 // Writes what the host's task writes, for which there is room, and lets the host go on or leave.
 fn settle(hosts: &mut Vec<HostState>, host: usize, found: Outcome)
     ensures handed { handed_of hosts.new.items ≡ handed_of hosts.old.items }
+    ensures tickets { tickets_of hosts.new.items ≡ set (tickets_of hosts.old.items) host None }
     ensures recaps { (tasks : ℕ) → Counts (recap_of (recaps_of hosts.old.items) host) tasks → tasks + 1 < 2 ^ 64
         → recaps_of hosts.new.items ≡ set (recaps_of hosts.old.items) host
         (counted found.ending (recap_of (recaps_of hosts.old.items) host)) }

@@ -1,10 +1,11 @@
-use Rattle.std.proofs.Common.{◌≡◌, replicate}
-use Rattle.pb_strategy.specs.Inside.{recaps_of, handed_of}
+use Rattle.std.proofs.Common.{◌≡◌, None, replicate}
+use Rattle.pb_strategy.specs.Inside.{recaps_of, tickets_of, handed_of}
 use Rattle.pb_strategy.specs.Recaps.{nothing}
 use Rattle.pb_strategy.proofs.run.opening_hosts.Given as goal
 
 abbrev pub invariant-loop-host : goal.invariant-loop-host
 invariant-loop-host l = record {
   recaps : recaps_of l.hosts.items ≡ replicate l.host nothing;
+  tickets : tickets_of l.hosts.items ≡ replicate l.host None;
   handed : handed_of l.hosts.items ≡ 0;
 }

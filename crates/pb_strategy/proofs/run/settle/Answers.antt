@@ -1,5 +1,6 @@
-use Rattle.std.proofs.Common.{◌<◌, length, refl, arith}
+use Rattle.std.proofs.Common.{◌<◌, length, None, refl, arith}
 use Rattle.pb_strategy.specs.Recaps.{Counts}
+use Rattle.pb_strategy.proofs.Jobs.{ticket_replaced}
 use Rattle.pb_strategy.proofs.Tallies.{recap_at, recap_replaced}
 use Rattle.pb_strategy.proofs.run.settle.Goals as goal
 
@@ -10,3 +11,6 @@ returns-in-Some-clause-recaps c = λ tasks counts few.
     rw (recap_at c.args.hosts.now.items c.args.host c.in-Some.state.now c.in-Some.ensures.value within) at counts in
     recap_replaced c.args.hosts.now.items c.args.host c.in-Some.state.now c.end.new.self c.args.found.ending c.in-Some.ensures.value within
     (c.end.ensures.counted tasks here few)
+
+pub returns-in-Some-clause-tickets : goal.returns-in-Some-clause-tickets
+returns-in-Some-clause-tickets c = ticket_replaced c.args.hosts.now.items c.args.host c.end.new.self None c.end.ensures.ticket

@@ -1,10 +1,12 @@
 use Rattle.std.proofs.Common.{◌≡◌, ◌≤◌, ◌<◌, ◌+◌, ◌^◌, length, set, vec_len, vec_capacity, refl, ap, ◌∙◌, arith, rules}
 use Rattle.std.proofs.lemmas.List.{length-map, length-set}
-use Rattle.pb_strategy.specs.Inside.{recaps_of, handed_of}
+use Rattle.pb_strategy.specs.Inside.{recaps_of, tickets_of, handed_of}
+use Rattle.pb_strategy.specs.Jobs.{ticket_in}
 use Rattle.pb_strategy.specs.Recaps.{counted}
 use Rattle.pb_strategy.specs.Tally.{recap_of}
 use Rattle.pb_strategy.specs.declared.event.Event.TheVariants.{Give}
 use Rattle.pb_strategy.proofs.Histories.{goes_on, longer}
+use Rattle.pb_strategy.proofs.Jobs.{tickets-more}
 use Rattle.pb_strategy.proofs.Tallies.{recaps_settled, tally-give}
 use Rattle.pb_strategy.proofs.run.Run.give.Goals as goal
 
@@ -22,11 +24,13 @@ invariant_of-self-2 c =
     recaps_settled es rs _ _ c.args.job.host c.in-Ok.found.ending c.self.invariant.tally short c.room_for.ensures.recaps c.settle.ensures.recaps in
     let host : c.args.job.host < length c.self.inside.hosts.items = search rules in
     let within : c.args.job.host < length rs = omega (arith, host, length-map c.self.inside.hosts.items (λ h. h.recap)) in
+    let out : c.args.job.host < length (tickets_of c.self.inside.hosts.items) = omega (arith, host, length-map c.self.inside.hosts.items (λ h. ticket_in h.stage)) in
     let handed = c.settle.ensures.handed ∙ c.room_for.ensures.handed in
     goes_on c.self.inside _ (Give c.args.job.host c.args.answers) c.self.invariant refl refl refl refl items room
     (ap length settled ∙ length-set rs c.args.job.host _)
     (rw (items, settled) (tally-give es rs c.args.job.host c.args.answers c.in-Ok.found.ending within c.self.invariant.tally))
     (rw (items, handed) (longer (handed_of c.self.inside.hosts.items) es (Give c.args.job.host c.args.answers) c.self.invariant.handed))
+    (rw (items, c.settle.ensures.tickets, c.room_for.ensures.tickets) (tickets-more es (tickets_of c.self.inside.hosts.items) (Give c.args.job.host c.args.answers) c.args.job.host _ out (λ k o. refl) c.self.invariant.tickets))
 
 pub returns-clause-counted : goal.returns-clause-counted
 returns-clause-counted c =

@@ -5,6 +5,7 @@ use Rattle.pb_book.specs.Books.{plays_of}
 use Rattle.pb_strategy.specs.History.{has_no_plays}
 use Rattle.pb_strategy.specs.Recaps.{nothing}
 use Rattle.pb_strategy.proofs.Histories.{or-false}
+use Rattle.pb_strategy.proofs.Jobs.{none_out}
 use Rattle.pb_strategy.proofs.Tallies.{tally-opening}
 use Rattle.pb_strategy.proofs.run.Run.open.Goals as goal
 
@@ -21,4 +22,5 @@ invariant_of-result c =
           ∙ ap (λ k. length (inventory_view k.inventory).hosts) (sym copy);
       tally = rw recaps (tally-opening count c.in_ok-with_capacity.field-0.items none);
       handed = omega (arith, c.in_ok-opening_hosts.ensures.handed);
+      tickets = λ k. rw (none, c.in_ok-opening_hosts.ensures.tickets) (none_out count k);
     }

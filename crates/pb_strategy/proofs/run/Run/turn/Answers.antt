@@ -1,8 +1,9 @@
 use Rattle.std.proofs.Common.{◌≡◌, false, refl, ap, ◌∙◌, rules}
 use Rattle.pb_strategy.specs.History.{RunState, is_stopped}
-use Rattle.pb_strategy.specs.Inside.{run_state}
+use Rattle.pb_strategy.specs.Inside.{run_state, tickets_of}
 use Rattle.pb_strategy.specs.declared.event.Event.TheVariants.{Turn}
 use Rattle.pb_strategy.proofs.Histories.{longer, is_stopped-more, or-false, is_over-turn}
+use Rattle.pb_strategy.proofs.Jobs.{tickets-other}
 use Rattle.pb_strategy.proofs.Tallies.{tally-other}
 use Rattle.pb_strategy.proofs.run.Run.turn.Goals as goal
 
@@ -17,4 +18,5 @@ invariant_of-self-2 c =
       hosts = c.self.invariant.hosts;
       handed = rw items (longer _ c.self.inside.history.items Turn c.self.invariant.handed);
       tally = rw items (tally-other _ _ Turn (λ h. refl) c.self.invariant.tally);
+      tickets = rw items (tickets-other c.self.inside.history.items (tickets_of c.self.inside.hosts.items) Turn (λ k out. refl) c.self.invariant.tickets);
     }

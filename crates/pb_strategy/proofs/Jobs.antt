@@ -1,0 +1,78 @@
+-- Jobs along a history.
+use Rattle.std.proofs.Common.{◌≡◌, ◌<◌, ℕ, ◌+◌, List, [], ◌∷◌, ◌++◌, Option, Some, None, is_some, suc, count_by, cond, length, get_or, set, replicate, refl, sym, ap, ◌∙◌, add-zero, inl, inr, arith, ◌==◌}
+use Rattle.std.proofs.lemmas.Bool.{cases_lt}
+use Rattle.std.proofs.lemmas.Bool.Decides.{eqb_tells}
+use Rattle.std.proofs.Math.Seq.{map-set_same}
+use Rattle.std.proofs.lemmas.List.{map-set, get_or-set_same, get_or-set_other, get_or-replicate, get_or_past, length-replicate}
+use Rattle.std.proofs.lemmas.List.Sums.{sum_by-cons}
+use Rattle.pb_strategy.specs.Jobs.{out_after, out_from, ticket_out, ticket_in}
+use Rattle.pb_strategy.specs.Inside.{tickets_of}
+use Rattle.pb_strategy.specs.declared.event.Event.{Event}
+use Rattle.pb_strategy.specs.declared.host.HostState.{HostState}
+
+out_more : (k p : ℕ) (es : List Event) (e : Event) (out : Option ℕ) → out_from k p (es ++ e ∷ []) out ≡ out_after k (p + length es) e (out_from k p es out)
+out_more k p [] e out = ap (λ n. out_after k n e out) (sym (add-zero p))
+out_more k p (x ∷ es) e out =
+    let along : p + 1 + length es ≡ p + length (x ∷ es) = omega arith in
+    out_more k (p + 1) es e (out_after k p x out) ∙ ap (λ n. out_after k n e (out_from k (p + 1) es (out_after k p x out))) along
+
+ticket_more : (k : ℕ) (es : List Event) (e : Event) → ticket_out k (es ++ e ∷ []) ≡ out_after k (length es) e (ticket_out k es)
+ticket_more k es e =
+    let here : 0 + length es ≡ length es = omega arith in
+    out_more k 0 es e None ∙ ap (λ n. out_after k n e (ticket_out k es)) here
+
+-- an event that neither starts nor ends a job
+pub tickets-other : (es : List Event) (ts : List (Option ℕ)) (e : Event) → ((k : ℕ) (out : Option ℕ) → out_after k (length es) e out ≡ out)
+    → ((k : ℕ) → get_or ts k None ≡ ticket_out k es) → (k : ℕ) → get_or ts k None ≡ ticket_out k (es ++ e ∷ [])
+tickets-other es ts e unlike tickets k = tickets k ∙ sym (ticket_more k es e ∙ unlike k (ticket_out k es))
+
+-- an event that starts or ends a job of this host
+pub tickets-more : (es : List Event) (ts : List (Option ℕ)) (e : Event) (host : ℕ) (ticket : Option ℕ) → host < length ts
+    → ((k : ℕ) (out : Option ℕ) → out_after k (length es) e out ≡ cond (host == k) ticket out)
+    → ((k : ℕ) → get_or ts k None ≡ ticket_out k es) → (k : ℕ) → get_or (set ts host ticket) k None ≡ ticket_out k (es ++ e ∷ [])
+tickets-more es ts e host ticket within like tickets k =
+    let more : ticket_out k (es ++ e ∷ []) ≡ cond (host == k) ticket (ticket_out k es) = ticket_more k es e ∙ like k (ticket_out k es) in
+    elim (eqb_tells host k) [
+      | inl same ↦ ap (λ n. get_or (set ts host ticket) n None) (sym same.1) ∙ get_or-set_same ts host ticket None within ∙ sym (more ∙ ap (λ b. cond b ticket (ticket_out k es)) same.0)
+      | inr other ↦ get_or-set_other ts host k ticket None (λ p. other.1 (sym p)) ∙ tickets k ∙ sym (more ∙ ap (λ b. cond b ticket (ticket_out k es)) other.0)
+    ]
+
+abbrev none : Option ℕ
+none = None
+
+-- before any event
+pub none_out : (n k : ℕ) → get_or (replicate n none) k none ≡ none
+none_out n k = elim (cases_lt k n) [
+  | inl within ↦ get_or-replicate n k none none within
+  | inr past ↦ get_or_past (replicate n none) k none (omega (arith, past, length-replicate {A = Option ℕ}))
+]
+
+abbrev ticket_of : HostState → Option ℕ
+ticket_of h = ticket_in h.stage
+
+-- a host's state gives way to one with the same job out
+pub tickets_kept : (hs : List HostState) (i : ℕ) (x y : HostState) → x ≡ get_or hs i x → ticket_in y.stage ≡ ticket_in x.stage → tickets_of (set hs i y) ≡ tickets_of hs
+tickets_kept hs i x y at same = map-set_same ticket_of hs i y x (same ∙ ap ticket_of at)
+
+-- a host's state gives way to one with this job out, or none
+pub ticket_replaced : (hs : List HostState) (i : ℕ) (y : HostState) (ticket : Option ℕ) → ticket_in y.stage ≡ ticket
+    → tickets_of (set hs i y) ≡ set (tickets_of hs) i ticket
+ticket_replaced hs i y ticket other = map-set ticket_of hs i y ∙ ap (set (tickets_of hs) i) other
+
+abbrev IsOneOut : List (Option ℕ) → Type 0
+IsOneOut ts = (k : ℕ) × (p : ℕ) × (get_or ts k None ≡ Some p)
+
+one_out_here : (o : Option ℕ) (ts : List (Option ℕ)) (n : ℕ) → (0 < n → IsOneOut ts) → 0 < cond (is_some o) 1 0 + n → IsOneOut (o ∷ ts)
+one_out_here (Some p) ts n rest some = (0, p, refl)
+one_out_here None ts n rest some =
+    let there = rest (omega (arith, some)) in
+    (suc there.0, there.1, there.2)
+
+-- where some hosts have a job out, there is one
+pub one_out : (hs : List HostState) → 0 < count_by (λ h. is_some (ticket_in h.stage)) hs → IsOneOut (tickets_of hs)
+one_out [] some =
+    let no : ⊥ = omega (arith, some) in
+    absurd no
+one_out (h ∷ hs) some =
+    let parts = sum_by-cons (λ x. cond (is_some (ticket_in x.stage)) 1 0) h hs in
+    one_out_here (ticket_in h.stage) (tickets_of hs) (count_by (λ x. is_some (ticket_in x.stage)) hs) (one_out hs) (omega (arith, some, parts))

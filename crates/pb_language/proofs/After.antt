@@ -176,7 +176,7 @@ well_action_sets (set_fact ps) c t w = well_parts_set c (is_certain_to_run t) ps
 well_action_sets (assertion es o) c t w = tt
 well_action_sets (failure_of o) c t w = tt
 
-well_append_sets : (r s : Sets) → WellSets r → WellSets s → WellSets (append_sets r s)
+pub well_append_sets : (r s : Sets) → WellSets r → WellSets s → WellSets (append_sets r s)
 well_append_sets no_sets s w v = v
 well_append_sets (sets n a k r) s w v = (w.0, well_append_sets r s w.1 v)
 

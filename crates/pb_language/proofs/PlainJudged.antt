@@ -91,6 +91,3 @@ pub plain_judged : (ms : Registry) (h : Name) (l : ℕ) (ts : List PlainTask) �
 plain_judged ms h l ts a i f =
     ap (λ v. offence_verdict (rules_offence ms (lone_host h) (plain_play l ts ∷ [])) v) (plain_flow_verdict ms h l ts a i)
     ∙ ap (λ o. offence_verdict o (offence_verdict (plain_flow ms h 0 no_slots ts) (accepted (plain_calls ts)))) (plain_rules_offence ms h l ts a i f)
-
-pub empty_judged : (ms : Registry) (h : Name) → judged ms (lone_host h) [] ≡ accepted 0
-empty_judged ms h = refl

@@ -13,14 +13,14 @@ use Rattle.pb_language.specs.Expression.{Name}
 use Rattle.pb_language.specs.Scope.{spot_kind, with_spot}
 use Rattle.pb_language.specs.Book.{Registry}
 use Rattle.pb_language.specs.Plain.{PlainTask}
-use Rattle.pb_language.specs.Cases.{Sets, no_sets, sets, append_sets}
+use Rattle.pb_language.specs.Cases.{Sets, no_sets, sets}
 use Rattle.pb_language.specs.Judgement.{task_writes, going_slots}
 use Rattle.pb_language.specs.Tables.{written_spot, with_writes, writes_below}
 use Rattle.pb_language.proofs.Claims.{WellSets}
 use Rattle.pb_language.proofs.WithSlot.{at_with}
 use Rattle.pb_language.proofs.WellKinds.{WellSpot, well_slot}
 use Rattle.pb_language.proofs.Rounds.{writes_well}
-use Rattle.pb_language.proofs.After.{after_claim}
+use Rattle.pb_language.proofs.After.{after_claim, well_append_sets}
 use Rattle.pb_language.proofs.PlainPass.{plain_run, lone_setting}
 use Rattle.pb_language.proofs.PlainFlow.{plain_writes}
 
@@ -67,14 +67,10 @@ writes_settled (sets n a k r) ss u v =
     (writes_settled r then u.1 (next_well n a k ss u.0 v))
 
 -- what plain tasks write is well formed
-well_both : (r s : Sets) → WellSets r → WellSets s → WellSets (append_sets r s)
-well_both no_sets s w v = v
-well_both (sets n a k r) s w v = (w.0, well_both r s w.1 v)
-
 pub well_writes : (ms : Registry) (h : Name) (p : ℕ) (env : Slots) (ts : List PlainTask) → Well (recs env) → WellSets (plain_writes ms h p env ts)
 well_writes ms h p env [] w = tt
 well_writes ms h p env (t ∷ ts) w =
     let run = plain_run ms p t in
     let after = after_claim (lone_setting h) (λ g. (refl, tt)) run env w in
     let next = going_slots (lone_setting h) run env in
-    well_both (task_writes (lone_setting h) run env) (plain_writes ms h (suc p) next ts) after.2 (well_writes ms h (suc p) next ts after.0)
+    well_append_sets (task_writes (lone_setting h) run env) (plain_writes ms h (suc p) next ts) after.2 (well_writes ms h (suc p) next ts after.0)

@@ -121,23 +121,8 @@ module _ (c d : Scope) (o : SameOwn c d) where
 pub same_kind : (e : Expression) (c d : Scope) → is_simple e ≡ true → SameOwn c d → kind_of c e ≡ kind_of d e
 same_kind e c d s o = kind_same c d o e s
 
-pub same_slots : (ps : Parts) (c d : Scope) → parts_simple ps ≡ true → SameOwn c d → parts_slots c ps ≡ parts_slots d ps
-same_slots ps c d s o = slots_same c d o ps s
-
 pub same_fault : (e : Expression) (c d : Scope) → is_simple e ≡ true → SameOwn c d → fault c e ≡ fault d e
 same_fault e c d s o = fault_same c d o e s
-
-pub same_chain : (es : Expressions) (b : Bool) (c d : Scope) → are_simple es ≡ true → SameOwn c d → chain_fault c es b ≡ chain_fault d es b
-same_chain es b c d s o = chain_same c d o es b s
-
-pub same_booleans : (es : Expressions) (b : Bool) (c d : Scope) → are_simple es ≡ true → SameOwn c d → are_booleans c es b ≡ are_booleans d es b
-same_booleans es b c d s o = booleans_same c d o es b s
-
-pub same_items : (es : Expressions) (c d : Scope) → are_simple es ≡ true → SameOwn c d → items_kind c es ≡ items_kind d es
-same_items es c d s o = items_same c d o es s
-
-pub same_items_fault : (es : Expressions) (c d : Scope) → are_simple es ≡ true → SameOwn c d → items_fault c es ≡ items_fault d es
-same_items_fault es c d s o = items_fault_same c d o es s
 
 pub same_fields : (ps : Parts) (c d : Scope) → parts_simple ps ≡ true → SameOwn c d → fields_fault c ps ≡ fields_fault d ps
 same_fields ps c d s o = fields_same c d o ps s

@@ -10,7 +10,7 @@ use Rattle.pb_language.specs.Plain.{lone_host, are_plain_tasks, are_lined}
 use Rattle.pb_language.specs.Program.{Inventory}
 use Rattle.pb_language.specs.Verdict.{Verdict, Refusal, accepted, refused, offence_verdict}
 use Rattle.pb_language.specs.Theorem.{are_distinct, host_names}
-use Rattle.pb_language.proofs.PlainJudged.{plain_judged, empty_judged}
+use Rattle.pb_language.proofs.PlainJudged.{plain_judged}
 use Rattle.pb_language.proofs.PlainPass.{plain_rules, plain_flow, plain_calls}
 use Rattle.pb_book.specs.Lines.{are_from, is_numbered}
 use Rattle.pb_book.specs.Meaning.{plain_tasks, are_plain_plays}
@@ -31,10 +31,6 @@ counted : (ts : List Task) → length (plain_tasks ts) ≡ length ts
 counted [] = refl
 counted (t ∷ ts) = ap suc (counted ts)
 
--- no play is accepted with no call
-pub no_plays : (ms : Registry) (h : Name) (inventory : Inventory) → inventory ≡ lone_host h → judged ms inventory (plays_mean []) ≡ accepted 0
-no_plays ms h inventory e = rw e (empty_judged ms h)
-
 -- one play is judged in one pass
 pub one_play : (ms : Registry) (h : Name) (inventory : Inventory) (p : Play) → inventory ≡ lone_host h → is_numbered (p ∷ []) ≡ true → are_plain_plays (p ∷ []) ≡ true
     → judged ms inventory (plays_mean (p ∷ [])) ≡ tasks_verdict ms h (plain_tasks p.tasks.items)
@@ -54,12 +50,6 @@ pub only_item : (ps : List Play) (p : Play) → 1 ≤ length ps → length ps < 
 only_item [] p a b e = absurd (omega arith)
 only_item (q ∷ []) p a b e = ap (λ x. x ∷ []) (sym e)
 only_item (q ∷ r ∷ ps) p a b e = absurd (omega arith)
-
--- numbered plays are one at most
-pub no_item : (ps : List Play) → is_numbered ps ≡ true → (length ps ≡ 1 → ⊥) → ps ≡ []
-no_item [] n f = refl
-no_item (q ∷ []) n f = absurd (f refl)
-no_item (q ∷ r ∷ ps) n f = untrue n
 
 -- an accepted verdict has that number
 pub accepts_is : (n : ℕ) (v : Verdict) → accepts n v ≡ true → v ≡ accepted n

@@ -1,7 +1,10 @@
--- The lines of a book, and the modules that it names.
-use Rattle.std.specs.Prelude.{ℕ, suc, List, [], ◌∷◌, length, Bool, true, false, ◌&&◌, ◌==◌, nat_le, is_some, string_bytes}
+-- The lines of a book, the modules that it names, and the order of its arguments.
+use Rattle.std.specs.Prelude.{ℕ, suc, List, [], ◌∷◌, length, map, Bool, true, false, ◌&&◌, ◌==◌, nat_le, is_some, string_bytes}
+use Rattle.std.specs.Cmp.Lexicographic.{slice_cmp}
+use Rattle.std.specs.Ordering.{is_lt, nat_cmp}
 use Rattle.pb_semantics.specs.Signature.{ModuleData}
 use Rattle.pb_sig.specs.Modules.{module_at}
+use Rattle.pb_book.specs.declared.book.Argument.{Argument}
 use Rattle.pb_book.specs.declared.book.Play.{Play}
 use Rattle.pb_book.specs.declared.book.Task.{Task}
 use Rattle.pb_book.specs.declared.book.Work.{Work}
@@ -32,3 +35,25 @@ are_known ms (t ∷ ts) = is_known ms t.work && are_known ms ts
 abbrev pub names_known : List ModuleData → List Play → Bool
 names_known ms [] = true
 names_known ms (p ∷ ps) = are_known ms p.tasks.items && names_known ms ps
+
+-- the name is below each of these
+abbrev pub is_below : List ℕ → List (List ℕ) → Bool
+is_below n [] = true
+is_below n (m ∷ ms) = is_lt (slice_cmp nat_cmp n m) && is_below n ms
+
+-- each name is below those behind it
+abbrev pub are_ascending : List (List ℕ) → Bool
+are_ascending [] = true
+are_ascending (n ∷ ns) = is_below n ns && are_ascending ns
+
+abbrev pub argument_names : List Argument → List (List ℕ)
+argument_names arguments = map (λ a. string_bytes a.name.value) arguments
+
+-- the arguments of each task stand in the order of their names' bytes, each name once
+abbrev pub are_ordered : List Task → Bool
+are_ordered [] = true
+are_ordered (t ∷ ts) = are_ascending (argument_names t.arguments.items) && are_ordered ts
+
+abbrev pub are_ordered_plays : List Play → Bool
+are_ordered_plays [] = true
+are_ordered_plays (p ∷ ps) = are_ordered p.tasks.items && are_ordered_plays ps

@@ -2,6 +2,7 @@
 ghost use Rattle.std.specs.Prelude.{◌≡◌, IfOk, true};
 ghost use Rattle.pb_language.specs.Simple.{is_simple, are_simple, parts_simple};
 ghost use Rattle.pb_expr.specs.ExprView.{expr_view, exprs_view, parts_view};
+ghost use Rattle.pb_book.specs.Lines.{are_ascending, argument_names};
 ghost use Rattle.pb_book.specs.Meaning.{argument_parts};
 
 use crate::book::Argument;
@@ -27,7 +28,8 @@ const MOST_LEVELS: usize = 32;
 
 /// The arguments that a record lists, in the order of their names' bytes.
 pub(crate) fn arguments_of(alloc: Global, fields: &Fields) -> Result<Vec<Argument>, FormFault>
-    ensures { IfOk result (λ found. parts_simple (argument_parts found.items) ≡ true) }
+    ensures simple { IfOk result (λ found. parts_simple (argument_parts found.items) ≡ true) }
+    ensures ordered { IfOk result (λ found. are_ascending (argument_names found.items) ≡ true) }
 {
     let mut arguments = Vec::with_capacity(alloc, fields.len())?;
     for (name, value) in fields.iter() {
@@ -41,7 +43,8 @@ pub(crate) fn arguments_of(alloc: Global, fields: &Fields) -> Result<Vec<Argumen
 
 /// The argument `cmd` with that value.
 pub(crate) fn command_line(alloc: Global, value: &Value) -> Result<Vec<Argument>, FormFault>
-    ensures { IfOk result (λ found. parts_simple (argument_parts found.items) ≡ true) }
+    ensures simple { IfOk result (λ found. parts_simple (argument_parts found.items) ≡ true) }
+    ensures ordered { IfOk result (λ found. are_ascending (argument_names found.items) ≡ true) }
 {
     let argument = Argument {
         name: Arc::new(alloc, String::from_str(alloc, "cmd")?)?,

@@ -1,6 +1,6 @@
 // A book: its plays, their tasks, and what each task asks for.
 ghost use Rattle.std.specs.Prelude.{◌≡◌, true};
-ghost use Rattle.pb_book.specs.Lines.{is_numbered};
+ghost use Rattle.pb_book.specs.Lines.{are_ordered_plays, is_numbered};
 ghost use Rattle.pb_book.specs.Meaning.{are_plain_plays};
 
 use pb_expr::expr::Expr;
@@ -45,12 +45,14 @@ pub struct Play {
 }
 
 /// A book, as far as it is built: no play, or one, which stands at line 1 and has at most 4,095 tasks,
-/// at the lines 2, 3 and so on. Each of its expressions reads the host's own variables alone.
+/// at the lines 2, 3 and so on. Each of its expressions reads the host's own variables alone, and the arguments of a
+/// task stand in the order of their names' bytes, each name once.
 #[derive(Drop)]
 pub struct Book {
     plays: Vec<Play>,
     ghost numbered: { is_numbered plays.items ≡ true },
     ghost plain: { are_plain_plays plays.items ≡ true },
+    ghost ordered: { are_ordered_plays plays.items ≡ true },
 }
 
 impl Book {
@@ -61,6 +63,7 @@ impl Book {
         ensures value { result.now ≡ plays_of self.now }
         ensures numbered { is_numbered result.now ≡ true }
         ensures plain { are_plain_plays result.now ≡ true }
+        ensures ordered { are_ordered_plays result.now ≡ true }
     {
         self.plays.as_slice()
     }
@@ -69,6 +72,7 @@ impl Book {
     pub(crate) fn of_plays(plays: Vec<Play>) -> Book
         requires numbered { is_numbered plays.items ≡ true }
         requires plain { are_plain_plays plays.items ≡ true }
+        requires ordered { are_ordered_plays plays.items ≡ true }
         ensures { plays_of result ≡ plays.items }
     {
         Book { plays }

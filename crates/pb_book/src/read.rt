@@ -4,7 +4,7 @@ ghost use Rattle.serde_json.specs.Read.{read as read_text};
 ghost use Rattle.pb_sig.specs.Modules.{modules_of};
 ghost use Rattle.pb_book.specs.Books.{plays_of};
 ghost use Rattle.pb_language.specs.Plain.{are_plain_tasks};
-ghost use Rattle.pb_book.specs.Lines.{are_known, is_numbered, names_known};
+ghost use Rattle.pb_book.specs.Lines.{are_known, are_ordered, are_ordered_plays, is_numbered, names_known};
 ghost use Rattle.pb_book.specs.Meaning.{are_plain_plays, plain_tasks};
 
 use crate::book::{Book, Play};
@@ -47,6 +47,7 @@ fn plays_in(alloc: Global, value: Value, registry: &Registry) -> Result<Vec<Play
     ensures numbered { IfOk result (λ ps. is_numbered ps.items ≡ true) }
     ensures known { IfOk result (λ ps. names_known (modules_of registry.now) ps.items ≡ true) }
     ensures plain { IfOk result (λ ps. are_plain_plays ps.items ≡ true) }
+    ensures ordered { IfOk result (λ ps. are_ordered_plays ps.items ≡ true) }
 {
     let Value::List(items) = value else {
         return Err(FormFault::NotBuilt);
@@ -65,6 +66,7 @@ fn play_of(alloc: Global, value: Value, registry: &Registry) -> Result<Play, For
     ensures numbered { IfOk result (λ p. is_numbered (p ∷ []) ≡ true) }
     ensures known { IfOk result (λ p. are_known (modules_of registry.now) p.tasks.items ≡ true) }
     ensures plain { IfOk result (λ p. are_plain_tasks (plain_tasks p.tasks.items) ≡ true) }
+    ensures ordered { IfOk result (λ p. are_ordered p.tasks.items ≡ true) }
 {
     let Value::Rec(fields) = value else {
         return Err(FormFault::NotBuilt);

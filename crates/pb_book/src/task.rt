@@ -9,7 +9,7 @@ ghost use Rattle.pb_language.specs.Rules.{
   is_variable_name,
 };
 ghost use Rattle.pb_language.specs.Simple.{are_simple, parts_simple};
-ghost use Rattle.pb_book.specs.Lines.{are_from, are_known, is_known};
+ghost use Rattle.pb_book.specs.Lines.{are_ascending, are_from, are_known, are_ordered, argument_names, is_known};
 ghost use Rattle.pb_book.specs.Meaning.{argument_parts, condition_view, plain_task, plain_tasks};
 
 use crate::argument::{MOST_EXPRESSION_BYTES, MOST_TEXT_BYTES, arguments_of, command_line};
@@ -41,6 +41,7 @@ pub(crate) fn tasks_of(
     ensures few { IfOk result (λ ts. length ts.items ≤ 4095) }
     ensures known { IfOk result (λ ts. are_known (modules_of registry.now) ts.items ≡ true) }
     ensures plain { IfOk result (λ ts. are_plain_tasks (plain_tasks ts.items) ≡ true) }
+    ensures ordered { IfOk result (λ ts. are_ordered ts.items ≡ true) }
 {
     if items.len() > MOST_TASKS {
         return Err(FormFault::NotBuilt);
@@ -59,6 +60,7 @@ fn task_of(alloc: Global, value: Value, line: u32, registry: &Registry) -> Resul
     ensures line { IfOk result (λ t. t.line ≡ line) }
     ensures known { IfOk result (λ t. is_known (modules_of registry.now) t.work ≡ true) }
     ensures plain { IfOk result (λ t. is_plain_task (plain_task t) ≡ true) }
+    ensures ordered { IfOk result (λ t. are_ascending (argument_names t.arguments.items) ≡ true) }
 {
     let Value::Rec(fields) = value else {
         return Err(FormFault::NotBuilt);
@@ -123,7 +125,8 @@ fn work_of(key: &str, registry: &Registry) -> Result<Work, FormFault>
 
 /// The arguments that stand at the key of a module or an action.
 fn given_arguments(alloc: Global, key: &str, given: &Value) -> Result<Vec<Argument>, FormFault>
-    ensures { IfOk result (λ found. parts_simple (argument_parts found.items) ≡ true) }
+    ensures simple { IfOk result (λ found. parts_simple (argument_parts found.items) ≡ true) }
+    ensures ordered { IfOk result (λ found. are_ascending (argument_names found.items) ≡ true) }
 {
     match given {
         Value::Null => Ok(Vec::new(alloc)),

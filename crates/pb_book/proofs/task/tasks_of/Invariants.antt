@@ -2,7 +2,7 @@ use Rattle.std.proofs.Common.{◌≡◌, ◌+◌, ◌≤◌, length, true}
 use Rattle.std.specs.Vec.Iter.{into_iter_len}
 use Rattle.pb_sig.specs.Modules.{modules_of}
 use Rattle.pb_language.specs.Plain.{are_plain_tasks}
-use Rattle.pb_book.specs.Lines.{are_from, are_known}
+use Rattle.pb_book.specs.Lines.{are_from, are_known, are_ordered}
 use Rattle.pb_book.specs.Meaning.{plain_tasks}
 use Rattle.pb_book.proofs.task.tasks_of.Given as goal
 
@@ -13,4 +13,5 @@ invariant-loop-item l = record {
   numbered : are_from 2 l.tasks.items ≡ true;
   known : are_known (modules_of l.registry) l.tasks.items ≡ true;
   plain : are_plain_tasks (plain_tasks l.tasks.items) ≡ true;
+  ordered : are_ordered l.tasks.items ≡ true;
 }

@@ -26,6 +26,9 @@ pub struct Checked {
 
 impl Model for Checked {
     ghost use Rattle.std.specs.Prelude.{◌≡◌, true};
+    ghost use Rattle.pb_sig.specs.Modules.{modules_of};
+    ghost use Rattle.pb_book.specs.Books.{plays_of};
+    ghost use Rattle.pb_book.specs.Lines.{names_known};
     ghost use Rattle.pb_verify.specs.Judges.{is_accepted};
     ghost use Rattle.pb_verify.specs.declared.checked.Accepted.{Accepted};
     ghost use Rattle.pb_value.specs.contracts.value.Value as value;
@@ -42,7 +45,8 @@ impl Model for Checked {
 
     ghost view = { λ a. a.accepted.value };
 
-    ghost invariant = { λ a. is_accepted a.accepted.value ≡ true };
+    ghost invariant = { λ a. (is_accepted a.accepted.value ≡ true)
+        × (names_known (modules_of a.accepted.value.registry) (plays_of a.accepted.value.book) ≡ true) };
 }
 
 impl Clone for Checked {
@@ -60,12 +64,16 @@ impl Clone for Checked {
 impl Checked {
     ghost use Rattle.std.specs.Prelude.{ℕ, ◌≤◌, List, length, true, false};
     ghost use Rattle.pb_language.specs.Machine.{Event};
+    ghost use Rattle.pb_sig.specs.Modules.{modules_of};
     ghost use Rattle.pb_inventory.specs.Inventory.{inventory_view};
+    ghost use Rattle.pb_book.specs.Books.{plays_of};
+    ghost use Rattle.pb_book.specs.Lines.{names_known};
     ghost use Rattle.pb_verify.specs.Judges.{is_accepted, run_of_accepted};
 
     /// What was accepted.
     pub(crate) fn of(alloc: Global, accepted: Accepted) -> Result<Checked, AllocError>
-        requires { is_accepted accepted ≡ true }
+        requires accepted { is_accepted accepted ≡ true }
+        requires known { names_known (modules_of accepted.registry) (plays_of accepted.book) ≡ true }
         ensures { IfOk result (λ c. c ≡ accepted) }
     {
         Ok(Checked {
@@ -84,9 +92,10 @@ impl Checked {
         self.accepted.budget
     }
 
-    /// The book as it was handed in.
+    /// The book as it was handed in. Each module that it names is in the registry.
     pub fn book(&self) -> &Book
-        ensures { result.now ≡ self.now.book }
+        ensures value { result.now ≡ self.now.book }
+        ensures known { names_known (modules_of self.now.registry) (plays_of self.now.book) ≡ true }
     {
         &self.accepted.book
     }

@@ -18,8 +18,8 @@ returns-in_err-budget-clause-refused c =
     let same : judge (plays_mean c.plays.result.now) ≡ judge (book_of c.args.book) = ap (λ ps. judge (plays_mean ps)) c.plays.ensures.value in
     rw (p.1, p.2) (subst (λ (v : Verdict). Refuses c.in_err-budget.field-0.0 v) same c.in_err-budget.ensures)
 
-pub of-requires : goal.of-requires
-of-requires c =
+pub of-requires-clause-accepted : goal.of-requires-clause-accepted
+of-requires-clause-accepted c =
     let n = c.in_ok-budget.budget in
     let judge = judged (modules_of c.args.registry) (inventory_of (inventory_view c.args.inventory)) in
     let verdict : judge (book_of c.args.book) ≡ accepted n = sym (ap (λ ps. judge (plays_mean ps)) c.plays.ensures.value) ∙ c.in_ok-budget.ensures in

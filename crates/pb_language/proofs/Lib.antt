@@ -42,3 +42,5 @@ pub mod PlainRules
 pub mod PlainJudged
 pub mod PlainMachine
 pub mod PlainSteps
+pub mod PlainGives
+pub mod PlainEval

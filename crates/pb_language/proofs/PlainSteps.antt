@@ -130,12 +130,12 @@ module _ (ms : Registry) where
     steps_at r false false turn = batch_turned r r.standing r.tasks
     steps_at r o x e = refl
 
-    pub plain_steps : (r : PlainRun) (e : Event) → step (whole r) e ≡ whole (plain_step ms h forks r e)
-    plain_steps r e = steps_at r r.is_over r.is_stopped e
+    pub plain_follows : (r : PlainRun) (e : Event) → step (whole r) e ≡ whole (plain_step ms h forks r e)
+    plain_follows r e = steps_at r r.is_over r.is_stopped e
 
-    runs_from : (r : PlainRun) (es : List Event) → run_from (whole r) es ≡ whole (plain_run_from ms h forks r es)
+    pub runs_from : (r : PlainRun) (es : List Event) → run_from (whole r) es ≡ whole (plain_run_from ms h forks r es)
     runs_from r [] = refl
-    runs_from r (e ∷ es) = ap (λ s. run_from s es) (plain_steps r e) ∙ runs_from (plain_step ms h forks r e) es
+    runs_from r (e ∷ es) = ap (λ s. run_from s es) (plain_follows r e) ∙ runs_from (plain_step ms h forks r e) es
 
   module _ (h : Name) (l forks : ℕ) (ts : List PlainTask) (es : List Event) where
     abbrev book : Book

@@ -1,7 +1,13 @@
 -- A run that goes on by one event.
-use Rattle.std.proofs.Common.{◌≡◌, ◌<◌, ◌≤◌, ℕ, arith, List, [], ◌∷◌, ◌++◌, Bool, true, false, ◌||◌, length, vec_capacity, get_or, None, refl, sym, ap, ◌∙◌}
+use Rattle.std.proofs.Common.{◌≡◌, ◌<◌, ◌≤◌, ℕ, arith, List, [], ◌∷◌, ◌++◌, Bool, true, false, ◌||◌, length, vec_capacity, get_or, None, refl, sym, ap, ◌∙◌, subst}
 use Rattle.pb_strategy.specs.History.{RunState, after, is_stop, is_stopped, is_turn, is_turned, is_over, has_no_plays}
-use Rattle.pb_strategy.specs.Inside.{IsRun, run_state, recaps_of, tickets_of, handed_of, is_phase_over}
+use Rattle.pb_strategy.specs.Inside.{IsMachine, IsRun, run_state, recaps_of, tickets_of, handed_of, is_phase_over, is_phase_stopped}
+use Rattle.pb_value.specs.View.{view}
+use Rattle.pb_verify.specs.declared.checked.Accepted.{Accepted}
+use Rattle.pb_strategy.specs.declared.host.HostState.{HostState}
+use Rattle.pb_strategy.specs.declared.recap.Recap.{Recap}
+use Rattle.pb_strategy.specs.declared.run.Phase.{Phase}
+use Rattle.pb_strategy.specs.declared.run.Phase.TheVariants as phase
 use Rattle.pb_strategy.specs.Jobs.{ticket_out}
 use Rattle.pb_strategy.specs.Tally.{IsTally}
 use Rattle.pb_inventory.specs.Inventory.{inventory_view}
@@ -53,12 +59,24 @@ longer n es e within = omega (arith, within, length_push es e)
 pub is_over-same : (r s : RunState) → r.checked ≡ s.checked → r.history ≡ s.history → is_over r ≡ is_over s
 is_over-same r s book same = rw (book, same) refl
 
+-- a run as its callers see it, by what may have changed
+pub same_state : (a : Accepted) (forks : ℕ) (es fs : List Event) (rs ss : List Recap) (m n : ℕ) → es ≡ fs → rs ≡ ss → m ≡ n
+    → ◌≡◌ {A = RunState} (record { checked = a; forks = forks; history = es; recaps = rs; handed = m }) (record { checked = a; forks = forks; history = fs; recaps = ss; handed = n })
+same_state a forks es fs rs ss m n p q r i = record { checked = a; forks = forks; history = p i; recaps = q i; handed = r i }
+
+pub same_machine : (c d : Accepted) (m n : ℕ) (es fs : List Event) (hosts : List HostState) (p q : Phase) → d ≡ c → n ≡ m → fs ≡ es → q ≡ p → IsMachine c m es hosts p → IsMachine d n fs hosts q
+same_machine c d m n es fs hosts p q a b e f i = rw (a, b, e, f) i
+
+same_tally : (es fs : List Event) (rs ss : List Recap) → fs ≡ es → ss ≡ rs → IsTally es rs → IsTally fs ss
+same_tally es fs rs ss p q t = rw (p, q) t
+
 -- after a Start or a Give, in the same phase
-pub goes_on : (a b : Inside) (e : Event) → IsRun a → is_stop e ≡ false → is_turn e ≡ false → b.checked ≡ a.checked → b.phase ≡ a.phase
+pub goes_on : (a b : Inside) (e : Event) → IsRun a → is_stop e ≡ false → is_turn e ≡ false → b.checked ≡ a.checked → b.forks ≡ a.forks → b.fixed ≡ a.fixed → b.phase ≡ a.phase
     → b.history.items ≡ a.history.items ++ e ∷ [] → length b.history.items < vec_capacity b.history
     → length (recaps_of b.hosts.items) ≡ length (recaps_of a.hosts.items) → IsTally b.history.items (recaps_of b.hosts.items)
-    → handed_of b.hosts.items ≤ length b.history.items → ((k : ℕ) → get_or (tickets_of b.hosts.items) k None ≡ ticket_out k b.history.items) → IsRun b
-goes_on a b e i unlike other book same items room many tally handed tickets = record {
+    → handed_of b.hosts.items ≤ length b.history.items → ((k : ℕ) → get_or (tickets_of b.hosts.items) k None ≡ ticket_out k b.history.items)
+    → IsMachine a.checked a.forks (a.history.items ++ e ∷ []) b.hosts.items a.phase → IsRun b
+goes_on a b e i unlike other book forks fixed same items room many tally handed tickets machine = record {
   room = λ _. room;
   stopped = rw (items, is_stopped-more a.history.items e, unlike, or-false (is_stopped a.history.items), same) i.stopped;
   over = is_over-same (run_state b) (after (run_state a) e) book items ∙ is_over-more (run_state a) e unlike other ∙ i.over ∙ ap is_phase_over (sym same);
@@ -66,4 +84,26 @@ goes_on a b e i unlike other book same items room many tally handed tickets = re
   tally = tally;
   handed = handed;
   tickets = tickets;
+  skipped = ap (λ f. view f.skipped) fixed ∙ i.skipped;
+  unchanged = ap (λ f. view f.unchanged) fixed ∙ i.unchanged;
+  machine = same_machine a.checked b.checked a.forks b.forks (a.history.items ++ e ∷ []) b.history.items b.hosts.items a.phase b.phase book forks items same machine;
+  forks = subst (λ n. 0 < n) (sym forks) i.forks;
+}
+
+-- where nothing has happened, but there is more room
+pub stays : (a b : Inside) → IsRun a → b.checked ≡ a.checked → b.forks ≡ a.forks → b.fixed ≡ a.fixed → b.phase ≡ a.phase → b.history.items ≡ a.history.items
+    → (b.phase ≡ phase.Going → length b.history.items < vec_capacity b.history) → recaps_of b.hosts.items ≡ recaps_of a.hosts.items → handed_of b.hosts.items ≡ handed_of a.hosts.items
+    → tickets_of b.hosts.items ≡ tickets_of a.hosts.items → IsMachine a.checked a.forks a.history.items b.hosts.items a.phase → IsRun b
+stays a b i book forks fixed same items room recaps handed tickets machine = record {
+  room = room;
+  stopped = ap is_stopped items ∙ i.stopped ∙ ap is_phase_stopped (sym same);
+  over = is_over-same (run_state b) (run_state a) book items ∙ i.over ∙ ap is_phase_over (sym same);
+  hosts = sym (length-map b.hosts.items _) ∙ ap length recaps ∙ length-map a.hosts.items _ ∙ i.hosts ∙ ap (λ k. length (inventory_view k.inventory).hosts) (sym book);
+  tally = same_tally a.history.items b.history.items (recaps_of a.hosts.items) (recaps_of b.hosts.items) items recaps i.tally;
+  handed = omega (arith, handed, i.handed, ap length items);
+  tickets = λ k. ap (λ ts. get_or ts k None) tickets ∙ i.tickets k ∙ ap (ticket_out k) (sym items);
+  skipped = ap (λ f. view f.skipped) fixed ∙ i.skipped;
+  unchanged = ap (λ f. view f.unchanged) fixed ∙ i.unchanged;
+  machine = same_machine a.checked b.checked a.forks b.forks a.history.items b.history.items b.hosts.items a.phase b.phase book forks items same machine;
+  forks = subst (λ n. 0 < n) (sym forks) i.forks;
 }

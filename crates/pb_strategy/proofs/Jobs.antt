@@ -16,7 +16,7 @@ out_more k p (x ∷ es) e out =
     let along : p + 1 + length es ≡ p + length (x ∷ es) = omega arith in
     out_more k (p + 1) es e (out_after k p x out) ∙ ap (λ n. out_after k n e (out_from k (p + 1) es (out_after k p x out))) along
 
-ticket_more : (k : ℕ) (es : List Event) (e : Event) → ticket_out k (es ++ e ∷ []) ≡ out_after k (length es) e (ticket_out k es)
+pub ticket_more : (k : ℕ) (es : List Event) (e : Event) → ticket_out k (es ++ e ∷ []) ≡ out_after k (length es) e (ticket_out k es)
 ticket_more k es e =
     let here : 0 + length es ≡ length es = omega arith in
     out_more k 0 es e None ∙ ap (λ n. out_after k n e (ticket_out k es)) here

@@ -2,3 +2,13 @@ pub mod Histories
 pub mod Tallies
 pub mod HostFields
 pub mod Jobs
+pub mod PlainNext
+pub mod Accepts
+pub mod Starts
+pub mod Finishes
+pub mod Standings
+pub mod Machines
+pub mod Nexts
+pub mod Openings
+pub mod Settled
+pub mod Replays

@@ -1,8 +1,13 @@
 -- A run as its callers see it: the accepted book, the fork count, what has happened, and what it came to.
-use Rattle.std.specs.Prelude.{◌≡◌, ◌⊎◌, ℕ, ◌+◌, List, [], ◌∷◌, ◌++◌, Bool, true, false, ◌||◌, length}
+use Rattle.std.specs.Prelude.{◌≡◌, ℕ, ◌+◌, List, [], ◌∷◌, ◌++◌, Bool, true, false, ◌||◌, cond, length, map}
+use Rattle.pb_language.specs.Machine as language
+use Rattle.pb_language.specs.Machine.{State, enabled}
 use Rattle.pb_book.specs.Books.{plays_of}
 use Rattle.pb_book.specs.declared.book.Play.{Play}
+use Rattle.pb_verify.specs.Judges.{run_of_accepted}
 use Rattle.pb_verify.specs.declared.checked.Accepted.{Accepted}
+use Rattle.pb_strategy.specs.Events.{event_data, call_data}
+use Rattle.pb_strategy.specs.Passes.{job_calls}
 use Rattle.pb_strategy.specs.declared.answer.Job.{Job}
 use Rattle.pb_strategy.specs.declared.event.Event.{Event}
 use Rattle.pb_strategy.specs.declared.event.Event.TheVariants.{Start, Give, Turn, Stop}
@@ -18,6 +23,13 @@ pub record RunState : Type 0 where
   pub recaps : List Recap
   -- how many calls of modules were handed out
   pub handed : ℕ
+
+-- where the definitions' machine stands after these events
+abbrev pub state_after : RunState → List Event → State
+state_after r es = run_of_accepted r.checked r.forks (map event_data es)
+
+abbrev pub state_of : RunState → State
+state_of r = state_after r r.history
 
 -- the run with one more event
 abbrev pub after : RunState → Event → RunState
@@ -57,13 +69,19 @@ is_ended r = has_no_plays (plays_of r.checked.book) || is_turned r.history
 abbrev pub is_over : RunState → Bool
 is_over r = is_stopped r.history || is_ended r
 
--- what handing out a job records: its Start, whose place is the job's ticket, and its calls
-abbrev pub IsAfterJob : Job → RunState → RunState → Type 0
-IsAfterJob j old new = (new ≡ record (after old (Start j.host)) { handed = old.handed + length j.calls.items }) × (j.ticket ≡ length old.history)
+-- what handing out a job records: its Start, whose place is the job's ticket; its calls are those of the task that the host is in then
+pub record IsAfterJob (j : Job) (old new : RunState) : Type 0 where
+  pub run : new ≡ record (after old (Start j.host)) { handed = old.handed + length j.calls.items }
+  pub ticket : j.ticket ≡ length old.history
+  pub calls : map call_data j.calls.items ≡ job_calls j.host old.handed (state_of new)
 
--- what `take` records: the job that it hands out, or a Turn
+-- what `take` records: the job that it hands out, or a Turn where one is enabled
 abbrev pub IsAfterTake : Taken → RunState → RunState → Type 0
 IsAfterTake (taken.Job j) old new = IsAfterJob j old new
 IsAfterTake taken.Idle old new = new ≡ old
 IsAfterTake taken.Stopped old new = new ≡ old
-IsAfterTake taken.Finished old new = (new ≡ old) ⊎ (new ≡ after old Turn)
+IsAfterTake taken.Finished old new = new ≡ cond (enabled (state_of old) language.turn) (after old Turn) old
+
+-- the event is one more where it was enabled, and else passed over
+abbrev pub Follows : language.Event → RunState → RunState → Type 0
+Follows e old new = map event_data new.history ≡ map event_data old.history ++ cond (enabled (state_of old) e) (e ∷ []) []

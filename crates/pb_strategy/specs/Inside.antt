@@ -1,9 +1,22 @@
 -- What the fields of a `Run` stand for.
-use Rattle.std.specs.Prelude.{◌≡◌, ◌<◌, ◌≤◌, ℕ, length, map, sum_by, List, vec_capacity, Bool, true, false, Option, None, get_or}
+use Rattle.std.specs.Prelude.{◌≡◌, ◌<◌, ◌≤◌, ℕ, length, map, sum_by, List, [], ◌∷◌, vec_capacity, Bool, true, false, Option, None, get_or}
+use Rattle.pb_semantics.specs.Data.{rec}
+use Rattle.pb_language.specs.Give.{skip_fields}
+use Rattle.pb_language.specs.Machine.{history}
+use Rattle.pb_language.proofs.PlainGives.{action_fields}
+use Rattle.pb_value.specs.View.{view}
+use Rattle.pb_sig.specs.Modules.{modules_of}
+use Rattle.pb_book.specs.Books.{plays_of}
+use Rattle.pb_book.specs.Lines.{names_known}
 use Rattle.pb_inventory.specs.Inventory.{inventory_view}
+use Rattle.pb_verify.specs.Judges.{is_accepted, run_of_accepted}
+use Rattle.pb_verify.specs.declared.checked.Accepted.{Accepted}
+use Rattle.pb_strategy.specs.Events.{event_data}
 use Rattle.pb_strategy.specs.History.{RunState, is_stopped, is_over}
 use Rattle.pb_strategy.specs.Jobs.{ticket_in, ticket_out}
+use Rattle.pb_strategy.specs.Standing.{tasks_in, host_of, plain_after, IsAt}
 use Rattle.pb_strategy.specs.Tally.{IsTally}
+use Rattle.pb_strategy.specs.declared.event.Event.{Event}
 use Rattle.pb_strategy.specs.declared.host.HostState.{HostState}
 use Rattle.pb_strategy.specs.declared.recap.Recap.{Recap}
 use Rattle.pb_strategy.specs.declared.run.Phase.{Phase}
@@ -39,9 +52,25 @@ is_phase_over phase.Going = false
 is_phase_over phase.Ended = true
 is_phase_over phase.Stopped = true
 
+abbrev pub is_phase_ended : Phase → Bool
+is_phase_ended phase.Going = false
+is_phase_ended phase.Ended = true
+is_phase_ended phase.Stopped = false
+
+-- the run's one host is where the machine has it after the history, each event of which was enabled; the book was accepted
+pub record IsMachine (checked : Accepted) (forks : ℕ) (es : List Event) (hosts : List HostState) (phase : Phase) : Type 0 where
+  pub host : HostState
+  pub alone : hosts ≡ host ∷ []
+  pub at : IsAt (host_of checked) (tasks_in (plays_of checked.book)) host (plain_after checked forks es)
+  pub ended : (plain_after checked forks es).is_over ≡ is_phase_ended phase
+  pub stopped : (plain_after checked forks es).is_stopped ≡ is_phase_stopped phase
+  pub enabled : history (run_of_accepted checked forks []) (map event_data es) ≡ map event_data es
+  pub accepted : is_accepted checked ≡ true
+  pub known : names_known (modules_of checked.registry) (plays_of checked.book) ≡ true
+
 -- where anything can still happen there is room for one Stop; the run is stopped, or over, exactly where its history says so;
 -- there is a recap for each host of the inventory, and it counts the host's Gives; no more calls were handed out than events happened;
--- the job that a host has out is the one that the history says is out
+-- the job that a host has out is the one that the history says is out; the hosts are where the machine has them
 pub record IsRun (a : Inside) : Type 0 where
   pub room : a.phase ≡ phase.Going → length a.history.items < vec_capacity a.history
   pub stopped : is_stopped a.history.items ≡ is_phase_stopped a.phase
@@ -50,3 +79,7 @@ pub record IsRun (a : Inside) : Type 0 where
   pub tally : IsTally a.history.items (recaps_of a.hosts.items)
   pub handed : handed_of a.hosts.items ≤ length a.history.items
   pub tickets : (k : ℕ) → get_or (tickets_of a.hosts.items) k None ≡ ticket_out k a.history.items
+  pub skipped : view a.fixed.skipped ≡ rec skip_fields
+  pub unchanged : view a.fixed.unchanged ≡ rec action_fields
+  pub machine : IsMachine a.checked a.forks a.history.items a.hosts.items a.phase
+  pub forks : 0 < a.forks

@@ -1,5 +1,14 @@
+pub mod Events
+pub mod Passes
 pub mod History
+pub mod Next
+pub mod Sound
+pub mod OwnNames
+pub mod Endings
+pub mod Standing
 pub mod Inside
+pub mod Outcomes
+pub mod Room
 pub mod Faults
 pub mod Recaps
 pub mod Tally

@@ -1,7 +1,13 @@
 // What a run keeps of one host.
-ghost use Rattle.std.specs.Prelude.{◌≡◌, ◌<◌, ◌+◌, ◌^◌, ℕ, IfOk, None, is_some};
-ghost use Rattle.pb_value.specs.View.{fields_view};
+ghost use Rattle.std.specs.Prelude.{◌≡◌, ◌<◌, ◌≤◌, ◌+◌, ◌^◌, ℕ, IfOk, None, cond, is_some, length, map, string_bytes};
+ghost use Rattle.pb_semantics.specs.Data.{list};
+ghost use Rattle.indexmap.specs.IndexMap.{spare};
+ghost use Rattle.pb_language.specs.Setting.{names_list};
+ghost use Rattle.pb_language.proofs.PlainGives.{put_all, goes_on};
+ghost use Rattle.pb_value.specs.View.{view, fields_view};
 ghost use Rattle.pb_expr.specs.OwnWorld.{own_world};
+ghost use Rattle.pb_strategy.specs.OwnNames.{AreSame, own_fields, names_fields};
+ghost use Rattle.pb_strategy.specs.Endings.{came_of};
 ghost use Rattle.pb_strategy.specs.Jobs.{ticket_in, is_ticket};
 ghost use Rattle.pb_strategy.specs.Recaps.{nothing, counted, Counts};
 
@@ -13,15 +19,24 @@ use pb_value::value::{Fields, Value};
 use std::alloc::{AllocError, Global};
 use std::sync::Arc;
 
-/// The variables of a host, by name.
+/// What a host's names hold: those that are always there, and its variables.
 #[derive(Drop)]
 pub struct HostVars {
+    /// The host's name, a text.
+    pub name: Value,
+    /// The names of its groups, a list of texts.
+    pub groups: Value,
     pub values: IndexMap<String, Value>,
 }
 
 impl HostVars {
-    /// Writes these values.
-    pub fn write(&mut self, writes: Vec<(String, Value)>) {
+    /// Writes these values one after the other; there is room for them.
+    pub fn write(&mut self, writes: Vec<(String, Value)>)
+        requires room { length writes.items ≤ spare self.old.values }
+        ensures names { (self.new.name ≡ self.old.name) × (self.new.groups ≡ self.old.groups) }
+        ensures values { AreSame (fields_view self.new.values.entries)
+            (put_all (fields_view writes.items) (fields_view self.old.values.entries)) }
+    {
         for (name, value) in writes {
             drop(self.values.insert(name, value));
         }
@@ -29,9 +44,15 @@ impl HostVars {
 }
 
 impl Vars for HostVars {
-    ghost world = { λ s. own_world (fields_view s.values.entries) };
+    ghost world = { λ s. own_world (own_fields s) };
 
     fn value(&self, name: &str) -> Option<&Value> {
+        if name == "inventory_hostname" {
+            return Some(&self.name);
+        }
+        if name == "group_names" {
+            return Some(&self.groups);
+        }
         self.values.get(name)
     }
 }
@@ -46,7 +67,7 @@ pub enum Pending {
     /// A message was shown.
     Debug,
     /// These values are set.
-    Facts(Fields),
+    Facts(Arc<Fields>),
 }
 
 /// Where a host stands.
@@ -82,21 +103,20 @@ impl HostState {
     ) -> Result<HostState, AllocError>
         ensures recap { IfOk result (λ s. s.recap ≡ nothing) }
         ensures calls { IfOk result (λ s. s.calls ≡ 0) }
-        ensures ticket { IfOk result (λ s. ticket_in s.stage ≡ None) }
+        ensures stage { IfOk result (λ s. s.stage ≡ Stage.Waiting) }
+        ensures place { IfOk result (λ s. s.place ≡ 0) }
+        ensures name { IfOk result (λ s. string_bytes s.name.value ≡ name.now) }
+        ensures names { IfOk result (λ s. own_fields s.vars
+            ≡ names_fields name.now (map (λ g. string_bytes g.value) groups.now)) }
     {
         let name = Arc::new(alloc, String::from_str(alloc, name)?)?;
-        let mut values = IndexMap::new(alloc);
-        drop(values.insert(
-            String::from_str(alloc, "inventory_hostname")?,
-            Value::Text(name.clone()?),
-        )?);
-        drop(values.insert(
-            String::from_str(alloc, "group_names")?,
-            list_of(alloc, groups)?,
-        )?);
         Ok(HostState {
+            vars: HostVars {
+                name: Value::Text(name.clone()?),
+                groups: list_of(alloc, groups)?,
+                values: IndexMap::new(alloc),
+            },
             name,
-            vars: HostVars { values },
             place: 0,
             stage: Stage::Waiting,
             calls: 0,
@@ -127,6 +147,11 @@ impl HostState {
             → self.new.recap ≡ counted ending self.old.recap }
         ensures calls { self.new.calls ≡ self.old.calls }
         ensures ticket { ticket_in self.new.stage ≡ None }
+        ensures name { self.new.name ≡ self.old.name }
+        ensures vars { self.new.vars ≡ self.old.vars }
+        ensures place { self.old.place + 1 < 2 ^ 64
+            → self.new.place ≡ self.old.place + cond (goes_on (came_of ending)) 1 0 }
+        ensures stage { self.new.stage ≡ cond (goes_on (came_of ending)) Stage.Waiting Stage.Left }
     {
         self.recap = self.recap.with(ending);
         match ending {
@@ -139,7 +164,9 @@ impl HostState {
     }
 }
 
-fn list_of(alloc: Global, names: &[Arc<String>]) -> Result<Value, AllocError> {
+fn list_of(alloc: Global, names: &[Arc<String>]) -> Result<Value, AllocError>
+    ensures { IfOk result (λ v. view v ≡ list (names_list (map (λ g. string_bytes g.value) names.now))) }
+{
     let mut items = Vec::with_capacity(alloc, names.len())?;
     for name in names {
         items.push(Value::Text(name.clone()?))?;

@@ -1,24 +1,51 @@
 // What a Start evaluates, and what a task comes to once its answers are there.
+ghost use Rattle.std.specs.Prelude.{◌≡◌, ℕ, List, [], ◌∷◌, IfOk, OnOk, None, false, true, codes, option_map, string_bytes};
+ghost use Rattle.pb_semantics.specs.Data.{Data, Fields as FieldsData, rec, no_fields, field_value, put_field};
+ghost use Rattle.pb_semantics.specs.Keeps.{flag_is};
+ghost use Rattle.pb_semantics.specs.Kind.{ok_shape};
+ghost use Rattle.pb_language.specs.Book.{Registry as Modules};
+ghost use Rattle.pb_language.specs.Evaluation.{eval_parts};
+ghost use Rattle.pb_language.specs.Give.{Answer as AnswerData, object, skip_fields};
+ghost use Rattle.pb_language.specs.Start.{acts, all_changes, calls, eval_action, plan_of, planned, unchanged, with_pass};
+ghost use Rattle.pb_language.proofs.PlainGives.{a_pass, action_fields, result_writes};
+ghost use Rattle.pb_language.proofs.PlainPass.{plain_action, plain_run};
+ghost use Rattle.pb_value.specs.View.{view, fields_view};
+ghost use Rattle.pb_expr.specs.ExprView.{is_unreadable};
+ghost use Rattle.pb_expr.specs.OwnWorld.{own_world, shown};
+ghost use Rattle.pb_value.proofs.Projections.{append_fields};
+ghost use Rattle.pb_sig.specs.Modules.{modules_of};
+ghost use Rattle.pb_sig.specs.ModuleView.{builtin_view};
+ghost use Rattle.pb_book.specs.Lines.{are_ascending, argument_names, is_known};
+ghost use Rattle.pb_book.specs.Meaning.{argument_parts, plain_task};
+ghost use Rattle.pb_strategy.specs.OwnNames.{own_fields};
+ghost use Rattle.pb_strategy.specs.Outcomes.{AnswersAs, ComesTo, IsOutcome, IsSettled, Makes, calls_in, is_true as says_true};
+ghost use Rattle.pb_strategy.specs.Passes.{IsPending};
+
 use crate::answer::{Answer, Call};
 use crate::host::{HostState, HostVars, Pending};
 use crate::recap::Ending;
 use pb_book::book::{Argument, Task, Work};
 use pb_expr::eval::eval;
 use pb_sig::admission::{Admission, admit};
+use pb_sig::builtin::Builtin;
 use pb_sig::registry::Registry;
 use pb_value::value::{Fields, Value};
 use std::alloc::{AllocError, Global};
+use std::sync::Arc;
 
 /// The results that are the same for every task, made once.
 #[derive(Drop)]
 pub struct FixedResults {
-    skipped: Value,
-    unchanged: Value,
+    pub skipped: Value,
+    pub unchanged: Value,
 }
 
 impl FixedResults {
     /// The result of a task that was skipped, and that of an action.
-    pub fn new(alloc: Global) -> Result<FixedResults, AllocError> {
+    pub fn new(alloc: Global) -> Result<FixedResults, AllocError>
+        ensures skipped { IfOk result (λ f. view f.skipped ≡ rec skip_fields) }
+        ensures unchanged { IfOk result (λ f. view f.unchanged ≡ rec action_fields) }
+    {
         let mut unchanged = Fields::new(alloc);
         put(alloc, &mut unchanged, "changed", Value::Bool(false))?;
         put(alloc, &mut unchanged, "failed", Value::Bool(false))?;
@@ -40,7 +67,9 @@ impl FixedResults {
     }
 }
 
-fn put(alloc: Global, fields: &mut Fields, name: &str, value: Value) -> Result<(), AllocError> {
+fn put(alloc: Global, fields: &mut Fields, name: &str, value: Value) -> Result<(), AllocError>
+    ensures { OnOk result (fields_view fields.new.entries ≡ put_field name.now (view value) (fields_view fields.old.entries)) }
+{
     drop(fields.insert(String::from_str(alloc, name)?, value)?);
     Ok(())
 }
@@ -58,7 +87,11 @@ pub fn start(
     task: &Task,
     host: usize,
     state: &HostState,
-) -> Result<Started, AllocError> {
+) -> Result<Started, AllocError>
+    requires ordered { are_ascending (argument_names task.now.arguments.items) ≡ true }
+    ensures { IfOk result (λ s. (ms : Modules) (p : ℕ) → Makes s.pending (calls_in s.call) task.now host state.now
+        (plan_of (own_world (own_fields state.now.vars)) (plain_run ms p (plain_task task.now)) None)) }
+{
     if let Some(condition) = &task.when {
         if !is_true(&eval(alloc, condition, &state.vars)?) {
             return Ok(Started {
@@ -67,14 +100,23 @@ pub fn start(
             });
         }
     }
-    let fields = evaluated(alloc, &task.arguments, &state.vars)?;
+    Ok(begun(alloc, task, host, state)?)
+}
+
+// The start of a task whose condition holds.
+fn begun(alloc: Global, task: &Task, host: usize, state: &HostState) -> Result<Started, AllocError>
+    requires ordered { are_ascending (argument_names task.now.arguments.items) ≡ true }
+    ensures { IfOk result (λ s. (ms : Modules) → Makes s.pending (calls_in s.call) task.now host state.now
+        (with_pass None (eval_action (own_world (own_fields state.now.vars)) (plain_action ms (plain_task task.now).work)) (planned []))) }
+{
+    let arguments = evaluated(alloc, &task.arguments, &state.vars)?;
     match &task.work {
         Work::Debug => Ok(Started {
             pending: Pending::Debug,
             call: None,
         }),
         Work::SetFact => Ok(Started {
-            pending: Pending::Facts(fields),
+            pending: facts_pending(arguments),
             call: None,
         }),
         Work::Module(module) => Ok(Started {
@@ -84,27 +126,49 @@ pub fn start(
                 name: state.name.clone()?,
                 number: state.calls,
                 module: module.clone()?,
-                args: Value::of_fields(alloc, fields)?,
+                args: arguments,
             }),
         }),
     }
 }
 
-fn is_true(value: &Value) -> bool {
+fn is_true(value: &Value) -> bool
+    ensures { result ≡ says_true (view value.now) }
+{
     matches!(value, Value::Bool(true))
 }
 
-fn evaluated(
-    alloc: Global,
-    arguments: &Vec<Argument>,
-    vars: &HostVars,
-) -> Result<Fields, AllocError> {
+// These values are set; what is no record sets nothing.
+fn facts_pending(arguments: Value) -> Pending
+    ensures { (fs : FieldsData) → view arguments ≡ rec fs
+        → IsPending result (a_pass (acts ok_shape unchanged (all_changes fs))) }
+{
+    match arguments {
+        Value::Rec(facts) => Pending::Facts(facts),
+        _ => Pending::Debug,
+    }
+}
+
+// The record of the arguments' values; opaque where one may not be read.
+fn evaluated(alloc: Global, arguments: &Vec<Argument>, vars: &HostVars) -> Result<Value, AllocError>
+    requires { are_ascending (argument_names arguments.now.items) ≡ true }
+    ensures { IfOk result (λ v. view v ≡ shown (eval_parts (own_world (own_fields vars.now)) (argument_parts arguments.now.items))) }
+{
     let mut fields = Fields::new(alloc);
     for argument in arguments {
         let value = eval(alloc, &argument.value, vars)?;
-        drop(fields.insert((*argument.name).clone()?, value)?);
+        if is_opaque(&value) {
+            return Ok(Value::Opaque);
+        }
+        put(alloc, &mut fields, argument.name.as_str(), value)?;
     }
-    Ok(fields)
+    Ok(Value::of_fields(alloc, fields)?)
+}
+
+fn is_opaque(value: &Value) -> bool
+    ensures { result ≡ is_unreadable (view value.now) }
+{
+    matches!(value, Value::Opaque)
 }
 
 /// What a task came to: how it ended, and the variables that it writes, the registered one first.
@@ -123,19 +187,32 @@ pub fn finish(
     answers: &Vec<Answer>,
     registry: &Registry,
     fixed: &FixedResults,
-) -> Result<Outcome, AllocError> {
+) -> Result<Outcome, AllocError>
+    requires known { is_known (modules_of registry.now) task.now.work ≡ true }
+    requires skipped { view fixed.now.skipped ≡ rec skip_fields }
+    requires unchanged { view fixed.now.unchanged ≡ rec action_fields }
+    ensures { IfOk result (λ o. ComesTo (modules_of registry.now) task.now pending.now answers.now.items o) }
+{
     match pending {
-        Pending::Skipped => ended(alloc, task, Ending::Skipped, fixed.skipped.clone()?, None),
-        Pending::Debug => {
-            let ending = Ending::Ok { changed: false };
-            ended(alloc, task, ending, fixed.unchanged.clone()?, None)
-        }
+        Pending::Skipped => Ok(ended(alloc, task, Ending::Skipped, fixed.skipped.clone()?)?),
+        Pending::Debug => Ok(acted(alloc, task, fixed)?),
         Pending::Facts(facts) => {
-            let ending = Ending::Ok { changed: false };
-            ended(alloc, task, ending, fixed.unchanged.clone()?, Some(facts))
+            let mut outcome = acted(alloc, task, fixed)?;
+            add_all(&mut outcome.writes, facts)?;
+            Ok(outcome)
         }
-        Pending::Call => answered(alloc, task, answers, registry),
+        Pending::Call => Ok(answered(alloc, task, answers, registry)?),
     }
+}
+
+fn acted(alloc: Global, task: &Task, fixed: &FixedResults) -> Result<Outcome, AllocError>
+    requires unchanged { view fixed.now.unchanged ≡ rec action_fields }
+    ensures ending { IfOk result (λ o. o.ending ≡ Ending.Ok false) }
+    ensures writes { IfOk result (λ o. fields_view o.writes.items
+        ≡ result_writes (option_map (λ n. string_bytes n.value) task.now.register) (rec action_fields) no_fields) }
+{
+    let ending = Ending::Ok { changed: false };
+    ended(alloc, task, ending, fixed.unchanged.clone()?)
 }
 
 fn answered(
@@ -143,56 +220,114 @@ fn answered(
     task: &Task,
     answers: &Vec<Answer>,
     registry: &Registry,
-) -> Result<Outcome, AllocError> {
-    let found = match &task.work {
-        Work::Module(name) => registry.find(name.as_str()),
-        Work::Debug | Work::SetFact => None,
-    };
-    let admission = match (answers.first(), found) {
-        (Some(Answer::Unreachable), _) => return left(alloc, Ending::Unreachable),
-        (Some(Answer::Object(value)), Some(found)) => admit(alloc, found, value)?,
-        (Some(Answer::Object(_)), None) | (Some(Answer::Broken(_)), _) | (None, _) =>
-            Admission::Breach,
-    };
-    match admission {
-        Admission::Ok(value) => {
-            let changed = is_changed(&value);
-            ended(alloc, task, Ending::Ok { changed }, value, None)
-        }
-        Admission::Failed(value) => ended(alloc, task, Ending::Failed, value, None),
-        Admission::Breach => left(alloc, Ending::Failed),
+) -> Result<Outcome, AllocError>
+    requires known { is_known (modules_of registry.now) task.now.work ≡ true }
+    ensures { IfOk result (λ o. ComesTo (modules_of registry.now) task.now Pending.Call answers.now.items o) }
+{
+    match answers.first() {
+        Some(Answer::Object(value)) => Ok(object_answered(alloc, task, value, registry)?),
+        Some(Answer::Unreachable) => Ok(left(alloc, Ending::Unreachable)?),
+        Some(Answer::Broken(_)) => Ok(left(alloc, Ending::Failed)?),
+        None => Ok(left(alloc, Ending::Failed)?),
     }
 }
 
-fn left(alloc: Global, ending: Ending) -> Result<Outcome, AllocError> {
+// What this object, the first answer, comes to.
+fn object_answered(
+    alloc: Global,
+    task: &Task,
+    answer: &Value,
+    registry: &Registry,
+) -> Result<Outcome, AllocError>
+    requires known { is_known (modules_of registry.now) task.now.work ≡ true }
+    ensures { IfOk result (λ o. (d : Data) (xs : List AnswerData)
+        → IsOutcome (modules_of registry.now) task.now (object (view answer.now) ∷ xs) (a_pass (calls d)) o) }
+{
+    match &task.work {
+        Work::Module(name) => match registry.find(name.as_str()) {
+            Some(module) => Ok(admitted(alloc, task, module, answer)?),
+            None => Ok(left(alloc, Ending::Failed)?),
+        },
+        Work::Debug | Work::SetFact => Ok(left(alloc, Ending::Failed)?),
+    }
+}
+
+// What the module's answer comes to.
+fn admitted(
+    alloc: Global,
+    task: &Task,
+    module: &Builtin,
+    answer: &Value,
+) -> Result<Outcome, AllocError>
+    ensures { IfOk result (λ o. AnswersAs (builtin_view module.now) task.now (view answer.now) o) }
+{
+    match admit(alloc, module, answer)? {
+        Admission::Ok(value) => {
+            let changed = is_changed(&value);
+            Ok(ended(alloc, task, Ending::Ok { changed }, value)?)
+        }
+        Admission::Failed(value) => {
+            // only for what it says of the statuses
+            let _ = is_changed(&value);
+            Ok(ended(alloc, task, Ending::Failed, value)?)
+        }
+        Admission::Breach => Ok(left(alloc, Ending::Failed)?),
+    }
+}
+
+fn left(alloc: Global, ending: Ending) -> Result<Outcome, AllocError>
+    ensures ending { IfOk result (λ o. o.ending ≡ ending) }
+    ensures writes { IfOk result (λ o. fields_view o.writes.items ≡ no_fields) }
+{
     Ok(Outcome {
         ending,
         writes: Vec::new(alloc),
     })
 }
 
-fn is_changed(value: &Value) -> bool {
+// Whether the result's task changed something. The names of a result ascend, so its statuses stand where they would be put.
+fn is_changed(value: &Value) -> bool
+    ensures changed { (fs : FieldsData) → view value.now ≡ rec fs → result ≡ flag_is true (field_value (codes "changed") fs) }
+    ensures same { (fs : FieldsData) → view value.now ≡ rec fs → IsSettled fs }
+{
     match value {
-        Value::Rec(fields) => matches!(fields.get("changed"), Some(Value::Bool(true))),
+        Value::Rec(fields) => has_changed(fields),
         _ => false,
     }
 }
 
-fn ended(
-    alloc: Global,
-    task: &Task,
-    ending: Ending,
-    value: Value,
-    facts: Option<&Fields>,
-) -> Result<Outcome, AllocError> {
+fn has_changed(fields: &Fields) -> bool
+    ensures changed { result ≡ flag_is true (field_value (codes "changed") (fields_view fields.now.entries)) }
+    ensures same { IsSettled (fields_view fields.now.entries) }
+{
+    let _ = fields.iter();
+    is_set(fields.get("changed"))
+}
+
+fn is_set(flag: Option<&Value>) -> bool
+    ensures { result ≡ flag_is true (option_map (λ v. view v.now) flag.entry) }
+{
+    matches!(flag, Some(Value::Bool(true)))
+}
+
+fn ended(alloc: Global, task: &Task, ending: Ending, value: Value) -> Result<Outcome, AllocError>
+    ensures ending { IfOk result (λ o. o.ending ≡ ending) }
+    ensures writes { IfOk result (λ o. fields_view o.writes.items
+        ≡ result_writes (option_map (λ n. string_bytes n.value) task.now.register) (view value) no_fields) }
+{
     let mut writes = Vec::new(alloc);
     if let Some(name) = &task.register {
         writes.push(((**name).clone()?, value))?;
     }
-    if let Some(facts) = facts {
-        for (name, value) in facts.iter() {
-            writes.push((name.clone()?, value.clone()?))?;
-        }
-    }
     Ok(Outcome { ending, writes })
+}
+
+// With these values written too.
+fn add_all(writes: &mut Vec<(String, Value)>, facts: &Fields) -> Result<(), AllocError>
+    ensures { OnOk result (fields_view writes.new.items ≡ append_fields (fields_view writes.old.items) (fields_view facts.now.entries)) }
+{
+    for (name, value) in facts.iter() {
+        writes.push((name.clone()?, value.clone()?))?;
+    }
+    Ok(())
 }

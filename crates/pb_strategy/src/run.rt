@@ -1,9 +1,30 @@
 // The run: where each host stands, and the history that brought it there.
-ghost use Rattle.std.specs.Prelude.{◌≡◌, ◌<◌, ◌≤◌, ◌+◌, ◌^◌, ◌++◌, ◌∷◌, [], length, replicate, set, ℕ, IfOk, IfErr, IfSome, IsErr, OnErr, OnOk, Some, None, count_by, get_or, is_some, option_map, slice_get, true, false};
+ghost use Rattle.std.specs.Prelude.{◌≡◌, ◌==◌, ◌<◌, ◌≤◌, ◌+◌, ◌^◌, ◌++◌, ◌∷◌, ◌&&◌, [], cond, length, map, nat_lt, replicate, set, ℕ, IfOk, IfErr, IfSome, IsErr, OnErr, OnOk, Some, None, count_by, get_or, is_some, option_map, slice_get, true, false};
+ghost use Rattle.pb_semantics.specs.Data.{rec};
+ghost use Rattle.pb_language.specs.Book.{Registry as Modules};
+ghost use Rattle.pb_language.specs.Give.{skip_fields};
+ghost use Rattle.pb_language.specs.Machine.{enabled, give, history as history_of, start, turn};
+ghost use Rattle.pb_language.specs.Start.{plan_of};
+ghost use Rattle.pb_language.proofs.PlainGives.{action_fields};
+ghost use Rattle.pb_language.proofs.PlainPass.{plain_run};
+ghost use Rattle.pb_value.specs.View.{view};
+ghost use Rattle.pb_expr.specs.OwnWorld.{own_world};
+ghost use Rattle.pb_sig.specs.Modules.{modules_of};
+ghost use Rattle.pb_inventory.specs.Hosts.{HostData};
+ghost use Rattle.pb_book.specs.Lines.{are_ascending, are_known, are_ordered, argument_names, names_known};
+ghost use Rattle.pb_book.specs.Meaning.{plain_task};
+ghost use Rattle.pb_verify.specs.Judges.{is_accepted};
+ghost use Rattle.pb_strategy.specs.Events.{answer_data, event_data};
+ghost use Rattle.pb_strategy.specs.Next.{next_of, taken_next};
+ghost use Rattle.pb_strategy.specs.Outcomes.{ComesTo, IsSettledHost, Makes, calls_in};
+ghost use Rattle.pb_strategy.specs.OwnNames.{own_fields};
+ghost use Rattle.pb_strategy.specs.Room.{HasRoom, IsOpening, IsRoomier};
+ghost use Rattle.pb_strategy.specs.Sound.{IsSound};
+ghost use Rattle.pb_strategy.specs.Standing.{can_run, is_done, tasks_in};
 ghost use Rattle.pb_inventory.specs.Inventory.{inventory_view};
 ghost use Rattle.pb_book.specs.Books.{plays_of};
-ghost use Rattle.pb_strategy.specs.History.{RunState, after, IsAfterJob, IsAfterTake, has_no_plays, is_stopped, is_ended, is_over};
-ghost use Rattle.pb_strategy.specs.Inside.{recaps_of, tickets_of, handed_of, is_phase_over, is_phase_stopped};
+ghost use Rattle.pb_strategy.specs.History.{RunState, after, Follows, IsAfterJob, IsAfterTake, has_no_plays, is_stopped, is_ended, is_over, state_after, state_of};
+ghost use Rattle.pb_strategy.specs.Inside.{recaps_of, tickets_of, handed_of, is_phase_ended, is_phase_over, is_phase_stopped};
 ghost use Rattle.pb_strategy.specs.Jobs.{ticket_in, ticket_out, is_job_out};
 ghost use Rattle.pb_strategy.specs.Recaps.{nothing, counted, Counts};
 ghost use Rattle.pb_strategy.specs.Tally.{recap_of, gives_of, IsOneMore};
@@ -61,7 +82,9 @@ impl Model for Run {
 impl Run {
     /// A run in which nothing has happened yet. At most `forks` hosts have a job out at one time.
     pub fn open(alloc: Global, checked: &Checked, forks: usize) -> Result<Run, AllocError>
-        ensures { IfOk result (λ r. r ≡ record {
+        requires { 0 < forks }
+        ensures sound { IfOk result (λ r. IsSound r) }
+        ensures opening { IfOk result (λ r. r ≡ record {
           checked = checked.now;
           forks = forks;
           history = [];
@@ -69,21 +92,28 @@ impl Run {
           handed = 0;
         }) }
     {
-        Ok(Run {
+        let run = Run {
             checked: checked.clone()?,
             forks,
             history: Vec::with_capacity(alloc, 1)?,
             hosts: opening_hosts(alloc, checked)?,
             fixed: FixedResults::new(alloc)?,
             phase: opening_phase(checked),
-        })
+        };
+        run.known();
+        Ok(run)
     }
 
     /// What there is to do: the job of the ready host with the lowest place, ties by host order, or why there is none.
     /// A batch that is over is turned. Where memory is refused nothing has happened.
     pub fn take(&mut self) -> Result<Taken, AllocError>
+        ensures next { IfOk result (λ t. taken_next t ≡ next_of (state_of self.old)) }
+        ensures sound { IsSound self.new }
         ensures taken { IfOk result (λ t. IsAfterTake t self.old self.new) }
         ensures few { self.new.handed < 2 ^ 63 }
+        ensures short { length self.new.history < 2 ^ 63 }
+        ensures over { IfOk result (λ t. t ≡ Taken.Finished → is_over self.new ≡ true) }
+        ensures stopped_only { IfOk result (λ t. t ≡ Taken.Stopped → is_stopped self.old.history ≡ true) }
         ensures err { OnErr result (self.new ≡ self.old) }
         ensures stopped { is_stopped self.old.history ≡ true → result ≡ Ok Taken.Stopped }
         ensures ended { is_stopped self.old.history ≡ false → is_ended self.old ≡ true
@@ -91,6 +121,7 @@ impl Run {
         ensures idle { IfOk result (λ t. t ≡ Taken.Idle
             → (k : ℕ) × (p : ℕ) × (ticket_out k self.old.history ≡ Some p)) }
     {
+        self.known();
         match self.phase {
             Phase::Stopped => return Ok(Taken::Stopped),
             Phase::Ended => return Ok(Taken::Finished),
@@ -99,20 +130,27 @@ impl Run {
         let tasks = tasks_of(&self.checked);
         if let Some(host) = ready_host(&self.hosts, tasks, self.forks) {
             let job = self.begin(host)?;
+            self.known();
             return Ok(Taken::Job(job));
         }
         if running(&self.hosts) > 0 {
             return Ok(Taken::Idle);
         }
         self.turn()?;
+        self.known();
         Ok(Taken::Finished)
+    }
+
+    // What holds of each run.
+    fn known(&self)
+        ensures { IsSound self.now }
+    {
+        let _ = &self.phase;
     }
 
     // Starts the next task of a host that is ready.
     fn begin(&mut self, host: usize) -> Result<Job, AllocError>
-        requires going { is_stopped self.old.history ≡ false }
-        requires there { host < length self.old.recaps }
-        requires free { ticket_out host self.old.history ≡ None }
+        requires { enabled (state_of self.old) (start host) ≡ true }
         ensures job { IfOk result (λ j. (j.host ≡ host) × IsAfterJob j self.old self.new) }
         ensures few { OnOk result (self.new.handed < 2 ^ 63) }
         ensures err { OnErr result (self.new ≡ self.old) }
@@ -144,6 +182,7 @@ impl Run {
         job: Job,
         answers: Vec<Answer>,
     ) -> Result<Given, (GiveError, Job, Vec<Answer>)>
+        ensures sound { IsSound self.new }
         ensures done { OnOk result (self.new.history ≡ self.old.history ++ Event.Give job.host answers ∷ []) }
         ensures counted { OnOk result (IsOneMore job.host self.old.recaps self.new.recaps) }
         ensures book { (self.new.checked ≡ self.old.checked) × (self.new.forks ≡ self.old.forks) }
@@ -159,6 +198,7 @@ impl Run {
         ensures stranger_only { IfErr result (λ e. e.0 ≡ GiveError.Stranger
             → is_job_out job.host job.ticket self.old.history ≡ false) }
     {
+        self.known();
         if let Phase::Stopped = self.phase {
             return Err((GiveError::Stopped, job, answers));
         }
@@ -171,31 +211,37 @@ impl Run {
         let Ok(found) = found else {
             return Err((GiveError::NoMemory, job, answers));
         };
-        if self.history.reserve(2).is_err()
-            || room_for(&mut self.hosts, job.host, &found).is_err()
-        {
+        if self.history.reserve(2).is_err() {
+            return Err((GiveError::NoMemory, job, answers));
+        }
+        if room_for(&mut self.hosts, job.host, &found).is_err() {
             return Err((GiveError::NoMemory, job, answers));
         }
         self.history.push_reserved(Event::Give(job.host, answers));
         settle(&mut self.hosts, job.host, found);
+        self.known();
         Ok(Given::Done)
     }
 
     /// Stops the run; nothing where it is stopped or has ended. There is always room for this event.
     pub fn stop(&mut self)
+        ensures sound { IsSound self.new }
         ensures going { is_over self.old ≡ false → self.new ≡ after self.old Event.Stop }
         ensures over { is_over self.old ≡ true → self.new ≡ self.old }
         ensures ends { is_over self.new ≡ true }
     {
+        self.known();
         if let Phase::Going = self.phase {
             self.history.push_reserved(Event::Stop);
             self.phase = Phase::Stopped;
+            self.known();
         }
     }
 
-    /// What has happened, in order.
+    /// What has happened, in order. The run is the definitions' run of these events.
     pub fn history(&self) -> &[Event]
-        ensures { result.now ≡ self.now.history }
+        ensures value { result.now ≡ self.now.history }
+        ensures sound { IsSound self.now }
     {
         self.history.as_slice()
     }
@@ -232,9 +278,13 @@ impl Run {
 
 // A run of a book without plays has ended.
 fn opening_phase(checked: &Checked) -> Phase
+    ensures accepted { is_accepted checked.now ≡ true }
+    ensures known { names_known (modules_of checked.now.registry) (plays_of checked.now.book) ≡ true }
     ensures over { is_phase_over result ≡ has_no_plays (plays_of checked.now.book) }
+    ensures ended { is_phase_ended result ≡ has_no_plays (plays_of checked.now.book) }
     ensures going { is_phase_stopped result ≡ false }
 {
+    let _ = checked.budget();
     match checked.book().plays() {
         [] => Phase::Ended,
         _ => Phase::Going,
@@ -247,6 +297,8 @@ fn opening_hosts(alloc: Global, checked: &Checked) -> Result<Vec<HostState>, All
     ensures handed { IfOk result (λ hs. handed_of hs.items ≡ 0) }
     ensures tickets { IfOk result (λ hs. tickets_of hs.items
         ≡ replicate (length (inventory_view checked.now.inventory).hosts) None) }
+    ensures opening { (h : HostData) → (inventory_view checked.now.inventory).hosts ≡ h ∷ []
+        → IfOk result (λ hs. (s : HostState) × ((hs.items ≡ s ∷ []) × IsOpening h s)) }
 {
     let inventory = checked.inventory();
     let count = inventory.hosts();
@@ -259,7 +311,11 @@ fn opening_hosts(alloc: Global, checked: &Checked) -> Result<Vec<HostState>, All
 }
 
 /// The tasks of the play that runs.
-fn tasks_of(checked: &Checked) -> &[Task] {
+fn tasks_of(checked: &Checked) -> &[Task]
+    ensures value { result.now ≡ tasks_in (plays_of checked.now.book) }
+    ensures ordered { are_ordered result.now ≡ true }
+    ensures known { are_known (modules_of checked.now.registry) result.now ≡ true }
+{
     match checked.book().plays().first() {
         Some(play) => play.tasks.as_slice(),
         None => &[],
@@ -280,8 +336,8 @@ fn running(hosts: &[HostState]) -> usize
 
 // The waiting host with the lowest place, ties by host order, where fewer hosts than the forks are running.
 fn ready_host(hosts: &[HostState], tasks: &[Task], forks: usize) -> Option<usize>
-    ensures there { IfSome result (λ h. h < length hosts.now) }
-    ensures free { IfSome result (λ h. get_or (tickets_of hosts.now) h None ≡ None) }
+    ensures alone { (s : HostState) → hosts.now ≡ s ∷ []
+        → result ≡ cond (nat_lt 0 forks && can_run s (length tasks.now)) (Some 0) None }
 {
     if running(hosts) >= forks {
         return None;
@@ -298,13 +354,17 @@ fn ready_host(hosts: &[HostState], tasks: &[Task], forks: usize) -> Option<usize
             }
         }
     }
-    best.map(|(host, _)| host)
+    match best {
+        Some((host, _)) => Some(host),
+        None => None,
+    }
 }
 
 impl Run {
     // Follows one recorded event, where it is enabled.
     fn follow(&mut self, event: &Event) -> Result<(), AllocError>
-        ensures { (self.new.checked ≡ self.old.checked) × (self.new.forks ≡ self.old.forks) }
+        ensures book { (self.new.checked ≡ self.old.checked) × (self.new.forks ≡ self.old.forks) }
+        ensures followed { OnOk result (Follows (event_data event.now) self.old self.new) }
     {
         match event {
             Event::Start(host) => {
@@ -321,6 +381,7 @@ impl Run {
                 Ok(())
             }
             Event::Stop => {
+                let _ = &self.phase;
                 self.stop();
                 Ok(())
             }
@@ -328,7 +389,8 @@ impl Run {
     }
 
     fn give_again(&mut self, host: usize, answers: &Vec<Answer>) -> Result<(), AllocError>
-        ensures { (self.new.checked ≡ self.old.checked) × (self.new.forks ≡ self.old.forks) }
+        ensures book { (self.new.checked ≡ self.old.checked) × (self.new.forks ≡ self.old.forks) }
+        ensures followed { OnOk result (Follows (give host (map answer_data answers.now.items)) self.old self.new) }
     {
         let Some(ticket) = ticket_of(&self.hosts, host) else {
             return Ok(());
@@ -343,16 +405,16 @@ impl Run {
             },
             answers,
         ) {
-            Ok(_) | Err((GiveError::Stopped, _, _)) | Err((GiveError::Stranger, _, _)) => Ok(()),
+            Ok(_) => Ok(()),
+            Err((GiveError::Stopped, _, _)) => Ok(()),
+            Err((GiveError::Stranger, _, _)) => unreachable!(),
             Err((GiveError::NoMemory, _, _)) => Err(AllocError),
         }
     }
 
     // Something can still happen, and the host is ready.
     fn can_start(&self, host: usize) -> bool
-        ensures going { result ≡ true → is_stopped self.now.history ≡ false }
-        ensures there { result ≡ true → host < length self.now.recaps }
-        ensures free { result ≡ true → ticket_out host self.now.history ≡ None }
+        ensures { result ≡ enabled (state_of self.now) (start host) }
     {
         match self.phase {
             Phase::Going => is_ready(&self.hosts, tasks_of(&self.checked), self.forks, host),
@@ -362,20 +424,17 @@ impl Run {
 
     // Each host of the batch has left or has nothing more to run, and no job is out.
     fn is_over(&self) -> bool
-        ensures { result ≡ true → is_stopped self.now.history ≡ false }
+        ensures { result ≡ enabled (state_of self.now) turn }
     {
         match self.phase {
-            Phase::Going => {
-                let tasks = tasks_of(&self.checked).len();
-                self.hosts.iter().all(|state| is_through(state, tasks))
-            }
+            Phase::Going => { are_through(&self.hosts, tasks_of(&self.checked).len()) }
             Phase::Ended | Phase::Stopped => false,
         }
     }
 
     // The batch is over, and with it the run.
     fn turn(&mut self) -> Result<(), AllocError>
-        requires { is_stopped self.old.history ≡ false }
+        requires { enabled (state_of self.old) turn ≡ true }
         ensures ok { OnOk result (self.new ≡ after self.old Event.Turn) }
         ensures err { OnErr result (self.new ≡ self.old) }
     {
@@ -393,16 +452,23 @@ pub fn replay(
     forks: usize,
     events: &[Event],
 ) -> Result<Run, AllocError>
-    ensures { IfOk result (λ r. (r.checked ≡ checked.now) × (r.forks ≡ forks)) }
+    requires { 0 < forks }
+    ensures book { IfOk result (λ r. (r.checked ≡ checked.now) × (r.forks ≡ forks)) }
+    ensures events { IfOk result (λ r. map event_data r.history
+        ≡ history_of (state_after r []) (map event_data events.now)) }
+    ensures sound { IfOk result (λ r. IsSound r) }
 {
     let mut run = Run::open(alloc, checked, forks)?;
     for event in events {
         run.follow(event)?;
     }
+    run.known();
     Ok(run)
 }
 
-fn copied(answers: &Vec<Answer>) -> Result<Vec<Answer>, AllocError> {
+fn copied(answers: &Vec<Answer>) -> Result<Vec<Answer>, AllocError>
+    ensures { IfOk result (λ copies. map answer_data copies.items ≡ map answer_data answers.now.items) }
+{
     let mut copies = Vec::with_capacity(*answers.allocator(), answers.len())?;
     for answer in answers {
         copies.push(match answer {
@@ -414,7 +480,9 @@ fn copied(answers: &Vec<Answer>) -> Result<Vec<Answer>, AllocError> {
     Ok(copies)
 }
 
-fn ticket_of(hosts: &[HostState], host: usize) -> Option<usize> {
+fn ticket_of(hosts: &[HostState], host: usize) -> Option<usize>
+    ensures { result ≡ get_or (tickets_of hosts.now) host None }
+{
     match hosts.get(host) {
         Some(state) => match &state.stage {
             Stage::Running { ticket, .. } => Some(*ticket),
@@ -424,8 +492,21 @@ fn ticket_of(hosts: &[HostState], host: usize) -> Option<usize> {
     }
 }
 
+fn are_through(hosts: &[HostState], tasks: usize) -> bool
+    ensures alone { (s : HostState) → hosts.now ≡ s ∷ [] → result ≡ is_done s.stage (nat_lt s.place tasks) }
+{
+    for state in hosts {
+        if !is_through(state, tasks) {
+            return false;
+        }
+    }
+    true
+}
+
 // The host has left, or waits at the end.
-fn is_through(state: &HostState, tasks: usize) -> bool {
+fn is_through(state: &HostState, tasks: usize) -> bool
+    ensures { result ≡ is_done state.now.stage (nat_lt state.now.place tasks) }
+{
     match state.stage {
         Stage::Waiting => state.place >= tasks,
         Stage::Running { .. } => false,
@@ -434,8 +515,8 @@ fn is_through(state: &HostState, tasks: usize) -> bool {
 }
 
 fn is_ready(hosts: &[HostState], tasks: &[Task], forks: usize, host: usize) -> bool
-    ensures there { result ≡ true → host < length hosts.now }
-    ensures free { result ≡ true → get_or (tickets_of hosts.now) host None ≡ None }
+    ensures alone { (s : HostState) → hosts.now ≡ s ∷ []
+        → result ≡ (host == 0) && (nat_lt 0 forks && can_run s (length tasks.now)) }
 {
     match hosts.get(host) {
         Some(state) => {
@@ -462,19 +543,32 @@ fn begin_on(
 ) -> Result<Begun, AllocError>
     ensures few { IfOk result (λ b. length b.calls.items ≤ 1) }
     ensures past { IfOk result (λ b. length hosts.now ≤ host → b.calls.items ≡ []) }
+    ensures made { IfOk result (λ b. (s : HostState) (t : Task) (ms : Modules) (p : ℕ) → slice_get hosts.now host ≡ Some s
+        → slice_get (tasks_in (plays_of checked.now.book)) s.place ≡ Some t
+        → Makes b.pending b.calls.items t host s (plan_of (own_world (own_fields s.vars)) (plain_run ms p (plain_task t)) None)) }
 {
-    let mut calls = Vec::new(alloc);
     let (Some(state), Some(task)) = (hosts.get(host), task_of(checked, hosts, host)) else {
         return Ok(Begun {
             pending: Pending::Skipped,
-            calls,
+            calls: Vec::new(alloc),
         });
     };
     let Started { pending, call } = start(alloc, task, host, state)?;
+    Ok(Begun {
+        pending,
+        calls: listed(alloc, call)?,
+    })
+}
+
+fn listed(alloc: Global, call: Option<Call>) -> Result<Vec<Call>, AllocError>
+    ensures calls { IfOk result (λ calls. calls.items ≡ calls_in call) }
+    ensures few { IfOk result (λ calls. length calls.items ≤ 1) }
+{
+    let mut calls = Vec::new(alloc);
     if let Some(call) = call {
         calls.push(call)?;
     }
-    Ok(Begun { pending, calls })
+    Ok(calls)
 }
 
 fn set_running(hosts: &mut Vec<HostState>, host: usize, stage: Stage, calls: usize)
@@ -483,6 +577,8 @@ fn set_running(hosts: &mut Vec<HostState>, host: usize, stage: Stage, calls: usi
     ensures handed { host < length hosts.old.items → handed_of hosts.old.items + calls < 2 ^ 64
         → handed_of hosts.new.items ≡ handed_of hosts.old.items + calls }
     ensures past { length hosts.old.items ≤ host → handed_of hosts.new.items ≡ handed_of hosts.old.items }
+    ensures running { (s : HostState) → slice_get hosts.old.items host ≡ Some s → s.calls + calls < 2 ^ 64
+        → hosts.new.items ≡ set hosts.old.items host (record s { calls = s.calls + calls; stage = stage }) }
 {
     if let Some(state) = hosts.get_mut(host) {
         state.calls = state.calls.saturating_add(calls as u64);
@@ -491,7 +587,11 @@ fn set_running(hosts: &mut Vec<HostState>, host: usize, stage: Stage, calls: usi
 }
 
 /// The task that the host is at.
-fn task_of<'c>(checked: &'c Checked, hosts: &[HostState], host: usize) -> Option<&'c Task> {
+fn task_of<'c>(checked: &'c Checked, hosts: &[HostState], host: usize) -> Option<&'c Task>
+    ensures found { (s : HostState) → slice_get hosts.now host ≡ Some s
+        → option_map (λ t. t.now) result ≡ slice_get (tasks_in (plays_of checked.now.book)) s.place }
+    ensures ordered { IfSome result (λ t. are_ascending (argument_names t.now.arguments.items) ≡ true) }
+{
     match hosts.get(host) {
         Some(state) => tasks_of(checked).get(state.place),
         None => None,
@@ -503,20 +603,29 @@ fn outcome_of(
     fixed: &FixedResults,
     state: &HostState,
     answers: &Vec<Answer>,
-) -> Result<Outcome, AllocError> {
-    match (&state.stage, tasks_of(checked).get(state.place)) {
-        (Stage::Running { pending, .. }, Some(task)) => {
-            finish(
-                *answers.allocator(),
-                task,
-                pending,
-                answers,
-                checked.registry(),
-                fixed,
-            )
-        }
-        _ => Err(AllocError),
-    }
+) -> Result<Outcome, AllocError>
+    requires running { is_some (ticket_in state.now.stage) ≡ true }
+    requires there { is_some (slice_get (tasks_in (plays_of checked.now.book)) state.now.place) ≡ true }
+    requires skipped { view fixed.now.skipped ≡ rec skip_fields }
+    requires unchanged { view fixed.now.unchanged ≡ rec action_fields }
+    ensures { IfOk result (λ o. (q : Pending) (ticket : ℕ) (t : Task) → state.now.stage ≡ Stage.Running ticket q
+        → slice_get (tasks_in (plays_of checked.now.book)) state.now.place ≡ Some t
+        → ComesTo (modules_of checked.now.registry) t q answers.now.items o) }
+{
+    let Stage::Running { pending, .. } = &state.stage else {
+        unreachable!()
+    };
+    let Some(task) = tasks_of(checked).get(state.place) else {
+        unreachable!()
+    };
+    Ok(finish(
+        *answers.allocator(),
+        task,
+        pending,
+        answers,
+        checked.registry(),
+        fixed,
+    )?)
 }
 
 // Makes room for what the host's task writes.
@@ -524,6 +633,9 @@ fn room_for(hosts: &mut Vec<HostState>, host: usize, found: &Outcome) -> Result<
     ensures recaps { recaps_of hosts.new.items ≡ recaps_of hosts.old.items }
     ensures tickets { tickets_of hosts.new.items ≡ tickets_of hosts.old.items }
     ensures handed { handed_of hosts.new.items ≡ handed_of hosts.old.items }
+    ensures room { OnOk result (HasRoom hosts.new.items host found.now) }
+    ensures kept { (s : HostState) → slice_get hosts.old.items host ≡ Some s
+        → (n : HostState) × ((hosts.new.items ≡ set hosts.old.items host n) × IsRoomier s n) }
 {
     match hosts.get_mut(host) {
         Some(state) => state.vars.values.reserve(found.writes.len()),
@@ -533,11 +645,15 @@ fn room_for(hosts: &mut Vec<HostState>, host: usize, found: &Outcome) -> Result<
 
 // Writes what the host's task writes, for which there is room, and lets the host go on or leave.
 fn settle(hosts: &mut Vec<HostState>, host: usize, found: Outcome)
+    requires room { HasRoom hosts.old.items host found }
     ensures handed { handed_of hosts.new.items ≡ handed_of hosts.old.items }
     ensures tickets { tickets_of hosts.new.items ≡ set (tickets_of hosts.old.items) host None }
     ensures recaps { (tasks : ℕ) → Counts (recap_of (recaps_of hosts.old.items) host) tasks → tasks + 1 < 2 ^ 64
         → recaps_of hosts.new.items ≡ set (recaps_of hosts.old.items) host
         (counted found.ending (recap_of (recaps_of hosts.old.items) host)) }
+    ensures settled { (s : HostState) → slice_get hosts.old.items host ≡ Some s → s.place + 1 < 2 ^ 64
+        → (tasks : ℕ) → Counts s.recap tasks → tasks + 1 < 2 ^ 64
+        → (n : HostState) × ((hosts.new.items ≡ set hosts.old.items host n) × IsSettledHost found s n) }
 {
     if let Some(state) = hosts.get_mut(host) {
         let Outcome { ending, writes } = found;

@@ -1,6 +1,10 @@
-use Rattle.std.proofs.Common.{◌≡◌, None, replicate}
+use Rattle.std.proofs.Common.{◌≡◌, ◌<◌, [], ◌∷◌, None, replicate}
+use Rattle.pb_inventory.specs.Hosts.{HostData}
+use Rattle.pb_inventory.specs.Inventory.{inventory_view}
 use Rattle.pb_strategy.specs.Inside.{recaps_of, tickets_of, handed_of}
 use Rattle.pb_strategy.specs.Recaps.{nothing}
+use Rattle.pb_strategy.specs.Room.{IsOpening}
+use Rattle.pb_strategy.specs.declared.host.HostState.{HostState}
 use Rattle.pb_strategy.proofs.run.opening_hosts.Given as goal
 
 abbrev pub invariant-loop-host : goal.invariant-loop-host
@@ -8,4 +12,5 @@ invariant-loop-host l = record {
   recaps : recaps_of l.hosts.items ≡ replicate l.host nothing;
   tickets : tickets_of l.hosts.items ≡ replicate l.host None;
   handed : handed_of l.hosts.items ≡ 0;
+  opening : (h : HostData) → (inventory_view l.checked.inventory).hosts ≡ h ∷ [] → 0 < l.host → (s : HostState) × ((l.hosts.items ≡ s ∷ []) × IsOpening h s);
 }

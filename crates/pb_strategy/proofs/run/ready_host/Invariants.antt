@@ -1,6 +1,7 @@
-use Rattle.std.proofs.Common.{◌≡◌, ◌<◌, None, length, get_or, IfSome}
-use Rattle.pb_strategy.specs.Inside.{tickets_of}
+use Rattle.std.proofs.Common.{◌≡◌, ◌∷◌, [], length, nat_lt, cond, Some, None, ◌&&◌}
+use Rattle.pb_strategy.specs.Standing.{can_run}
+use Rattle.pb_strategy.specs.declared.host.HostState.{HostState}
 use Rattle.pb_strategy.proofs.run.ready_host.Given as goal
 
 abbrev pub invariant-loop-host : goal.invariant-loop-host
-invariant-loop-host l = IfSome l.best (λ b. (b.0 < length l.hosts) × (get_or (tickets_of l.hosts) b.0 None ≡ None))
+invariant-loop-host l = (s : HostState) → l.hosts ≡ s ∷ [] → l.best ≡ cond (nat_lt 0 l.host && can_run s (length l.tasks)) (Some (0, s.place)) None

@@ -1,4 +1,8 @@
-use Rattle.std.proofs.Common.{◌<◌, length, None, refl, arith}
+use Rattle.std.proofs.Common.{◌<◌, length, None, refl, ap, ◌∙◌, arith}
+use Rattle.std.proofs.lemmas.Option.{get_or_from_slice_get, slice_get_within}
+use Rattle.pb_semantics.specs.Data.{field_value}
+use Rattle.pb_value.specs.View.{fields_view}
+use Rattle.pb_strategy.specs.Outcomes.{IsSettledHost}
 use Rattle.pb_strategy.specs.Recaps.{Counts}
 use Rattle.pb_strategy.proofs.Jobs.{ticket_replaced}
 use Rattle.pb_strategy.proofs.Tallies.{recap_at, recap_replaced}
@@ -14,3 +18,22 @@ returns-in-Some-clause-recaps c = λ tasks counts few.
 
 pub returns-in-Some-clause-tickets : goal.returns-in-Some-clause-tickets
 returns-in-Some-clause-tickets c = ticket_replaced c.args.hosts.now.items c.args.host c.end.new.self None c.end.ensures.ticket
+
+pub returns-in-Some-clause-settled : goal.returns-in-Some-clause-settled
+returns-in-Some-clause-settled c = λ s e.
+    let same = c.in-Some.ensures.value ∙ get_or_from_slice_get c.args.hosts.now.items c.args.host s c.in-Some.state.now e in
+    rw (← same) (λ short tasks counts few.
+    let is : IsSettledHost c.args.found c.in-Some.state.now c.end.new.self = record {
+      name = c.end.ensures.name;
+      own_name = ap (λ v. v.name) c.end.ensures.vars ∙ c.write.ensures.names.0;
+      groups = ap (λ v. v.groups) c.end.ensures.vars ∙ c.write.ensures.names.1;
+      values = λ p. ap (λ v. field_value p (fields_view v.values.entries)) c.end.ensures.vars ∙ c.write.ensures.values p;
+      place = c.end.ensures.place short;
+      stage = c.end.ensures.stage;
+      recap = c.end.ensures.counted tasks counts few;
+      calls = c.end.ensures.calls;
+    } in
+    (c.end.new.self, (refl, is)))
+
+pub returns-in_default-clause-settled : goal.returns-in_default-clause-settled
+returns-in_default-clause-settled c = λ s e. absurd (omega (arith, c.in_default.ensures.item, slice_get_within c.args.hosts.now.items c.args.host s e))

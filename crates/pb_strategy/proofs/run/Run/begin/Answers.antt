@@ -1,30 +1,72 @@
-use Rattle.std.proofs.Common.{◌≡◌, ◌≤◌, ◌<◌, ◌+◌, ◌^◌, length, vec_capacity, refl, ap, arith, rules}
-use Rattle.pb_strategy.specs.declared.event.Event.TheVariants.{Start}
-use Rattle.pb_strategy.specs.Inside.{recaps_of, tickets_of, handed_of}
-use Rattle.pb_strategy.specs.Jobs.{ticket_in}
+use Rattle.std.proofs.Common.{◌≡◌, ◌<◌, ◌+◌, ◌^◌, length, slice_get, vec_capacity, true, refl, sym, ap, ap₂, ◌∙◌, arith, rules}
 use Rattle.std.proofs.lemmas.List.{length-map, length_push}
-use Rattle.pb_strategy.proofs.Histories.{goes_on}
+use Rattle.pb_language.specs.Machine.{enabled, start}
+use Rattle.pb_strategy.specs.History.{RunState, state_of}
+use Rattle.pb_strategy.specs.Inside.{run_state, tickets_of, handed_of}
+use Rattle.pb_strategy.specs.Jobs.{ticket_in}
+use Rattle.pb_strategy.specs.Passes.{job_calls}
+use Rattle.pb_strategy.specs.Standing.{plain_after}
+use Rattle.pb_strategy.specs.declared.event.Event.TheVariants.{Start}
+use Rattle.pb_strategy.proofs.Histories.{goes_on, same_state}
 use Rattle.pb_strategy.proofs.Jobs.{tickets-more}
-use Rattle.pb_strategy.proofs.Tallies.{tally-other, more_handed}
+use Rattle.pb_strategy.proofs.Machines.{there, start_run, start_run_calls, start_within}
+use Rattle.pb_strategy.proofs.Nexts.{alone_sum}
+use Rattle.pb_strategy.proofs.Tallies.{tally-other}
 use Rattle.pb_strategy.proofs.run.Run.begin.Goals as goal
 
 pub invariant_of-self-2 : goal.invariant_of-self-2
 invariant_of-self-2 c =
-    let kept : c.reserve.new.self.items ≡ c.self.inside.history.items = search rules in
+    let x = c.self.inside in
+    let es = x.history.items in
+    let k = c.args.host in
+    let cs = c.in_ok-begun.begun.calls.items in
+    let m = c.self.invariant.machine in
+    let on : enabled (state_of (run_state x)) (start k) ≡ true = ap (λ (r : RunState). enabled (state_of r) (start k)) c.self.view_is ∙ c.requires in
+    let kept : c.reserve.new.self.items ≡ es = search rules in
     let room : length c.push_reserved.new.self.items < vec_capacity c.push_reserved.new.self =
     omega (arith, c.push_reserved.ensures.len, c.push_reserved.ensures.capacity, c.in_ok-reserve.ensures.ok, c.push_reserved.new.self.ok) in
     let items = rw kept at c.push_reserved.ensures.items in
     let same = c.set_running.ensures.recaps in
-    let old = handed_of c.self.inside.hosts.items in
-    let few : old + c.len.result < 2 ^ 64 = omega (arith, c.self.invariant.handed, c.self.inside.history.ok, c.self.inside.history.small, c.in_ok-begun.ensures.few, c.len.ensures, c.in_ok-begun.begun.calls.ok) in
-    let none : length c.self.inside.hosts.items ≤ c.args.host → c.len.result ≡ 0 = λ past. search rules in
-    let more : handed_of c.set_running.new.hosts.items ≡ old + c.len.result =
-    more_handed _ old c.len.result c.args.host (length c.self.inside.hosts.items) c.set_running.ensures.handed c.set_running.ensures.past none few in
-    let there : c.args.host < length (recaps_of c.self.inside.hosts.items) = rw (← c.self.view_is) at c.requires.there in
-    let within : c.args.host < length (tickets_of c.self.inside.hosts.items) =
-    omega (arith, there, length-map c.self.inside.hosts.items (λ h. h.recap), length-map c.self.inside.hosts.items (λ h. ticket_in h.stage)) in
-    let ticket : c.len-ticket.result ≡ length c.self.inside.history.items = search rules in
-    goes_on c.self.inside _ (Start c.args.host) c.self.invariant refl refl refl refl items room (ap length same)
-    (rw (items, same) (tally-other _ _ (Start c.args.host) (λ h. refl) c.self.invariant.tally))
-    (omega (arith, more, c.self.invariant.handed, ap length items, length_push c.self.inside.history.items (Start c.args.host), c.in_ok-begun.ensures.few, c.len.ensures, c.in_ok-begun.begun.calls.ok))
-    (rw (items, c.set_running.ensures.tickets, ticket) (tickets-more c.self.inside.history.items (tickets_of c.self.inside.hosts.items) (Start c.args.host) c.args.host _ within (λ k out. refl) c.self.invariant.tickets))
+    let old = handed_of x.hosts.items in
+    let count : c.len.result ≡ length cs = omega (arith, c.len.ensures, c.in_ok-begun.begun.calls.ok) in
+    let few : old + c.len.result < 2 ^ 64 = omega (arith, c.self.invariant.handed, x.history.ok, x.history.small, c.in_ok-begun.ensures.few, count) in
+    let within : k < length x.hosts.items = start_within x.checked x.forks es x.hosts.items x.phase m k on in
+    let more : handed_of c.set_running.new.hosts.items ≡ old + c.len.result = c.set_running.ensures.handed within few in
+    let here : m.host.calls + c.len.result < 2 ^ 64 = omega (arith, few, alone_sum (λ h. h.calls) m.host x.hosts.items m.alone) in
+    let there : k < length (tickets_of x.hosts.items) = omega (arith, within, length-map x.hosts.items (λ h. ticket_in h.stage)) in
+    let ticket : c.len-ticket.result ≡ length es = search rules in
+    let found : c.deref.result.now ≡ x.hosts.items = search rules in
+    goes_on x _ (Start k) c.self.invariant refl refl refl refl refl refl items room (ap length same)
+    (rw (items, same) (tally-other _ _ (Start k) (λ h. refl) c.self.invariant.tally))
+    (omega (arith, more, c.self.invariant.handed, ap length items, length_push es (Start k), c.in_ok-begun.ensures.few, count))
+    (rw (items, c.set_running.ensures.tickets, ticket) (tickets-more es (tickets_of x.hosts.items) (Start k) k _ there (λ k out. refl) c.self.invariant.tickets))
+    (start_run x.checked x.forks es x.hosts.items x.phase m k c.len-ticket.result c.in_ok-begun.begun.pending cs c.set_running.new.hosts.items on
+    (λ s t ms i at task. c.in_ok-begun.ensures.made s t ms i (ap (λ hs. slice_get hs k) found ∙ at) task) c.len.result count here c.set_running.ensures.running)
+
+pub returns-clause-job : goal.returns-clause-job
+returns-clause-job c =
+    let x = c.self.inside in
+    let es = x.history.items in
+    let k = c.args.host in
+    let cs = c.in_ok-begun.begun.calls.items in
+    let m = c.self.invariant.machine in
+    let on : enabled (state_of (run_state x)) (start k) ≡ true = ap (λ (r : RunState). enabled (state_of r) (start k)) c.self.view_is ∙ c.requires in
+    let kept : c.reserve.new.self.items ≡ es = search rules in
+    let items = rw kept at c.push_reserved.ensures.items in
+    let old = handed_of x.hosts.items in
+    let count : c.len.result ≡ length cs = omega (arith, c.len.ensures, c.in_ok-begun.begun.calls.ok) in
+    let few : old + c.len.result < 2 ^ 64 = omega (arith, c.self.invariant.handed, x.history.ok, x.history.small, c.in_ok-begun.ensures.few, count) in
+    let within : k < length x.hosts.items = start_within x.checked x.forks es x.hosts.items x.phase m k on in
+    let more : handed_of c.set_running.new.hosts.items ≡ old + c.len.result = c.set_running.ensures.handed within few in
+    let found : c.deref.result.now ≡ x.hosts.items = search rules in
+    let called = start_run_calls x.checked x.forks es x.hosts.items x.phase m k c.len-ticket.result c.in_ok-begun.begun.pending cs c.set_running.new.hosts.items on
+    (λ s t ms i at task. c.in_ok-begun.ensures.made s t ms i (ap (λ hs. slice_get hs k) found ∙ at) task) in
+    let handed : (plain_after x.checked x.forks es).handed ≡ old = sym (alone_sum (λ h. h.calls) m.host x.hosts.items m.alone ∙ m.at.calls) in
+    rw (← c.self.view_is) (
+      refl,
+      record {
+        run = same_state x.checked x.forks _ _ _ _ _ _ items c.set_running.ensures.recaps (more ∙ ap (λ n. old + n) count);
+        ticket = search rules;
+        calls = called ∙ ap₂ (λ n fs. job_calls k n (there x.checked x.forks fs)) handed (sym items);
+      },
+    )

@@ -1,41 +1,95 @@
-use Rattle.std.proofs.Common.{◌≡◌, ◌≤◌, ◌<◌, ◌+◌, ◌^◌, length, set, vec_len, vec_capacity, refl, ap, ◌∙◌, arith, rules}
+use Rattle.std.proofs.Common.{◌≡◌, ◌≤◌, ◌<◌, ◌+◌, ◌^◌, length, set, slice_get, Some, is_some, true, false, vec_len, vec_capacity, refl, sym, ap, ◌∙◌, subst, arith, rules}
 use Rattle.std.proofs.lemmas.List.{length-map, length-set}
-use Rattle.pb_strategy.specs.Inside.{recaps_of, tickets_of, handed_of}
+use Rattle.std.proofs.lemmas.List.Sums.{count_by-le-length}
+use Rattle.std.proofs.lemmas.Option.{slice_get_within, get_or_from_slice_get}
+use Rattle.pb_strategy.specs.Inside.{recaps_of, tickets_of, handed_of, is_phase_stopped}
 use Rattle.pb_strategy.specs.Jobs.{ticket_in}
-use Rattle.pb_strategy.specs.Recaps.{counted}
-use Rattle.pb_strategy.specs.Tally.{recap_of}
+use Rattle.pb_strategy.specs.Recaps.{counted, Counts}
+use Rattle.pb_strategy.specs.Sound.{IsSound}
+use Rattle.pb_strategy.specs.Tally.{is_give_of, recap_of, gives_of}
 use Rattle.pb_strategy.specs.declared.event.Event.TheVariants.{Give}
-use Rattle.pb_strategy.proofs.Histories.{goes_on, longer}
+use Rattle.pb_strategy.proofs.Histories.{goes_on, longer, same_state, stays}
 use Rattle.pb_strategy.proofs.Jobs.{tickets-more}
-use Rattle.pb_strategy.proofs.Tallies.{recaps_settled, tally-give}
+use Rattle.pb_strategy.proofs.Machines.{read_at, ticket_some, unstopped, running_host, running_place, give_run, room_kept}
+use Rattle.pb_strategy.proofs.Settled.{settled_of}
+use Rattle.pb_strategy.proofs.Tallies.{recap_at, recaps_settled, tally-give}
 use Rattle.pb_strategy.proofs.run.Run.give.Goals as goal
+
+pub outcome_of-found-requires : goal.outcome_of-found-requires
+outcome_of-found-requires c =
+    let x = c.self.inside in
+    let k = c.args.job.host in
+    let look = c.in-Some.ensures.lookup in
+    let at : slice_get x.hosts.items k ≡ Some c.in-Some.state.now = read_at c.deref.result.now x.hosts.items k c.in-Some.state.now c.deref.ensures.value look.0 look.1 in
+    let busy : is_some (ticket_in c.in-Some.state.now.stage) ≡ true = ticket_some c.args.job.ticket (ticket_in c.in-Some.state.now.stage) (sym c.if-is_running.true ∙ c.is_running.ensures) in record {
+      running = busy;
+      there = running_host x.checked x.forks x.history.items x.hosts.items x.phase c.self.invariant.machine k c.in-Some.state.now at busy;
+      skipped = c.self.invariant.skipped;
+      unchanged = c.self.invariant.unchanged;
+    }
 
 pub invariant_of-self-2 : goal.invariant_of-self-2
 invariant_of-self-2 c =
-    let kept : c.reserve.new.self.items ≡ c.self.inside.history.items = search rules in
+    let x = c.self.inside in
+    let i = c.self.invariant in
+    let k = c.args.job.host in
+    let s = c.in-Some.state.now in
+    let es = x.history.items in
+    let rs = recaps_of x.hosts.items in
+    let m = i.machine in
+    let look = c.in-Some.ensures.lookup in
+    let at : slice_get x.hosts.items k ≡ Some s = read_at c.deref.result.now x.hosts.items k s c.deref.ensures.value look.0 look.1 in
+    let busy : is_some (ticket_in s.stage) ≡ true = ticket_some c.args.job.ticket (ticket_in s.stage) (sym c.if-is_running.true ∙ c.is_running.ensures) in
+    let kept : c.reserve.new.self.items ≡ es = search rules in
     let enough : vec_len c.reserve.new.self + 2 ≤ vec_capacity c.reserve.new.self = search rules in
     let room : length c.push_reserved.new.self.items < vec_capacity c.push_reserved.new.self =
     omega (arith, c.push_reserved.ensures.len, c.push_reserved.ensures.capacity, enough, c.push_reserved.new.self.ok) in
     let items = rw kept at c.push_reserved.ensures.items in
-    let es = c.self.inside.history.items in
-    let rs = recaps_of c.self.inside.hosts.items in
-    let short : length es < 2 ^ 63 = omega (arith, c.self.inside.history.ok, c.self.inside.history.small) in
-    let settled : recaps_of c.settle.new.hosts.items ≡ set rs c.args.job.host (counted c.in-Ok.found.ending (recap_of rs c.args.job.host)) =
-    recaps_settled es rs _ _ c.args.job.host c.in-Ok.found.ending c.self.invariant.tally short c.room_for.ensures.recaps c.settle.ensures.recaps in
-    let host : c.args.job.host < length c.self.inside.hosts.items = search rules in
-    let within : c.args.job.host < length rs = omega (arith, host, length-map c.self.inside.hosts.items (λ h. h.recap)) in
-    let out : c.args.job.host < length (tickets_of c.self.inside.hosts.items) = omega (arith, host, length-map c.self.inside.hosts.items (λ h. ticket_in h.stage)) in
+    let short : length es < 2 ^ 63 = omega (arith, x.history.ok, x.history.small) in
+    let settled : recaps_of c.settle.new.hosts.items ≡ set rs k (counted c.in-Ok.found.ending (recap_of rs k)) =
+    recaps_settled es rs _ _ k c.in-Ok.found.ending i.tally short c.room_for.ensures.recaps c.settle.ensures.recaps in
+    let host : k < length x.hosts.items = slice_get_within x.hosts.items k s at in
+    let within : k < length rs = omega (arith, host, length-map x.hosts.items (λ h. h.recap)) in
+    let out : k < length (tickets_of x.hosts.items) = omega (arith, host, length-map x.hosts.items (λ h. ticket_in h.stage)) in
     let handed = c.settle.ensures.handed ∙ c.room_for.ensures.handed in
-    goes_on c.self.inside _ (Give c.args.job.host c.args.answers) c.self.invariant refl refl refl refl items room
-    (ap length settled ∙ length-set rs c.args.job.host _)
-    (rw (items, settled) (tally-give es rs c.args.job.host c.args.answers c.in-Ok.found.ending within c.self.invariant.tally))
-    (rw (items, handed) (longer (handed_of c.self.inside.hosts.items) es (Give c.args.job.host c.args.answers) c.self.invariant.handed))
-    (rw (items, c.settle.ensures.tickets, c.room_for.ensures.tickets) (tickets-more es (tickets_of c.self.inside.hosts.items) (Give c.args.job.host c.args.answers) c.args.job.host _ out (λ k o. refl) c.self.invariant.tickets))
+    let counts : Counts s.recap (gives_of k es) = rw (recap_at x.hosts.items k s (sym (get_or_from_slice_get x.hosts.items k s s at)) host) at (i.tally.counts k) in
+    let few : gives_of k es + 1 < 2 ^ 64 = omega (arith, short, count_by-le-length (is_give_of k) es) in
+    let place = running_place x.checked x.forks es x.hosts.items x.phase m k s at busy in
+    let came = settled_of x.hosts.items c.room_for.new.hosts.items c.settle.new.hosts.items k c.in-Ok.found s (gives_of k es) at place counts few c.room_for.ensures.kept c.settle.ensures.settled in
+    let live : is_phase_stopped x.phase ≡ false = unstopped x.phase c.in_default.not-Stopped in
+    goes_on x _ (Give k c.args.answers) i refl refl refl refl refl refl items room
+    (ap length settled ∙ length-set rs k _)
+    (rw (items, settled) (tally-give es rs k c.args.answers c.in-Ok.found.ending within i.tally))
+    (rw (items, handed) (longer (handed_of x.hosts.items) es (Give k c.args.answers) i.handed))
+    (rw (items, c.settle.ensures.tickets, c.room_for.ensures.tickets) (tickets-more es (tickets_of x.hosts.items) (Give k c.args.answers) k _ out (λ k o. refl) i.tickets))
+    (give_run x.checked x.forks es x.hosts.items x.phase m k s c.args.answers c.in-Ok.found c.settle.new.hosts.items at busy live c.in-Ok.ensures came)
+
+pub invariant_of-self-then-is_err-2 : goal.invariant_of-self-then-is_err-2
+invariant_of-self-then-is_err-2 c =
+    let x = c.self.inside in
+    let k = c.args.job.host in
+    let look = c.in-Some.ensures.lookup in
+    let at : slice_get x.hosts.items k ≡ Some c.in-Some.state.now = read_at c.deref.result.now x.hosts.items k c.in-Some.state.now c.deref.ensures.value look.0 look.1 in
+    let kept : c.reserve.new.self.items ≡ x.history.items = search rules in
+    let enough : vec_len c.reserve.new.self + 2 ≤ vec_capacity c.reserve.new.self = search rules in
+    let room : length c.reserve.new.self.items < vec_capacity c.reserve.new.self = omega (arith, enough, c.reserve.new.self.ok) in
+    stays x _ c.self.invariant refl refl refl refl kept (λ e. room) c.room_for.ensures.recaps c.room_for.ensures.handed c.room_for.ensures.tickets
+    (room_kept x.checked x.forks x.history.items x.hosts.items x.phase c.self.invariant.machine k c.in-Some.state.now c.room_for.new.hosts.items at (c.room_for.ensures.kept c.in-Some.state.now at))
+
+pub returns-then-is_err-2-clause-err : goal.returns-then-is_err-2-clause-err
+returns-then-is_err-2-clause-err c =
+    let kept : c.reserve.new.self.items ≡ c.self.inside.history.items = search rules in
+    same_state c.self.inside.checked c.self.inside.forks _ _ _ _ _ _ kept c.room_for.ensures.recaps c.room_for.ensures.handed ∙ c.self.view_is
+
+pub returns-then-is_err-2-clause-sound : goal.returns-then-is_err-2-clause-sound
+returns-then-is_err-2-clause-sound c = subst IsSound (sym (returns-then-is_err-2-clause-err c)) c.known.ensures
 
 pub returns-clause-counted : goal.returns-clause-counted
 returns-clause-counted c =
-    let rs = recaps_of c.self.inside.hosts.items in
-    let short : length c.self.inside.history.items < 2 ^ 63 = omega (arith, c.self.inside.history.ok, c.self.inside.history.small) in
-    let settled : recaps_of c.settle.new.hosts.items ≡ set rs c.args.job.host (counted c.in-Ok.found.ending (recap_of rs c.args.job.host)) =
-    recaps_settled c.self.inside.history.items rs _ _ c.args.job.host c.in-Ok.found.ending c.self.invariant.tally short c.room_for.ensures.recaps c.settle.ensures.recaps in
+    let x = c.self.inside in
+    let k = c.args.job.host in
+    let rs = recaps_of x.hosts.items in
+    let short : length x.history.items < 2 ^ 63 = omega (arith, x.history.ok, x.history.small) in
+    let settled : recaps_of c.settle.new.hosts.items ≡ set rs k (counted c.in-Ok.found.ending (recap_of rs k)) =
+    recaps_settled x.history.items rs _ _ k c.in-Ok.found.ending c.self.invariant.tally short c.room_for.ensures.recaps c.settle.ensures.recaps in
     rw (← c.self.view_is) (c.in-Ok.found.ending, settled)

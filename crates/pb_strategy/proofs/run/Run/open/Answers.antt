@@ -1,16 +1,17 @@
-use Rattle.std.proofs.Common.{◌≡◌, [], length, sym, ap, ◌∙◌, arith, rules}
+use Rattle.std.proofs.Common.{◌≡◌, [], length, refl, sym, ap, ◌∙◌, arith, rules}
 use Rattle.std.proofs.lemmas.List.{length-map, length-replicate}
 use Rattle.pb_inventory.specs.Inventory.{inventory_view}
 use Rattle.pb_book.specs.Books.{plays_of}
 use Rattle.pb_strategy.specs.History.{has_no_plays}
 use Rattle.pb_strategy.specs.Recaps.{nothing}
-use Rattle.pb_strategy.proofs.Histories.{or-false}
+use Rattle.pb_strategy.proofs.Histories.{or-false, same_machine}
 use Rattle.pb_strategy.proofs.Jobs.{none_out}
+use Rattle.pb_strategy.proofs.Openings.{opening_machine}
 use Rattle.pb_strategy.proofs.Tallies.{tally-opening}
 use Rattle.pb_strategy.proofs.run.Run.open.Goals as goal
 
-pub invariant_of-result : goal.invariant_of-result
-invariant_of-result c =
+pub invariant_of-run : goal.invariant_of-run
+invariant_of-run c =
     let recaps = c.in_ok-opening_hosts.ensures.recaps in
     let copy : c.in_ok-clone.field-0 ≡ c.args.checked.now = search rules in
     let none : c.in_ok-with_capacity.field-0.items ≡ [] = search rules in
@@ -23,4 +24,9 @@ invariant_of-result c =
       tally = rw recaps (tally-opening count c.in_ok-with_capacity.field-0.items none);
       handed = omega (arith, c.in_ok-opening_hosts.ensures.handed);
       tickets = λ k. rw (none, c.in_ok-opening_hosts.ensures.tickets) (none_out count k);
+      skipped = c.in_ok-new.ensures.skipped;
+      unchanged = c.in_ok-new.ensures.unchanged;
+      machine = same_machine c.args.checked.now _ c.args.forks c.args.forks [] _ _ _ _ copy refl none refl
+          (opening_machine c.args.checked.now c.args.forks _ _ c.in_ok-opening_hosts.ensures.opening c.opening_phase.ensures.ended c.opening_phase.ensures.going c.opening_phase.ensures.accepted c.opening_phase.ensures.known);
+      forks = c.requires;
     }

@@ -1,10 +1,111 @@
-use Rattle.std.proofs.Common.{◌<◌, count_by, is_some, sym, ◌∙◌, rules}
+use Rattle.std.proofs.Common.{◌≡◌, ◌<◌, ◌≤◌, ◌&&◌, nat_lt, cond, length, Some, None, count_by, is_some, false, true, sym, ap, ◌∙◌, rules}
+use Rattle.pb_language.specs.Machine.{enabled, start, turn}
+use Rattle.pb_strategy.specs.History.{RunState, after, is_over, state_of}
+use Rattle.pb_strategy.specs.Inside.{is_phase_ended, is_phase_stopped}
 use Rattle.pb_strategy.specs.Jobs.{ticket_in}
+use Rattle.pb_strategy.specs.Next.{starts, next_of}
+use Rattle.pb_strategy.specs.Standing.{can_run}
+use Rattle.pb_strategy.specs.declared.event.Event.TheVariants.{Turn}
+use Rattle.pb_strategy.proofs.Histories.{is_over-turn}
 use Rattle.pb_strategy.proofs.Jobs.{one_out}
+use Rattle.pb_strategy.proofs.Nexts.{busy_alone, idle_alone, ready, next_stopped, next_ended, next_starts, next_waits, next_turns}
 use Rattle.pb_strategy.proofs.run.Run.take.Goals as goal
+
+pub returns-in-Stopped-clause-next : goal.returns-in-Stopped-clause-next
+returns-in-Stopped-clause-next c =
+    let x = c.self.inside in
+    sym (next_stopped x.checked x.forks x.history.items x.hosts.items x.phase c.self.invariant.machine (ap is_phase_stopped c.in-Stopped.is))
+    ∙ ap (λ (r : RunState). next_of (state_of r)) c.self.view_is
+
+pub returns-in-Ended-clause-next : goal.returns-in-Ended-clause-next
+returns-in-Ended-clause-next c =
+    let x = c.self.inside in
+    sym (next_ended x.checked x.forks x.history.items x.hosts.items x.phase c.self.invariant.machine (ap is_phase_stopped c.in-Ended.is) (ap is_phase_ended c.in-Ended.is)).0
+    ∙ ap (λ (r : RunState). next_of (state_of r)) c.self.view_is
+
+pub returns-in-Ended-clause-taken : goal.returns-in-Ended-clause-taken
+returns-in-Ended-clause-taken c =
+    let x = c.self.inside in
+    let off = (next_ended x.checked x.forks x.history.items x.hosts.items x.phase c.self.invariant.machine (ap is_phase_stopped c.in-Ended.is) (ap is_phase_ended c.in-Ended.is)).1 in
+    let none : enabled (state_of c.args.self.now) turn ≡ false = ap (λ (r : RunState). enabled (state_of r) turn) (sym c.self.view_is) ∙ off in
+    sym (ap (λ b. cond b (after c.args.self.now Turn) c.args.self.now) none)
+
+pub begin-requires : goal.begin-requires
+begin-requires c =
+    let x = c.self.inside in
+    let m = c.self.invariant.machine in
+    let live = ap is_phase_stopped c.in-Going.is in
+    let on = ap is_phase_ended c.in-Going.is in
+    let found : ready x.checked x.forks x.history.items x.hosts.items x.phase m live on c.self.invariant.forks ≡ Some c.in-Some.host =
+    sym (c.ready_host.ensures.alone m.host (c.deref.ensures.value ∙ m.alone) ∙ ap (λ ts. cond (nat_lt 0 x.forks && can_run m.host (length ts)) (Some 0) None) c.tasks_of-tasks.ensures.value) ∙ c.in-Some.is in
+    ap (λ (r : RunState). enabled (state_of r) (start c.in-Some.host)) (sym c.self.view_is)
+    ∙ (next_starts x.checked x.forks x.history.items x.hosts.items x.phase m live on c.self.invariant.forks c.in-Some.host found).1
+
+pub returns-in-Some-clause-next : goal.returns-in-Some-clause-next
+returns-in-Some-clause-next c =
+    let x = c.self.inside in
+    let m = c.self.invariant.machine in
+    let live = ap is_phase_stopped c.in-Going.is in
+    let on = ap is_phase_ended c.in-Going.is in
+    let found : ready x.checked x.forks x.history.items x.hosts.items x.phase m live on c.self.invariant.forks ≡ Some c.in-Some.host =
+    sym (c.ready_host.ensures.alone m.host (c.deref.ensures.value ∙ m.alone) ∙ ap (λ ts. cond (nat_lt 0 x.forks && can_run m.host (length ts)) (Some 0) None) c.tasks_of-tasks.ensures.value) ∙ c.in-Some.is in
+    ap (λ k. starts k) c.in_ok-job.ensures.job.0
+    ∙ sym (next_starts x.checked x.forks x.history.items x.hosts.items x.phase m live on c.self.invariant.forks c.in-Some.host found).0
+    ∙ ap (λ (r : RunState). next_of (state_of r)) c.self.view_is
+
+pub returns-then-running-gt0-clause-next : goal.returns-then-running-gt0-clause-next
+returns-then-running-gt0-clause-next c =
+    let x = c.self.inside in
+    let m = c.self.invariant.machine in
+    let some : 0 < count_by (λ h. is_some (ticket_in h.stage)) x.hosts.items = search rules in
+    sym (next_waits x.checked x.forks x.history.items x.hosts.items x.phase m (ap is_phase_stopped c.in-Going.is) (ap is_phase_ended c.in-Going.is) c.self.invariant.forks (busy_alone m.host x.hosts.items m.alone some))
+    ∙ ap (λ (r : RunState). next_of (state_of r)) c.self.view_is
 
 pub returns-then-running-gt0-clause-idle : goal.returns-then-running-gt0-clause-idle
 returns-then-running-gt0-clause-idle c = λ _.
     let some : 0 < count_by (λ h. is_some (ticket_in h.stage)) c.self.inside.hosts.items = search rules in
     let out = one_out c.self.inside.hosts.items some in
     rw (← c.self.view_is) (out.0, out.1, sym (c.self.invariant.tickets out.0) ∙ out.2)
+
+pub turn-requires : goal.turn-requires
+turn-requires c =
+    let x = c.self.inside in
+    let m = c.self.invariant.machine in
+    let live = ap is_phase_stopped c.in-Going.is in
+    let on = ap is_phase_ended c.in-Going.is in
+    let none : ready x.checked x.forks x.history.items x.hosts.items x.phase m live on c.self.invariant.forks ≡ None =
+    sym (c.ready_host.ensures.alone m.host (c.deref.ensures.value ∙ m.alone) ∙ ap (λ ts. cond (nat_lt 0 x.forks && can_run m.host (length ts)) (Some 0) None) c.tasks_of-tasks.ensures.value) ∙ c.in_default.is in
+    let idle : count_by (λ h. is_some (ticket_in h.stage)) x.hosts.items ≤ 0 = search rules in
+    let turns = next_turns x.checked x.forks x.history.items x.hosts.items x.phase m live on c.self.invariant.forks none (idle_alone m.host x.hosts.items m.alone idle) in
+    ap (λ (r : RunState). enabled (state_of r) turn) (sym c.self.view_is) ∙ turns.1
+
+pub returns-clause-next : goal.returns-clause-next
+returns-clause-next c =
+    let x = c.self.inside in
+    let m = c.self.invariant.machine in
+    let live = ap is_phase_stopped c.in-Going.is in
+    let on = ap is_phase_ended c.in-Going.is in
+    let none : ready x.checked x.forks x.history.items x.hosts.items x.phase m live on c.self.invariant.forks ≡ None =
+    sym (c.ready_host.ensures.alone m.host (c.deref.ensures.value ∙ m.alone) ∙ ap (λ ts. cond (nat_lt 0 x.forks && can_run m.host (length ts)) (Some 0) None) c.tasks_of-tasks.ensures.value) ∙ c.in_default.is in
+    let idle : count_by (λ h. is_some (ticket_in h.stage)) x.hosts.items ≤ 0 = search rules in
+    let turns = next_turns x.checked x.forks x.history.items x.hosts.items x.phase m live on c.self.invariant.forks none (idle_alone m.host x.hosts.items m.alone idle) in
+    sym turns.0 ∙ ap (λ (r : RunState). next_of (state_of r)) c.self.view_is
+
+pub returns-clause-taken : goal.returns-clause-taken
+returns-clause-taken c =
+    let x = c.self.inside in
+    let m = c.self.invariant.machine in
+    let live = ap is_phase_stopped c.in-Going.is in
+    let on = ap is_phase_ended c.in-Going.is in
+    let none : ready x.checked x.forks x.history.items x.hosts.items x.phase m live on c.self.invariant.forks ≡ None =
+    sym (c.ready_host.ensures.alone m.host (c.deref.ensures.value ∙ m.alone) ∙ ap (λ ts. cond (nat_lt 0 x.forks && can_run m.host (length ts)) (Some 0) None) c.tasks_of-tasks.ensures.value) ∙ c.in_default.is in
+    let idle : count_by (λ h. is_some (ticket_in h.stage)) x.hosts.items ≤ 0 = search rules in
+    let turns = next_turns x.checked x.forks x.history.items x.hosts.items x.phase m live on c.self.invariant.forks none (idle_alone m.host x.hosts.items m.alone idle) in
+    let on_turn : enabled (state_of c.args.self.now) turn ≡ true = ap (λ (r : RunState). enabled (state_of r) turn) (sym c.self.view_is) ∙ turns.1 in
+    let new : c.turn.new.self ≡ after c.args.self.now Turn = search rules in
+    new ∙ sym (ap (λ b. cond b (after c.args.self.now Turn) c.args.self.now) on_turn)
+
+pub returns-clause-over : goal.returns-clause-over
+returns-clause-over c = λ _.
+    let new : c.turn.new.self ≡ after c.args.self.now Turn = search rules in
+    ap is_over new ∙ is_over-turn c.args.self.now

@@ -1,0 +1,102 @@
+-- Which events a run follows, by where its one host stands; and the history of a replay.
+use Rattle.std.proofs.Common.{◌≡◌, ℕ, zero, suc, ◌==◌, List, [], ◌∷◌, ◌++◌, length, map, Bool, true, false, not, ◌&&◌, nat_lt, cond, Option, Some, None, is_some, get_or, refl, sym, ap, ap₂, ◌∙◌, ◌⊎◌, inl, inr, append-nil}
+use Rattle.std.proofs.lemmas.List.{map_push}
+use Rattle.std.proofs.Math.Bool.{and-true, and-false}
+use Rattle.std.proofs.Math.Dec.{eqb-suc-zero}
+use Rattle.pb_semantics.proofs.Bools.{untrue}
+use Rattle.pb_language.specs.Give as language
+use Rattle.pb_language.specs.Machine as machine
+use Rattle.pb_language.specs.Machine.{enabled, history, run_from, start, give, stop}
+use Rattle.pb_language.proofs.PlainEval.{history_kept, history_more}
+use Rattle.pb_language.proofs.PlainMachine.{PlainRun, plain_is_possible, is_inside, is_going}
+use Rattle.pb_book.specs.Books.{plays_of}
+use Rattle.pb_verify.specs.declared.checked.Accepted.{Accepted}
+use Rattle.pb_strategy.specs.Events.{event_data}
+use Rattle.pb_strategy.specs.History.{RunState, after, Follows, is_over, is_stopped, state_of}
+use Rattle.pb_strategy.specs.Inside.{IsMachine, IsRun, run_state, tickets_of, is_phase_ended, is_phase_over, is_phase_stopped}
+use Rattle.pb_strategy.specs.Jobs.{is_ticket, ticket_in, ticket_out}
+use Rattle.pb_strategy.specs.Standing.{tasks_in, plain_after, IsStanding, can_run, is_waiting}
+use Rattle.pb_strategy.specs.declared.event.Event.{Event}
+use Rattle.pb_strategy.specs.declared.event.Event.TheVariants.{Stop}
+use Rattle.pb_strategy.specs.declared.host.HostState.{HostState}
+use Rattle.pb_strategy.specs.declared.host.Stage.{Stage}
+use Rattle.pb_strategy.specs.declared.host.Stage.TheVariants as stage
+use Rattle.pb_strategy.specs.declared.run.Phase.{Phase}
+use Rattle.pb_strategy.specs.declared.run.Phase.TheVariants as phase
+use Rattle.pb_strategy.specs.declared.run.Run.TheInside.{Inside}
+use Rattle.pb_strategy.proofs.Accepts.{enabled_plain}
+use Rattle.pb_strategy.proofs.Machines.{there}
+use Rattle.pb_strategy.proofs.Nexts.{start_now}
+use Rattle.pb_strategy.proofs.PlainNext.{plain_no_other}
+
+going_in : (p : Phase) → not (is_phase_stopped p) && not (is_phase_ended p) ≡ not (is_phase_over p)
+going_in phase.Going = refl
+going_in phase.Ended = refl
+going_in phase.Stopped = refl
+
+forks_first : (w l f : Bool) → w && (l && f) ≡ f && (w && l)
+forks_first w l true = ap (λ b. w && b) (and-true l)
+forks_first w l false = ap (λ b. w && b) (and-false l) ∙ and-false w
+
+-- a host is in a task where it has a job out
+inside_same : (g : Stage) (r : PlainRun) (x : Bool) → IsStanding g r → r.is_stopped ≡ x → is_going r && is_inside r.standing r.tasks ≡ not x && is_some (ticket_in g)
+inside_same stage.Waiting r x i e = rw i (and-false (is_going r) ∙ sym (and-false (not x)))
+inside_same (stage.Running k q) r x i e = rw (i.standing, i.going, i.left, e) (and-true (not x && true))
+inside_same stage.Left r x i e = rw i (and-false (is_going r) ∙ sym (and-false (not x)))
+
+module _ (a : Accepted) (forks : ℕ) (es : List Event) (hosts : List HostState) (p : Phase) (m : IsMachine a forks es hosts p) where
+  -- nothing is enabled once the run is over, and until then what the host may do
+  enabled_now : (e : machine.Event) → enabled (there a forks es) e ≡ not (is_phase_over p) && plain_is_possible forks (plain_after a forks es) e
+  enabled_now e = enabled_plain a forks es e ∙ ap (λ b. b && plain_is_possible forks (plain_after a forks es) e) (ap₂ (λ x o. not x && not o) m.stopped m.ended ∙ going_in p)
+
+  pub none_enabled : (e : machine.Event) → (p ≡ phase.Ended) ⊎ (p ≡ phase.Stopped) → enabled (there a forks es) e ≡ false
+  none_enabled e over = enabled_now e ∙ elim over [ inl x ↦ rw x refl | inr x ↦ rw x refl ]
+
+  pub stop_enabled : enabled (there a forks es) stop ≡ not (is_phase_over p)
+  stop_enabled = enabled_now stop ∙ and-true (not (is_phase_over p))
+
+  pub start_enabled : (k : ℕ) → is_phase_stopped p ≡ false → is_phase_ended p ≡ false → enabled (there a forks es) (start k) ≡ (k == 0) && (nat_lt 0 forks && can_run m.host (length (tasks_in (plays_of a.book))))
+  start_enabled zero live on = start_now a forks es hosts p m live on ∙ forks_first (is_waiting m.host.stage) (nat_lt m.host.place (length (tasks_in (plays_of a.book)))) (nat_lt 0 forks)
+  start_enabled (suc k) live on = enabled_plain a forks es (start (suc k)) ∙ (plain_no_other forks (plain_after a forks es) k []).0 ∙ rw eqb-suc-zero refl
+
+  -- a Give is enabled where the run isn't stopped and the host has a job out
+  pub give_enabled : (k : ℕ) (xs : List language.Answer) → enabled (there a forks es) (give k xs) ≡ not (is_phase_stopped p) && is_some (get_or (tickets_of hosts) k None)
+  give_enabled zero xs = enabled_plain a forks es (give 0 xs) ∙ inside_same m.host.stage (plain_after a forks es) (is_phase_stopped p) m.at.standing m.stopped ∙ rw m.alone refl
+  give_enabled (suc k) xs = enabled_plain a forks es (give (suc k) xs) ∙ (plain_no_other forks (plain_after a forks es) k xs).1 ∙ sym (rw m.alone (and-false (not (is_phase_stopped p))))
+
+module _ (x : Inside) (i : IsRun x) (r : RunState) (view : run_state x ≡ r) where
+  pub stop_possible : enabled (state_of r) stop ≡ not (is_over r)
+  stop_possible = rw (← view) (stop_enabled x.checked x.forks x.history.items x.hosts.items x.phase i.machine ∙ ap not (sym i.over))
+
+  pub give_possible : (k : ℕ) (xs : List language.Answer) → enabled (state_of r) (give k xs) ≡ not (is_stopped r.history) && is_some (ticket_out k r.history)
+  give_possible k xs = rw (← view) (give_enabled x.checked x.forks x.history.items x.hosts.items x.phase i.machine k xs ∙ ap₂ (λ b o. not b && is_some o) (sym i.stopped) (i.tickets k))
+
+-- in a run that isn't stopped, a job that is out can be answered
+pub is_answerable : (stopped : Bool) (ticket : ℕ) (out : Option ℕ) → (stopped ≡ true → false ≡ true) → is_ticket ticket out ≡ true → not stopped && is_some out ≡ true
+is_answerable true k out e h = untrue (e refl)
+is_answerable false k (Some p) e h = refl
+is_answerable false k None e h = untrue h
+
+-- an event that isn't enabled leaves the run as it was, and one that is enabled is one more
+pub passed_over : (e : machine.Event) (old new : RunState) → enabled (state_of old) e ≡ false → new ≡ old → Follows e old new
+passed_over e old new off same = rw (off, same) (sym (append-nil (map event_data old.history)))
+
+pub one_more : (e : machine.Event) (x : Event) (old new : RunState) → enabled (state_of old) e ≡ true → event_data x ≡ e → new.history ≡ old.history ++ x ∷ [] → Follows e old new
+one_more e x old new on same more = rw (on, more, ← same) (map_push event_data old.history x)
+
+-- a Stop is one more until the run is over
+pub stop_follows : (old new : RunState) (over : Bool) → is_over old ≡ over → enabled (state_of old) stop ≡ not over → (is_over old ≡ false → new ≡ after old Stop) → (is_over old ≡ true → new ≡ old) → Follows stop old new
+stop_follows old new true e on going past = passed_over stop old new on (past e)
+stop_follows old new false e on going past = one_more stop Stop old new on refl (ap (λ r. r.history) (going e))
+
+-- a run that followed events is the history of them, and of one more that it follows then
+pub history_follows : (a : Accepted) (forks : ℕ) (xs : List Event) (x : Event) (old new : RunState) → old.checked ≡ a → old.forks ≡ forks → map event_data old.history ≡ history (there a forks []) (map event_data xs)
+    → Follows (event_data x) old new → map event_data new.history ≡ history (there a forks []) (map event_data (xs ++ x ∷ []))
+history_follows a forks xs x old new book same kept follows =
+    let first = there a forks [] in
+    let here : state_of old ≡ run_from first (map event_data xs) =
+    ap₂ (λ b n. there b n old.history) book same ∙ ap (run_from first) kept ∙ history_kept first (map event_data xs) in
+    follows
+    ∙ ap₂ (λ es s. es ++ cond (enabled s (event_data x)) (event_data x ∷ []) []) kept here
+    ∙ sym (history_more first (map event_data xs) (event_data x))
+    ∙ ap (history first) (sym (map_push event_data xs x))

@@ -1,0 +1,25 @@
+use Rattle.std.proofs.Common.{◌≡◌, inl, inr, Some, String, Global, string_bytes, refl, sym, ap, ◌∙◌}
+use Rattle.pb_language.proofs.PlainGives.{stranger_gives}
+use Rattle.pb_language.proofs.PlainPass.{work_calls}
+use Rattle.pb_value.specs.View.{view}
+use Rattle.pb_sig.specs.Modules.{modules_of, module_at}
+use Rattle.pb_sig.specs.ModuleView.{builtin_view}
+use Rattle.pb_book.specs.Meaning.{argument_parts, plain_task}
+use Rattle.pb_verify.proofs.RuleModules.{module_found}
+use Rattle.pb_verify.proofs.WalkModules.{found_plain}
+use Rattle.pb_strategy.proofs.outcome.object_answered.Goals as goal
+
+pub returns-in_ok-left-in-Debug : goal.returns-in_ok-left-in-Debug
+returns-in_ok-left-in-Debug c = λ d xs h r ts.
+    let t = plain_task c.args.task.now in
+    let none : work_calls t.work ≡ 0 = elim c.in-Debug.is [ inl e ↦ rw e refl | inr e ↦ rw e refl ] in
+    (r.failure, rw (c.in_ok-left-in-Debug.ensures.ending, c.in_ok-left-in-Debug.ensures.writes) (stranger_gives (modules_of c.args.registry.now) h r t ts xs d (view c.args.answer.now) none))
+
+pub returns-in_ok-admitted-in-Some : goal.returns-in_ok-admitted-in-Some
+returns-in_ok-admitted-in-Some c = λ d xs.
+    let ms = modules_of c.args.registry.now in
+    let m = builtin_view c.in-Some.«module».now in
+    let n = string_bytes c.in-Module.name.value in
+    let named : c.as_str.result.now ≡ n = c.as_str.ensures.value ∙ ap (λ (s : String Global). string_bytes s) c.deref.ensures in
+    let found : module_at n ms ≡ Some m = ap (λ k. module_at k ms) (sym named) ∙ sym c.in-Some.ensures in
+    c.in_ok-admitted-in-Some.ensures ms n (argument_parts c.args.task.now.arguments.items) d xs (found_plain n ms m c.args.registry.now.plain found) (rw c.in-Module.is refl) (module_found n ms m found)

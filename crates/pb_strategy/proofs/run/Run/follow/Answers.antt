@@ -1,0 +1,9 @@
+use Rattle.std.proofs.Common.{refl}
+use Rattle.pb_strategy.specs.History.{is_over}
+use Rattle.pb_strategy.proofs.Replays.{stop_follows, stop_possible}
+use Rattle.pb_strategy.proofs.run.Run.follow.Goals as goal
+
+pub returns-in-Stop-clause-followed : goal.returns-in-Stop-clause-followed
+returns-in-Stop-clause-followed c =
+    let old = c.args.self.now in
+    rw c.in-Stop.is (stop_follows old c.stop.new.self (is_over old) refl (stop_possible c.self.inside c.self.invariant old c.self.view_is) c.stop.ensures.going c.stop.ensures.over)

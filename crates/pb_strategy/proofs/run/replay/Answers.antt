@@ -1,0 +1,22 @@
+use Rattle.std.proofs.Common.{◌≡◌, ◌++◌, [], ◌∷◌, ◌+◌, map, take, sym, ap, ◌∙◌}
+use Rattle.std.proofs.lemmas.List.{take_more}
+use Rattle.pb_language.specs.Machine.{history}
+use Rattle.pb_strategy.specs.Events.{event_data}
+use Rattle.pb_strategy.proofs.Machines.{there}
+use Rattle.pb_strategy.proofs.Replays.{history_follows}
+use Rattle.pb_strategy.proofs.run.replay.Goals as goal
+
+pub loop-event-preserved : goal.loop-event-preserved
+loop-event-preserved c =
+    let a = c.args.checked.now in
+    let forks = c.args.forks in
+    let xs = c.args.events.now in
+    let i = c.loop-event.event-index in
+    let x = c.event-item.result in
+    let before = c.loop-event.invariant in
+    let book = c.in_ok-follow.ensures.book in
+    let longer : take i xs ++ x ∷ [] ≡ take (i + 1) xs = ap (λ y. take i xs ++ y ∷ []) c.event-item.is ∙ sym (take_more xs i x c.loop-event-test.true) in record {
+      book = (book.0 ∙ before.book.0, book.1 ∙ before.book.1);
+      events = history_follows a forks (take i xs) x c.loop-event.run c.follow.new.self before.book.0 before.book.1 before.events c.in_ok-follow.ensures.followed
+          ∙ ap (λ es. history (there a forks []) (map event_data es)) longer;
+    }

@@ -1,0 +1,33 @@
+-- A host's room for what its task writes, and how a host begins.
+use Rattle.std.specs.Prelude.{◌≡◌, ◌≤◌, ℕ, List, length, IfSome, slice_get, string_bytes}
+use Rattle.indexmap.specs.IndexMap.{spare}
+use Rattle.pb_inventory.specs.Hosts.{HostData}
+use Rattle.pb_strategy.specs.OwnNames.{own_fields, names_fields}
+use Rattle.pb_strategy.specs.Recaps.{nothing}
+use Rattle.pb_strategy.specs.declared.host.HostState.{HostState}
+use Rattle.pb_strategy.specs.declared.host.Stage.TheVariants as stage
+use Rattle.pb_strategy.specs.declared.outcome.Outcome.{Outcome}
+
+-- where there is such a host, its map has room for what is written
+abbrev pub HasRoom : List HostState → ℕ → Outcome → Type 0
+HasRoom hosts host o = IfSome (slice_get hosts host) (λ s. length o.writes.items ≤ spare s.vars.values)
+
+-- the host with another room
+pub record IsRoomier (s n : HostState) : Type 0 where
+  pub name : n.name ≡ s.name
+  pub own_name : n.vars.name ≡ s.vars.name
+  pub groups : n.vars.groups ≡ s.vars.groups
+  pub values : n.vars.values.entries ≡ s.vars.values.entries
+  pub place : n.place ≡ s.place
+  pub stage : n.stage ≡ s.stage
+  pub recap : n.recap ≡ s.recap
+  pub calls : n.calls ≡ s.calls
+
+-- the host of the inventory before anything is run
+pub record IsOpening (h : HostData) (s : HostState) : Type 0 where
+  pub name : string_bytes s.name.value ≡ h.name
+  pub names : own_fields s.vars ≡ names_fields h.name h.groups
+  pub place : s.place ≡ 0
+  pub stage : s.stage ≡ stage.Waiting
+  pub recap : s.recap ≡ nothing
+  pub calls : s.calls ≡ 0

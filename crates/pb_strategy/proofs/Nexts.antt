@@ -1,11 +1,11 @@
 -- What a run has to do next, by where its one host stands; and what holds of each run.
-use Rattle.std.proofs.Common.{◌≡◌, ◌<◌, ◌≤◌, ℕ, List, [], ◌∷◌, length, map, Bool, true, false, ◌&&◌, ◌||◌, nat_lt, cond, Option, Some, None, is_some, refl, sym, ap, ap₂, ◌∙◌, count_by, sum_by, arith}
+use Rattle.std.proofs.Common.{◌≡◌, ◌<◌, ◌≤◌, ℕ, zero, suc, List, [], ◌∷◌, length, map, Bool, true, false, ◌&&◌, ◌||◌, nat_lt, cond, Option, Some, None, is_some, refl, sym, ap, ap₂, ◌∙◌, count_by, sum_by, arith}
 use Rattle.std.proofs.lemmas.Bool.{lt-ltb}
-use Rattle.std.proofs.lemmas.List.{length-map}
+use Rattle.std.proofs.lemmas.List.{length-map, get_or_past}
 use Rattle.std.proofs.lemmas.List.Sums.{sum_by-cons}
 use Rattle.pb_language.specs.Drive.{next_start}
 use Rattle.pb_language.specs.Machine as machine
-use Rattle.pb_language.specs.Machine.{State, enabled, start, turn, step}
+use Rattle.pb_language.specs.Machine.{State, Host, enabled, start, turn, step}
 use Rattle.pb_language.specs.Program.{Batch}
 use Rattle.pb_language.proofs.PlainMachine.{PlainRun, plain_step, plain_is_enabled, are_left, is_through, can_begin}
 use Rattle.pb_language.proofs.PlainSteps.{plain_enabled, plain_follows}
@@ -20,7 +20,10 @@ use Rattle.pb_strategy.specs.Events.{event_data, recap_data}
 use Rattle.pb_strategy.specs.Inside.{IsMachine, IsRun, recaps_of, run_state, is_phase_ended, is_phase_stopped}
 use Rattle.pb_strategy.specs.Jobs.{ticket_in}
 use Rattle.pb_strategy.specs.Next.{Next, starts, waits, ended, stopped, turned, start_or, next_of}
-use Rattle.pb_strategy.specs.Sound.{IsSound}
+use Rattle.pb_strategy.specs.Recaps.{nothing}
+use Rattle.pb_strategy.specs.Tally.{recap_of}
+use Rattle.pb_strategy.specs.declared.recap.Recap.{Recap}
+use Rattle.pb_strategy.specs.Sound.{IsSound, recap_in}
 use Rattle.pb_strategy.specs.Standing.{tasks_in, host_of, plain_after, is_waiting, is_done, can_run}
 use Rattle.pb_strategy.specs.declared.event.Event.{Event}
 use Rattle.pb_strategy.specs.declared.host.HostState.{HostState}
@@ -186,3 +189,11 @@ sound x i =
       within = omega (arith, handed, accepted_within_budget x.checked m.accepted x.forks (map event_data x.history.items));
       short = omega (arith, length-map x.history.items event_data, few_events (modules_of x.checked.registry) (inventory_of (inventory_view x.checked.inventory)) (book_of x.checked.book) x.checked.budget x.forks (map event_data x.history.items) (hosts_distinct x.checked) (verdict_is x.checked m.accepted) m.enabled);
     }
+
+-- the recap of a host is the machine's
+pub recap_same : (rs : List Recap) (hs : List Host) (k : ℕ) → map recap_data rs ≡ map (λ h. h.recap) hs → recap_data (recap_of rs k) ≡ recap_in k hs
+recap_same [] [] k e = ap recap_data (get_or_past [] k nothing (omega arith))
+recap_same [] (h ∷ hs) k e = cc
+recap_same (r ∷ rs) [] k e = cc
+recap_same (r ∷ rs) (h ∷ hs) zero e = cc
+recap_same (r ∷ rs) (h ∷ hs) (suc k) e = recap_same rs hs k (cc)

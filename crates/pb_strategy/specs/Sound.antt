@@ -1,6 +1,6 @@
 -- What holds of every run of an accepted book.
-use Rattle.std.specs.Prelude.{◌≡◌, ◌≤◌, ◌+◌, ◌*◌, false, length, map}
-use Rattle.pb_language.specs.Machine.{history}
+use Rattle.std.specs.Prelude.{◌≡◌, ◌≤◌, ℕ, zero, suc, ◌+◌, ◌*◌, List, [], ◌∷◌, false, length, map}
+use Rattle.pb_language.specs.Machine.{history, Recap, Host, empty_recap}
 use Rattle.pb_language.specs.Plays.{program_of}
 use Rattle.pb_language.specs.Program.{Batch, all_batches}
 use Rattle.pb_language.specs.Theorem.{occurrences}
@@ -10,11 +10,16 @@ use Rattle.pb_book.specs.Books.{book_of}
 use Rattle.pb_verify.specs.Meaning.{inventory_of}
 use Rattle.pb_strategy.specs.Events.{event_data, recap_data}
 use Rattle.pb_strategy.specs.History.{RunState, state_after, state_of}
-use Rattle.std.specs.Prelude.{List, []}
 
 -- the batches of the accepted book
 abbrev pub batches_of : RunState → List Batch
 batches_of r = all_batches (program_of (modules_of r.checked.registry) (inventory_of (inventory_view r.checked.inventory)) (book_of r.checked.book))
+
+-- the recap of the host of that place; of none, nothing
+abbrev pub recap_in : ℕ → List Host → Recap
+recap_in k [] = empty_recap
+recap_in zero (h ∷ hs) = h.recap
+recap_in (suc k) (h ∷ hs) = recap_in k hs
 
 -- it is the machine's run of its history, each event of which was enabled: no step was stuck, the recaps and the calls handed out
 -- are the machine's, no more calls were handed out than the budget, and few events happened: two for each task on each host, one for each batch, and one Stop

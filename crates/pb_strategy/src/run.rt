@@ -14,12 +14,12 @@ ghost use Rattle.pb_inventory.specs.Hosts.{HostData};
 ghost use Rattle.pb_book.specs.Lines.{are_ascending, are_known, are_ordered, argument_names, names_known};
 ghost use Rattle.pb_book.specs.Meaning.{plain_task};
 ghost use Rattle.pb_verify.specs.Judges.{is_accepted};
-ghost use Rattle.pb_strategy.specs.Events.{answer_data, event_data};
+ghost use Rattle.pb_strategy.specs.Events.{answer_data, event_data, recap_data};
 ghost use Rattle.pb_strategy.specs.Next.{next_of, taken_next};
 ghost use Rattle.pb_strategy.specs.Outcomes.{ComesTo, IsSettledHost, Makes, calls_in};
 ghost use Rattle.pb_strategy.specs.OwnNames.{own_fields};
 ghost use Rattle.pb_strategy.specs.Room.{HasRoom, IsOpening, IsRoomier};
-ghost use Rattle.pb_strategy.specs.Sound.{IsSound};
+ghost use Rattle.pb_strategy.specs.Sound.{IsSound, recap_in};
 ghost use Rattle.pb_strategy.specs.Standing.{can_run, is_done, tasks_in};
 ghost use Rattle.pb_inventory.specs.Inventory.{inventory_view};
 ghost use Rattle.pb_book.specs.Books.{plays_of};
@@ -265,10 +265,12 @@ impl Run {
 
     /// What the host's tasks came to so far, where each of its Gives counts once; zeros past the last host.
     pub fn recap(&self, host: usize) -> Recap
+        ensures defined { recap_data result ≡ recap_in host (state_of self.now).hosts }
         ensures value { result ≡ recap_of self.now.recaps host }
         ensures counts { Counts result (gives_of host self.now.history) }
         ensures none { gives_of host self.now.history ≡ 0 → result ≡ nothing }
     {
+        self.known();
         match self.hosts.get(host) {
             Some(state) => state.recap,
             None => Recap::new(),

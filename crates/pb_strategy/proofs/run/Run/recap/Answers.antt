@@ -1,7 +1,10 @@
-use Rattle.std.proofs.Common.{◌≡◌, arith}
+use Rattle.std.proofs.Common.{◌≡◌, ap, ◌∙◌, arith}
 use Rattle.std.proofs.lemmas.Grind.{common_steps}
+use Rattle.pb_strategy.specs.Events.{recap_data}
+use Rattle.pb_strategy.specs.History.{state_of}
 use Rattle.pb_strategy.specs.Recaps.{Counts}
 use Rattle.pb_strategy.specs.Tally.{recap_of, gives_of}
+use Rattle.pb_strategy.proofs.Nexts.{recap_same}
 use Rattle.pb_strategy.proofs.Tallies.{counts_nothing}
 use Rattle.pb_strategy.proofs.run.Run.recap.Goals as goal
 
@@ -20,3 +23,13 @@ pub returns-in-None-clause-counts : goal.returns-in-None-clause-counts
 returns-in-None-clause-counts c =
     let same : c.new.result ≡ recap_of c.args.self.now.recaps c.args.host = grind (arith, common_steps) in
     rw (same, ← c.self.view_is) (c.self.invariant.tally.counts c.args.host)
+
+pub returns-in-Some-clause-defined : goal.returns-in-Some-clause-defined
+returns-in-Some-clause-defined c =
+    let same : c.in-Some.state.now.recap ≡ recap_of c.args.self.now.recaps c.args.host = grind (arith, common_steps) in
+    ap recap_data same ∙ recap_same c.args.self.now.recaps (state_of c.args.self.now).hosts c.args.host c.known.ensures.recaps
+
+pub returns-in-None-clause-defined : goal.returns-in-None-clause-defined
+returns-in-None-clause-defined c =
+    let same : c.new.result ≡ recap_of c.args.self.now.recaps c.args.host = grind (arith, common_steps) in
+    ap recap_data same ∙ recap_same c.args.self.now.recaps (state_of c.args.self.now).hosts c.args.host c.known.ensures.recaps

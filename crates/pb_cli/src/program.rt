@@ -1,5 +1,8 @@
 // What the program does with its words: reads the files, judges, runs and prints.
-ghost use Rattle.std.specs.Prelude.{◌<◌, ◌^◌};
+ghost use Rattle.std.specs.Prelude.{◌≡◌, ◌<◌, ◌≤◌, ◌+◌, ◌^◌, IfOk, false, true};
+ghost use Rattle.pb_strategy.specs.History.{is_ended, is_stopped};
+ghost use Rattle.pb_strategy.specs.Sound.{IsSound};
+ghost use Rattle.pb_cli.specs.Options.{HasForks};
 
 use crate::files::read_bounded;
 use crate::judge::{Fault, judge, whole};
@@ -11,6 +14,7 @@ use pb_strategy::run::Run;
 use pb_strategy::script::{ScriptFault, ScriptRunner};
 use pb_verify::checked::Checked;
 use pb_verify::refusal::Code;
+use std::alloc::{AllocError, Global};
 use std::rt::Files;
 use std::{io, mem};
 
@@ -48,7 +52,9 @@ pub fn run<R: Files + AllocGlobal + Print + Eprint>(rt: &R, words: &Vec<String>)
     }
 }
 
-fn act<R: Files + AllocGlobal + Print + Eprint>(rt: &R, options: &Options) -> u8 {
+fn act<R: Files + AllocGlobal + Print + Eprint>(rt: &R, options: &Options) -> u8
+    requires { HasForks options.now }
+{
     match options {
         Options::Check(subject) => check(rt, subject),
         Options::Run {
@@ -105,7 +111,9 @@ fn execute<R: Files + AllocGlobal + Print + Eprint>(
     subject: &Subject,
     forks: u16,
     answers: &str,
-) -> u8 {
+) -> u8
+    requires { 0 < forks }
+{
     let bytes = match read_all(rt, subject, Some(answers)) {
         Ok(bytes) => bytes,
         Err(status) => return status,
@@ -162,7 +170,11 @@ fn print_verdict<R: AllocGlobal + Print + Eprint>(rt: &R, verdict: &Result<Check
 }
 
 // As many workers as there are hosts, at most the forks and at least one.
-fn workers_of(forks: u16, hosts: usize) -> usize {
+fn workers_of(forks: u16, hosts: usize) -> usize
+    requires { 0 < forks }
+    ensures some { 0 < result }
+    ensures most { result ≤ forks }
+{
     (forks as usize).min(hosts).max(1)
 }
 
@@ -172,15 +184,13 @@ fn run_book<R: AllocGlobal + Print + Eprint>(
     forks: u16,
     runner: ScriptRunner,
 ) -> u8
-    requires { ⟦<ScriptRunner as Runner>⟧.calls runner < 2 ^ 63 }
+    requires few { ⟦<ScriptRunner as Runner>⟧.calls runner < 2 ^ 63 }
+    requires forks { 0 < forks }
 {
     let mut runner = runner;
-    let Ok(mut run) = Run::open(rt.alloc(), checked, workers_of(forks, checked.hosts())) else {
+    let Ok(run) = ended_run(rt.alloc(), checked, forks, &mut runner) else {
         return no_memory(rt);
     };
-    if drive(&mut run, &mut runner).is_err() {
-        return no_memory(rt);
-    }
     let status = match recap_text(rt.alloc(), &run) {
         Ok(text) => print_text(rt, text.as_str(), status_of(&run)),
         Err(_) => no_memory(rt),
@@ -188,6 +198,27 @@ fn run_book<R: AllocGlobal + Print + Eprint>(
     leave(run);
     leave(runner);
     status
+}
+
+// The run of the book to its end.
+fn ended_run<R: Runner>(
+    alloc: Global,
+    checked: &Checked,
+    forks: u16,
+    runner: &mut R,
+) -> Result<Run, AllocError>
+    requires few { R.calls runner.old < 2 ^ 63 }
+    requires forks { 0 < forks }
+    ensures sound { IfOk result (λ r. IsSound r) }
+    ensures book { IfOk result (λ r. r.checked ≡ checked.now) }
+    ensures forks { IfOk result (λ r. (0 < r.forks) × (r.forks ≤ forks)) }
+    ensures ended { IfOk result (λ r. is_ended r ≡ true) }
+    ensures going_on { IfOk result (λ r. is_stopped r.history ≡ false) }
+    ensures made { IfOk result (λ r. R.calls runner.new ≡ R.calls runner.old + r.handed) }
+{
+    let mut run = Run::open(alloc, checked, workers_of(forks, checked.hosts()))?;
+    drive(&mut run, runner)?;
+    Ok(run)
 }
 
 // The files in the order book, inventory, signatures, answers; or the status where one can't be read.

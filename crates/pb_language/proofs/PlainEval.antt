@@ -135,15 +135,7 @@ module _ (s : State) (e : Event) (es : List Event) where
   kept_from true i h = ap (λ q. run_from (after q) (further true)) i ∙ h
   kept_from false i h = h
 
-  again_from : (q : Bool) → enabled s e ≡ q → history (after q) (further q) ≡ further q → history s (cond q (e ∷ further q) (further q)) ≡ cond q (e ∷ further q) (further q)
-  again_from true i h = rw (i, h) refl
-  again_from false i h = h
-
 -- events that are all enabled are the history that they lead to
 pub history_kept : (s : State) (es : List Event) → run_from s (history s es) ≡ run_from s es
 history_kept s [] = refl
 history_kept s (e ∷ es) = kept_from s e es (enabled s e) refl (history_kept (step s e) es)
-
-pub history_again : (s : State) (es : List Event) → history s (history s es) ≡ history s es
-history_again s [] = refl
-history_again s (e ∷ es) = again_from s e es (enabled s e) refl (history_again (step s e) es)

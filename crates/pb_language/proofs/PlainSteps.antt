@@ -1,5 +1,5 @@
 -- The machine over plain tasks and the whole machine agree.
-use Rattle.std.proofs.Common.{◌≡◌, ◌≤◌, ℕ, zero, suc, List, [], ◌∷◌, Bool, true, false, not, ◌&&◌, nat_lt, cond, None, refl, ap, ◌∙◌, subst}
+use Rattle.std.proofs.Common.{◌≡◌, ℕ, zero, suc, List, [], ◌∷◌, Bool, true, false, not, ◌&&◌, nat_lt, cond, None, refl, ap, ◌∙◌}
 use Rattle.std.proofs.Math.Bool.{and-true}
 use Rattle.pb_semantics.proofs.Names.{own_name}
 use Rattle.pb_semantics.proofs.Order.{le_own}
@@ -10,16 +10,10 @@ use Rattle.pb_language.specs.Book.{Book, Registry}
 use Rattle.pb_language.specs.Plain.{PlainTask, plain_play, lone_host, are_plain_tasks}
 use Rattle.pb_language.specs.Plays.{play_row, program_of}
 use Rattle.pb_language.specs.Notify.{handlers_are}
-use Rattle.pb_language.specs.Verdict.{accepted}
-use Rattle.pb_language.specs.Judged.{judged}
 use Rattle.pb_language.specs.Start.{Pass, Plan, planned, halted, plan_of}
 use Rattle.pb_language.specs.Give.{Answer, Results, results_are, no_results, Admitted, admitted, breached, unreached, admit_passes, end_all, any_changed, any_failed, message_of, written_variables}
 use Rattle.pb_language.specs.Machine as machine
 use Rattle.pb_language.specs.Machine.{Event, start, give, turn, stop, waits, Stage, notified_by, task_recap, Host, State, enabled, step, opening, run_from, run, settled}
-use Rattle.pb_language.proofs.After.{after_claim}
-use Rattle.pb_language.proofs.Given.{give_claim}
-use Rattle.pb_language.proofs.Started.{start_claim}
-use Rattle.pb_language.proofs.Sound.{never_stuck_from, within_budget_from}
 use Rattle.pb_language.proofs.PlainPass.{plain_run}
 use Rattle.pb_language.proofs.PlainFlow.{plain_row}
 use Rattle.pb_language.proofs.PlainRows.{plain_tail, plain_play_row}
@@ -146,15 +140,3 @@ module _ (ms : Registry) where
 
     pub plain_runs : are_plain_tasks ts ≡ true → run (program_of ms (lone_host h) book) (lone_host h) forks es ≡ plain_state ms h l ts forks last
     plain_runs a = ap (λ s. run_from s es) (plain_begins h l forks ts a) ∙ runs_from h l ts forks (plain_opening ts) es
-
-    module _ (n : ℕ) (ok : judged ms (lone_host h) book ≡ accepted n) (a : are_plain_tasks ts ≡ true) where
-      pub plain_never_stuck : last.is_stuck ≡ false
-      plain_never_stuck = subst (λ s. s.is_stuck ≡ false) (plain_runs a) (never_stuck_from after_claim start_claim give_claim ms (lone_host h) book n forks es refl ok)
-
-      pub plain_within_budget : last.handed ≤ n
-      plain_within_budget = subst (λ s. s.handed ≤ n) (plain_runs a) (within_budget_from after_claim start_claim give_claim ms (lone_host h) book n forks es refl ok)
-
-  -- without a play nothing is enabled
-  pub empty_runs : (h : Name) (forks : ℕ) (es : List Event) → run (program_of ms (lone_host h) []) (lone_host h) forks es ≡ opening (program_of ms (lone_host h) []) (lone_host h) forks
-  empty_runs h forks [] = refl
-  empty_runs h forks (e ∷ es) = empty_runs h forks es

@@ -1,5 +1,5 @@
 -- Recaps along a history.
-use Rattle.std.proofs.Common.{◌≡◌, ◌≤◌, ◌<◌, ℕ, ◌+◌, ◌^◌, List, [], ◌∷◌, ◌++◌, true, false, cond, length, get_or, set, replicate, refl, sym, ap, ap₂, ◌∙◌, add-zero, inl, inr, arith, Vec, Global, ◌==◌, ◌≢◌}
+use Rattle.std.proofs.Common.{◌≡◌, ◌<◌, ℕ, ◌+◌, ◌^◌, List, [], ◌∷◌, ◌++◌, true, false, cond, length, get_or, set, replicate, refl, sym, ap, ap₂, ◌∙◌, add-zero, inl, inr, arith, Vec, Global, ◌==◌, ◌≢◌}
 use Rattle.std.proofs.lemmas.Bool.{cases_lt}
 use Rattle.std.proofs.lemmas.Bool.Decides.{eqb_tells}
 use Rattle.std.proofs.lemmas.List.{get_or-set_same, get_or-set_other, get_or-replicate, get_or-map, get_or_past, length-replicate, map-set}
@@ -115,12 +115,3 @@ pub recaps_settled : (es : List Event) (rs before after : List Recap) (h : ℕ) 
 recaps_settled es rs before after h e t short same settled =
     let few : gives_of h es + 1 < 2 ^ 64 = omega (arith, short, count_by-le-length (is_give_of h) es) in
     rw same at (settled (gives_of h es) (rw same (t.counts h)) few)
-
--- the calls that a Start hands out to a host, of which there are none past the last host
-pub more_handed : (new old n host count : ℕ) → (host < count → old + n < 2 ^ 64 → new ≡ old + n) → (count ≤ host → new ≡ old) → (count ≤ host → n ≡ 0)
-    → old + n < 2 ^ 64 → new ≡ old + n
-more_handed new old n host count within past none few =
-    elim (cases_lt host count) [
-      | inl l ↦ within l few
-      | inr l ↦ omega (arith, past l, none l)
-    ]

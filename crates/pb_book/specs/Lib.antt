@@ -2,3 +2,4 @@ pub mod Lines
 pub mod Meaning
 pub mod Books
 pub mod Faults
+pub mod Reading

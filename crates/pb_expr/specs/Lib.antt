@@ -2,3 +2,5 @@ pub mod Place
 pub mod ExprView
 pub mod FitView
 pub mod OwnWorld
+pub mod Letters
+pub mod Trees

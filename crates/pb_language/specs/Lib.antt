@@ -32,3 +32,5 @@ pub mod Builtins
 pub mod Theorem
 pub mod Simple
 pub mod Plain
+pub mod Tokens
+pub mod Grammar

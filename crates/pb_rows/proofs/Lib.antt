@@ -42,3 +42,4 @@ pub mod Steps01
 pub mod Template01
 pub mod Template02
 pub mod Large
+mod Texts

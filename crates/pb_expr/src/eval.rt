@@ -23,7 +23,7 @@ ghost use Rattle.pb_expr.specs.OwnWorld.{shown};
 use crate::equal::{equal, has_item, holds_opaque, items_hold_opaque};
 use crate::expr::{Expr, Path};
 use crate::vars::Vars;
-use pb_value::value::{Fields, Value};
+use pb_value::value::{Fields, Value, field_of};
 use std::alloc::{AllocError, Global};
 use std::collections::BTreeMap;
 
@@ -150,7 +150,7 @@ fn inner_value(outer: &Value, steps: &Vec<String>) -> Result<Value, AllocError>
 {
     let mut here = outer;
     for step in steps {
-        match field_of(here, step.as_str()) {
+        match field_inside(here, step.as_str()) {
             Some(inner) => here = inner,
             None => return Ok(Value::Opaque),
         }
@@ -158,19 +158,13 @@ fn inner_value(outer: &Value, steps: &Vec<String>) -> Result<Value, AllocError>
     Ok(here.clone()?)
 }
 
-fn field_of<'v>(outer: &'v Value, name: &str) -> Option<&'v Value>
+fn field_inside<'v>(outer: &'v Value, name: &str) -> Option<&'v Value>
     ensures { option_map (λ v. view v.now) result ≡ field_in name.now (view outer.now) }
 {
     match outer {
-        Value::Rec(fields) => field_at(fields, name),
+        Value::Rec(fields) => field_of(fields, name),
         _ => None,
     }
-}
-
-fn field_at<'f>(fields: &'f Fields, name: &str) -> Option<&'f Value>
-    ensures { option_map (λ v. view v.now) result ≡ field_value name.now (fields_view fields.now.entries) }
-{
-    fields.get(name)
 }
 
 fn truth_of(found: &Value) -> Option<bool>
@@ -251,5 +245,5 @@ fn has_part(text: &str, part: &str) -> bool
 fn has_field(fields: &Fields, name: &str) -> bool
     ensures { result ≡ is_some (field_value name.now (fields_view fields.now.entries)) }
 {
-    fields.get(name).is_some()
+    field_of(fields, name).is_some()
 }

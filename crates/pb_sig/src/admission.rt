@@ -7,7 +7,7 @@ ghost use Rattle.pb_sig.specs.AdmissionView.{admission_view};
 
 use crate::signature::Module;
 use pb_value::project::project;
-use pb_value::value::{Fields, Value};
+use pb_value::value::{Fields, Value, field_of};
 use std::alloc::{AllocError, Global};
 use std::sync::Arc;
 
@@ -56,13 +56,6 @@ fn failed_in(fields: &Fields) -> Option<bool>
         Some(Value::Bool(failed)) => Some(*failed),
         Some(_) => None,
     }
-}
-
-fn field_of<'v>(fields: &'v Fields, name: &str) -> Option<&'v Value>
-    ensures { option_map (λ v. view v.now) result
-        ≡ field_value name.now (fields_view fields.now.entries) }
-{
-    fields.get(name)
 }
 
 /// The record with `changed`, false where it was absent.

@@ -12,3 +12,4 @@ pub mod Nexts
 pub mod Openings
 pub mod Settled
 pub mod Replays
+pub mod Scripts

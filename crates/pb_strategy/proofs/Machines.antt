@@ -251,6 +251,19 @@ module _ (a : Accepted) (forks : ℕ) where
     pub start_within : (k : ℕ) → enabled (there es) (start k) ≡ true → k < length hosts
     start_within k on = omega (arith, start_first es k on, ap length m.alone)
 
+    -- the host that may start is there, and so is its task
+    module _ (k : ℕ) (on : enabled (there es) (start k) ≡ true) where
+      at_first : slice_get hosts k ≡ Some m.host
+      at_first = ap₂ slice_get m.alone (start_first es k on)
+
+      task_first : (t : Task) × (slice_get (tasks_in (plays_of a.book)) m.host.place ≡ Some t)
+      task_first =
+          let st = begins_at es (ap (λ n. enabled (there es) (start n)) (sym (start_first es k on)) ∙ on) m.accepted in
+          task_there (tasks_in (plays_of a.book)) m.host.place (sym (left_same (tasks_in (plays_of a.book)) m.host.place now.tasks m.at.tasks_left) ∙ rw st.tasks refl)
+
+      pub start_there : (slice_get hosts k ≡ Some m.host) × (is_some (slice_get (tasks_in (plays_of a.book)) m.host.place) ≡ true)
+      start_there = (at_first, ap is_some task_first.1)
+
     -- a Start of any host that may, by what is evaluated for the task at hand and what becomes of the host's state
     module _ (k ticket : ℕ) (q : Pending) (cs : List Call) (hosts' : List HostState) (on : enabled (there es) (start k) ≡ true)
         (made : (s : HostState) (t : Task) (ms : Registry) (i : ℕ) → slice_get hosts k ≡ Some s → slice_get (tasks_in (plays_of a.book)) s.place ≡ Some t
@@ -261,28 +274,20 @@ module _ (a : Accepted) (forks : ℕ) where
       on_first : enabled (there es) (start 0) ≡ true
       on_first = ap (λ n. enabled (there es) (start n)) (sym first) ∙ on
 
-      at_first : slice_get hosts k ≡ Some m.host
-      at_first = ap₂ slice_get m.alone first
-
-      task_first : (t : Task) × (slice_get (tasks_in (plays_of a.book)) m.host.place ≡ Some t)
-      task_first =
-          let st = begins_at es on_first m.accepted in
-          task_there (tasks_in (plays_of a.book)) m.host.place (sym (left_same (tasks_in (plays_of a.book)) m.host.place now.tasks m.at.tasks_left) ∙ rw st.tasks refl)
-
-      made_first : (i : ℕ) → Makes q cs task_first.0 0 m.host (plan_of (own_world (own_fields m.host.vars)) (plain_run (modules_of a.registry) i (plain_task task_first.0)) None)
-      made_first i = subst (λ n. Makes q cs task_first.0 n m.host (plan_of (own_world (own_fields m.host.vars)) (plain_run (modules_of a.registry) i (plain_task task_first.0)) None)) first (made m.host task_first.0 (modules_of a.registry) i at_first task_first.1)
+      made_first : (i : ℕ) → Makes q cs (task_first k on).0 0 m.host (plan_of (own_world (own_fields m.host.vars)) (plain_run (modules_of a.registry) i (plain_task (task_first k on).0)) None)
+      made_first i = subst (λ n. Makes q cs (task_first k on).0 n m.host (plan_of (own_world (own_fields m.host.vars)) (plain_run (modules_of a.registry) i (plain_task (task_first k on).0)) None)) first (made m.host (task_first k on).0 (modules_of a.registry) i (at_first k on) (task_first k on).1)
 
       pub start_run : (n : ℕ) → n ≡ length cs → m.host.calls + n < 2 ^ 64
           → ((s : HostState) → slice_get hosts k ≡ Some s → s.calls + n < 2 ^ 64 → hosts' ≡ set hosts k (record s { calls = s.calls + n; stage = stage.Running ticket q }))
           → IsMachine a forks (es ++ Start k ∷ []) hosts' p
       start_run n count few placed =
           let one : hosts' ≡ record m.host { calls = m.host.calls + n; stage = stage.Running ticket q } ∷ [] =
-          placed m.host at_first few ∙ ap₂ (λ hs i. set hs i (record m.host { calls = m.host.calls + n; stage = stage.Running ticket q })) m.alone first in
+          placed m.host (at_first k on) few ∙ ap₂ (λ hs i. set hs i (record m.host { calls = m.host.calls + n; stage = stage.Running ticket q })) m.alone first in
           let counted = one ∙ ap (λ i. record m.host { calls = m.host.calls + i; stage = stage.Running ticket q } ∷ []) count in
-          subst (λ i. IsMachine a forks (es ++ Start i ∷ []) hosts' p) (sym first) (start_kept ticket q cs task_first.0 on_first task_first.1 made_first hosts' counted)
+          subst (λ i. IsMachine a forks (es ++ Start i ∷ []) hosts' p) (sym first) (start_kept ticket q cs (task_first k on).0 on_first (task_first k on).1 made_first hosts' counted)
 
       pub start_run_calls : map call_data cs ≡ job_calls k now.handed (there (es ++ Start k ∷ []))
-      start_run_calls = start_calls ticket q cs task_first.0 on_first task_first.1 made_first ∙ ap (λ n. job_calls n now.handed (there (es ++ Start n ∷ []))) (sym first)
+      start_run_calls = start_calls ticket q cs (task_first k on).0 on_first (task_first k on).1 made_first ∙ ap (λ n. job_calls n now.handed (there (es ++ Start n ∷ []))) (sym first)
 
     -- a Give to the task at hand
     module _ (q : Pending) (t : Task) (answers : Vec Answer Global) (o : Outcome) (n : HostState) (hosts' : List HostState) (e : slice_get (tasks_in (plays_of a.book)) m.host.place ≡ Some t) (i : IsInside q now) (live : is_phase_stopped p ≡ false) where

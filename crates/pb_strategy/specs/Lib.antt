@@ -13,3 +13,4 @@ pub mod Faults
 pub mod Recaps
 pub mod Tally
 pub mod Jobs
+pub mod Scripts

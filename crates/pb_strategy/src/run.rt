@@ -15,7 +15,7 @@ ghost use Rattle.pb_book.specs.Lines.{are_ascending, are_known, are_ordered, arg
 ghost use Rattle.pb_book.specs.Meaning.{plain_task};
 ghost use Rattle.pb_verify.specs.Judges.{is_accepted};
 ghost use Rattle.pb_strategy.specs.Events.{answer_data, event_data, recap_data};
-ghost use Rattle.pb_strategy.specs.Next.{next_of, taken_next};
+ghost use Rattle.pb_strategy.specs.Next.{next_of, taken_next, waits};
 ghost use Rattle.pb_strategy.specs.Outcomes.{ComesTo, IsSettledHost, Makes, calls_in};
 ghost use Rattle.pb_strategy.specs.OwnNames.{own_fields};
 ghost use Rattle.pb_strategy.specs.Room.{HasRoom, IsOpening, IsRoomier};
@@ -108,6 +108,7 @@ impl Run {
     /// A batch that is over is turned. Where memory is refused nothing has happened.
     pub fn take(&mut self) -> Result<Taken, AllocError>
         ensures next { IfOk result (λ t. taken_next t ≡ next_of (state_of self.old)) }
+        ensures waits { next_of (state_of self.old) ≡ waits → result ≡ Ok Taken.Idle }
         ensures sound { IsSound self.new }
         ensures taken { IfOk result (λ t. IsAfterTake t self.old self.new) }
         ensures few { self.new.handed < 2 ^ 63 }
@@ -543,17 +544,15 @@ fn begin_on(
     hosts: &[HostState],
     host: usize,
 ) -> Result<Begun, AllocError>
+    requires there { (s : HostState) × ((slice_get hosts.now host ≡ Some s)
+        × (is_some (slice_get (tasks_in (plays_of checked.now.book)) s.place) ≡ true)) }
     ensures few { IfOk result (λ b. length b.calls.items ≤ 1) }
-    ensures past { IfOk result (λ b. length hosts.now ≤ host → b.calls.items ≡ []) }
     ensures made { IfOk result (λ b. (s : HostState) (t : Task) (ms : Modules) (p : ℕ) → slice_get hosts.now host ≡ Some s
         → slice_get (tasks_in (plays_of checked.now.book)) s.place ≡ Some t
         → Makes b.pending b.calls.items t host s (plan_of (own_world (own_fields s.vars)) (plain_run ms p (plain_task t)) None)) }
 {
     let (Some(state), Some(task)) = (hosts.get(host), task_of(checked, hosts, host)) else {
-        return Ok(Begun {
-            pending: Pending::Skipped,
-            calls: Vec::new(alloc),
-        });
+        unreachable!()
     };
     let Started { pending, call } = start(alloc, task, host, state)?;
     Ok(Begun {

@@ -1,11 +1,27 @@
 // Answers from a file, in place of modules.
-ghost use Rattle.std.specs.Prelude.{◌≡◌, ◌<◌, Err, IfOk, IsUtf8, None, length};
+ghost use Rattle.std.specs.Prelude.{◌≡◌, ◌+◌, ◌^◌, ◌<◌, Err, IfOk, IsUtf8, None, codes, length, option_map, string_bytes, true};
 ghost use Rattle.serde_json.specs.Read.{read as read_text};
+ghost use Rattle.pb_semantics.specs.Data.{field_value};
+ghost use Rattle.pb_semantics.specs.Keeps.{flag_is};
+ghost use Rattle.pb_value.specs.View.{view, items_view, fields_view};
+ghost use Rattle.pb_strategy.specs.Scripts.{
+  Answers,
+  IsNoScript,
+  IsScript,
+  answers_in,
+  are_lists_of_objects as all_lists_of_objects,
+  are_objects as all_objects,
+  entry_of,
+  is_list_of_objects as is_answer_list,
+  item_at,
+  says_unreachable,
+  scripted,
+};
 
 use crate::answer::{Answer, Call, Why};
 use crate::drive::Runner;
 use pb_value::read::{JsonFault, read_json};
-use pb_value::value::{Fields, Value};
+use pb_value::value::{Fields, Value, field_of};
 use std::alloc::Global;
 use std::sync::Arc;
 use thiserror::Error;
@@ -52,6 +68,8 @@ pub struct ScriptRunner {
 impl ScriptRunner {
     /// Reads a JSON object from host names to lists of objects; of a host that nobody calls the shape is asked too.
     pub fn read(alloc: Global, bytes: &[u8]) -> Result<ScriptRunner, ScriptFault>
+        ensures read { IfOk result (λ r. IsScript bytes.now (answers_in r)) }
+        ensures shape { result ≡ Err ScriptFault.Shape → IsNoScript bytes.now }
         ensures not_json { result ≡ Err ScriptFault.NotJson → IsUtf8 bytes.now → read_text bytes.now ≡ None }
         ensures large { 67108864 < length bytes.now → result ≡ Err ScriptFault.Limit }
         ensures limit { result ≡ Err ScriptFault.Limit → 67108864 < length bytes.now }
@@ -72,17 +90,47 @@ impl ScriptRunner {
     }
 }
 
-fn are_lists_of_objects(answers: &Fields) -> bool {
-    answers.values().all(|list| match list {
-        Value::List(items) => items.iter().all(|item| matches!(item, Value::Rec(_))),
+fn are_lists_of_objects(answers: &Fields) -> bool
+    ensures { result ≡ all_lists_of_objects (fields_view answers.now.entries) }
+{
+    for (_, list) in answers.iter() {
+        if !is_list_of_objects(list) {
+            return false;
+        }
+    }
+    true
+}
+
+fn is_list_of_objects(list: &Value) -> bool
+    ensures { result ≡ is_answer_list (view list.now) }
+{
+    match list {
+        Value::List(items) => are_objects(items),
         _ => false,
-    })
+    }
+}
+
+fn are_objects(items: &Vec<Value>) -> bool
+    ensures { result ≡ all_objects (items_view items.now.items) }
+{
+    for item in items {
+        if !matches!(item, Value::Rec(_)) {
+            return false;
+        }
+    }
+    true
 }
 
 impl Runner for ScriptRunner {
     ghost calls = { λ r. r.made };
 
-    fn call(&mut self, call: &Call) -> Answer {
+    fn call(&mut self, call: &Call) -> Answer
+        requires { self.old.made + 1 < 2 ^ 64 }
+        ensures made { self.new.made ≡ self.old.made + 1 }
+        ensures answered { Answers result
+            (scripted (answers_in self.old) (string_bytes call.now.name.value) call.now.number) }
+        ensures answers { answers_in self.new ≡ answers_in self.old }
+    {
         self.made += 1;
         answer_of(&self.answers, call.name.as_str(), call.number)
     }
@@ -92,29 +140,53 @@ impl Runner for ScriptRunner {
     }
 }
 
-fn answer_of(answers: &Fields, name: &str, number: u64) -> Answer {
-    let entry = match answers.get(name) {
-        Some(Value::List(items)) => items.get(number as usize),
-        _ => None,
+fn answer_of(answers: &Fields, host: &str, number: u64) -> Answer
+    ensures { Answers result (scripted (fields_view answers.now.entries) host.now number) }
+{
+    let Some(entry) = entry_in(answers, host, number) else {
+        return Answer::Broken(Why::NoAnswer);
     };
-    match entry {
-        Some(entry) => {
-            if is_unreachable(entry) {
-                return Answer::Unreachable;
-            }
-            match entry.clone() {
-                Ok(entry) => Answer::Object(entry),
-                Err(_) => Answer::Broken(Why::NoAnswer),
-            }
-        }
-        None => Answer::Broken(Why::NoAnswer),
+    if is_unreachable(entry) {
+        return Answer::Unreachable;
+    }
+    match entry.clone() {
+        Ok(entry) => Answer::Object(entry),
+        Err(_) => Answer::Broken(Why::NoAnswer),
     }
 }
 
+// The entry of that number in the host's list.
+fn entry_in<'a>(answers: &'a Fields, host: &str, number: u64) -> Option<&'a Value>
+    ensures { option_map (λ v. view v.now) result
+        ≡ entry_of number (field_value host.now (fields_view answers.now.entries)) }
+{
+    match field_of(answers, host) {
+        Some(Value::List(items)) => item_in(items, number),
+        _ => None,
+    }
+}
+
+fn item_in(items: &Vec<Value>, number: u64) -> Option<&Value>
+    ensures { option_map (λ v. view v.now) result ≡ item_at number (items_view items.now.items) }
+{
+    items.get(number as usize)
+}
+
 /// Whether the object has `unreachable` true.
-fn is_unreachable(entry: &Value) -> bool {
+fn is_unreachable(entry: &Value) -> bool
+    ensures { result ≡ says_unreachable (view entry.now) }
+{
     match entry {
-        Value::Rec(fields) => matches!(fields.get("unreachable"), Some(Value::Bool(true))),
+        Value::Rec(fields) => says_so(fields),
+        _ => false,
+    }
+}
+
+fn says_so(fields: &Fields) -> bool
+    ensures { result ≡ flag_is true (field_value (codes "unreachable") (fields_view fields.now.entries)) }
+{
+    match field_of(fields, "unreachable") {
+        Some(Value::Bool(holds)) => *holds,
         _ => false,
     }
 }

@@ -1,6 +1,6 @@
 // A value of a variable, its inner parts shared.
-ghost use Rattle.std.specs.Prelude.{◌≡◌, IfOk, string_bytes};
-ghost use Rattle.pb_semantics.specs.Data.{list, rec, text};
+ghost use Rattle.std.specs.Prelude.{◌≡◌, IfOk, option_map, string_bytes};
+ghost use Rattle.pb_semantics.specs.Data.{field_value, list, rec, text};
 ghost use Rattle.pb_value.specs.View.{view, items_view, fields_view};
 
 use std::alloc::{AllocError, Global};
@@ -21,6 +21,14 @@ pub enum Value {
     Rec(Arc<Fields>),
     /// What may stand and may not be read, as a number that is no `i64`.
     Opaque,
+}
+
+/// The field of that name, or none where there is none.
+pub fn field_of<'f>(fields: &'f Fields, name: &str) -> Option<&'f Value>
+    ensures { option_map (λ v. view v.now) result
+        ≡ field_value name.now (fields_view fields.now.entries) }
+{
+    fields.get(name)
 }
 
 impl Clone for Value {

@@ -9,10 +9,22 @@ use Rattle.pb_strategy.specs.Standing.{plain_after}
 use Rattle.pb_strategy.specs.declared.event.Event.TheVariants.{Start}
 use Rattle.pb_strategy.proofs.Histories.{goes_on, same_state}
 use Rattle.pb_strategy.proofs.Jobs.{tickets-more}
-use Rattle.pb_strategy.proofs.Machines.{there, start_run, start_run_calls, start_within}
+use Rattle.pb_strategy.proofs.Machines.{there, start_run, start_run_calls, start_there, start_within}
 use Rattle.pb_strategy.proofs.Nexts.{alone_sum}
 use Rattle.pb_strategy.proofs.Tallies.{tally-other}
 use Rattle.pb_strategy.proofs.run.Run.begin.Goals as goal
+
+pub begin_on-requires : goal.begin_on-requires
+begin_on-requires c =
+    let x = c.self.inside in
+    let es = x.history.items in
+    let k = c.args.host in
+    let m = c.self.invariant.machine in
+    let on : enabled (state_of (run_state x)) (start k) ≡ true = ap (λ (r : RunState). enabled (state_of r) (start k)) c.self.view_is ∙ c.requires in
+    let found : c.deref.result.now ≡ x.hosts.items = search rules in
+    let here = start_there x.checked x.forks es x.hosts.items x.phase m k on in record {
+      there = (m.host, (ap (λ hs. slice_get hs k) found ∙ here.0, here.1));
+    }
 
 pub invariant_of-self-2 : goal.invariant_of-self-2
 invariant_of-self-2 c =

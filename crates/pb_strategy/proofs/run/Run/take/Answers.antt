@@ -3,7 +3,7 @@ use Rattle.pb_language.specs.Machine.{enabled, start, turn}
 use Rattle.pb_strategy.specs.History.{RunState, after, is_over, state_of}
 use Rattle.pb_strategy.specs.Inside.{is_phase_ended, is_phase_stopped}
 use Rattle.pb_strategy.specs.Jobs.{ticket_in}
-use Rattle.pb_strategy.specs.Next.{starts, next_of}
+use Rattle.pb_strategy.specs.Next.{starts, waits, ended, stopped, next_of}
 use Rattle.pb_strategy.specs.Standing.{can_run}
 use Rattle.pb_strategy.specs.declared.event.Event.TheVariants.{Turn}
 use Rattle.pb_strategy.proofs.Histories.{is_over-turn}
@@ -16,6 +16,22 @@ returns-in-Stopped-clause-next c =
     let x = c.self.inside in
     sym (next_stopped x.checked x.forks x.history.items x.hosts.items x.phase c.self.invariant.machine (ap is_phase_stopped c.in-Stopped.is))
     ∙ ap (λ (r : RunState). next_of (state_of r)) c.self.view_is
+
+pub returns-in-Stopped-clause-waits : goal.returns-in-Stopped-clause-waits
+returns-in-Stopped-clause-waits c = λ e.
+    let x = c.self.inside in
+    let no : stopped ≡ waits =
+    sym (next_stopped x.checked x.forks x.history.items x.hosts.items x.phase c.self.invariant.machine (ap is_phase_stopped c.in-Stopped.is))
+    ∙ ap (λ (r : RunState). next_of (state_of r)) c.self.view_is ∙ e in
+    cc
+
+pub returns-in-Ended-clause-waits : goal.returns-in-Ended-clause-waits
+returns-in-Ended-clause-waits c = λ e.
+    let x = c.self.inside in
+    let no : ended ≡ waits =
+    sym (next_ended x.checked x.forks x.history.items x.hosts.items x.phase c.self.invariant.machine (ap is_phase_stopped c.in-Ended.is) (ap is_phase_ended c.in-Ended.is)).0
+    ∙ ap (λ (r : RunState). next_of (state_of r)) c.self.view_is ∙ e in
+    cc
 
 pub returns-in-Ended-clause-next : goal.returns-in-Ended-clause-next
 returns-in-Ended-clause-next c =
@@ -40,6 +56,32 @@ begin-requires c =
     sym (c.ready_host.ensures.alone m.host (c.deref.ensures.value ∙ m.alone) ∙ ap (λ ts. cond (nat_lt 0 x.forks && can_run m.host (length ts)) (Some 0) None) c.tasks_of-tasks.ensures.value) ∙ c.in-Some.is in
     ap (λ (r : RunState). enabled (state_of r) (start c.in-Some.host)) (sym c.self.view_is)
     ∙ (next_starts x.checked x.forks x.history.items x.hosts.items x.phase m live on c.self.invariant.forks c.in-Some.host found).1
+
+pub returns-in_err-job-clause-waits : goal.returns-in_err-job-clause-waits
+returns-in_err-job-clause-waits c = λ e.
+    let x = c.self.inside in
+    let m = c.self.invariant.machine in
+    let live = ap is_phase_stopped c.in-Going.is in
+    let on = ap is_phase_ended c.in-Going.is in
+    let found : ready x.checked x.forks x.history.items x.hosts.items x.phase m live on c.self.invariant.forks ≡ Some c.in-Some.host =
+    sym (c.ready_host.ensures.alone m.host (c.deref.ensures.value ∙ m.alone) ∙ ap (λ ts. cond (nat_lt 0 x.forks && can_run m.host (length ts)) (Some 0) None) c.tasks_of-tasks.ensures.value) ∙ c.in-Some.is in
+    let no : starts c.in-Some.host ≡ waits =
+    sym (next_starts x.checked x.forks x.history.items x.hosts.items x.phase m live on c.self.invariant.forks c.in-Some.host found).0
+    ∙ ap (λ (r : RunState). next_of (state_of r)) c.self.view_is ∙ e in
+    cc
+
+pub returns-in-Some-clause-waits : goal.returns-in-Some-clause-waits
+returns-in-Some-clause-waits c = λ e.
+    let x = c.self.inside in
+    let m = c.self.invariant.machine in
+    let live = ap is_phase_stopped c.in-Going.is in
+    let on = ap is_phase_ended c.in-Going.is in
+    let found : ready x.checked x.forks x.history.items x.hosts.items x.phase m live on c.self.invariant.forks ≡ Some c.in-Some.host =
+    sym (c.ready_host.ensures.alone m.host (c.deref.ensures.value ∙ m.alone) ∙ ap (λ ts. cond (nat_lt 0 x.forks && can_run m.host (length ts)) (Some 0) None) c.tasks_of-tasks.ensures.value) ∙ c.in-Some.is in
+    let no : starts c.in-Some.host ≡ waits =
+    sym (next_starts x.checked x.forks x.history.items x.hosts.items x.phase m live on c.self.invariant.forks c.in-Some.host found).0
+    ∙ ap (λ (r : RunState). next_of (state_of r)) c.self.view_is ∙ e in
+    cc
 
 pub returns-in-Some-clause-next : goal.returns-in-Some-clause-next
 returns-in-Some-clause-next c =
@@ -78,6 +120,34 @@ turn-requires c =
     let idle : count_by (λ h. is_some (ticket_in h.stage)) x.hosts.items ≤ 0 = search rules in
     let turns = next_turns x.checked x.forks x.history.items x.hosts.items x.phase m live on c.self.invariant.forks none (idle_alone m.host x.hosts.items m.alone idle) in
     ap (λ (r : RunState). enabled (state_of r) turn) (sym c.self.view_is) ∙ turns.1
+
+pub returns-in_err-turn-clause-waits : goal.returns-in_err-turn-clause-waits
+returns-in_err-turn-clause-waits c = λ e.
+    let x = c.self.inside in
+    let m = c.self.invariant.machine in
+    let live = ap is_phase_stopped c.in-Going.is in
+    let on = ap is_phase_ended c.in-Going.is in
+    let none : ready x.checked x.forks x.history.items x.hosts.items x.phase m live on c.self.invariant.forks ≡ None =
+    sym (c.ready_host.ensures.alone m.host (c.deref.ensures.value ∙ m.alone) ∙ ap (λ ts. cond (nat_lt 0 x.forks && can_run m.host (length ts)) (Some 0) None) c.tasks_of-tasks.ensures.value) ∙ c.in_default.is in
+    let idle : count_by (λ h. is_some (ticket_in h.stage)) x.hosts.items ≤ 0 = search rules in
+    let no : ended ≡ waits =
+    sym (next_turns x.checked x.forks x.history.items x.hosts.items x.phase m live on c.self.invariant.forks none (idle_alone m.host x.hosts.items m.alone idle)).0
+    ∙ ap (λ (r : RunState). next_of (state_of r)) c.self.view_is ∙ e in
+    cc
+
+pub returns-clause-waits : goal.returns-clause-waits
+returns-clause-waits c = λ e.
+    let x = c.self.inside in
+    let m = c.self.invariant.machine in
+    let live = ap is_phase_stopped c.in-Going.is in
+    let on = ap is_phase_ended c.in-Going.is in
+    let none : ready x.checked x.forks x.history.items x.hosts.items x.phase m live on c.self.invariant.forks ≡ None =
+    sym (c.ready_host.ensures.alone m.host (c.deref.ensures.value ∙ m.alone) ∙ ap (λ ts. cond (nat_lt 0 x.forks && can_run m.host (length ts)) (Some 0) None) c.tasks_of-tasks.ensures.value) ∙ c.in_default.is in
+    let idle : count_by (λ h. is_some (ticket_in h.stage)) x.hosts.items ≤ 0 = search rules in
+    let no : ended ≡ waits =
+    sym (next_turns x.checked x.forks x.history.items x.hosts.items x.phase m live on c.self.invariant.forks none (idle_alone m.host x.hosts.items m.alone idle)).0
+    ∙ ap (λ (r : RunState). next_of (state_of r)) c.self.view_is ∙ e in
+    cc
 
 pub returns-clause-next : goal.returns-clause-next
 returns-clause-next c =

@@ -1,6 +1,6 @@
 // The book that a JSON text is.
-ghost use Rattle.std.specs.Prelude.{◌≡◌, ◌<◌, [], ◌∷◌, Err, IfOk, IsUtf8, None, length, true};
-ghost use Rattle.serde_json.specs.Read.{read as read_text};
+ghost use Rattle.std.specs.Prelude.{◌≡◌, ◌<◌, [], ◌∷◌, Err, IfOk, None, length, true};
+ghost use Rattle.pb_value.specs.FromJson.{json_data};
 ghost use Rattle.pb_sig.specs.Modules.{modules_of};
 ghost use Rattle.pb_book.specs.Books.{plays_of};
 ghost use Rattle.pb_language.specs.Plain.{are_plain_tasks};
@@ -30,8 +30,7 @@ impl Book {
     /// else `NotBuilt` where they are another JSON. `NoMemory` where memory is refused.
     pub fn read(alloc: Global, bytes: &[u8], registry: &Registry) -> Result<Book, BookFault>
         ensures known { IfOk result (λ b. names_known (modules_of registry.now) (plays_of b) ≡ true) }
-        ensures not_json { result ≡ Err BookFault.NotJson → IsUtf8 bytes.now
-            → read_text bytes.now ≡ None }
+        ensures not_json { result ≡ Err BookFault.NotJson → json_data bytes.now ≡ None }
         ensures large { 4194304 < length bytes.now → result ≡ Err BookFault.NotBuilt }
     {
         if bytes.len() > MOST_BYTES {

@@ -1,13 +1,18 @@
 -- What becomes of the files that are judged.
-use Rattle.std.specs.Prelude.{ℕ, List, length, nat_lt, if◌then◌else◌, Option, Some, None, Result, Ok, Err}
-use Rattle.serde_json.specs.Data.{Data as JsonData}
-use Rattle.serde_json.specs.Read.{read as read_text}
-use Rattle.pb_value.specs.FromJson.{data_of}
+use Rattle.std.specs.Prelude.{◌≡◌, ℕ, List, length, nat_lt, if◌then◌else◌, Option, Some, None, Result, Ok, Err}
+use Rattle.pb_semantics.specs.Data.{Data}
+use Rattle.pb_language.specs.Book.{Book}
+use Rattle.pb_language.specs.Verdict.{Verdict, accepted, refused as refused_at}
+use Rattle.pb_value.specs.FromJson.{json_data}
+use Rattle.pb_sig.specs.Table.{builtins}
 use Rattle.pb_inventory.specs.Hosts.{InventoryData, inventory_of}
 use Rattle.pb_inventory.specs.declared.read.InventoryFault.{InventoryFault}
 use Rattle.pb_inventory.specs.declared.read.InventoryFault.TheVariants as inventory
+use Rattle.pb_book.specs.Reading.{book_from}
 use Rattle.pb_book.specs.declared.fault.BookFault.{BookFault}
 use Rattle.pb_book.specs.declared.fault.BookFault.TheVariants as book
+use Rattle.pb_verify.specs.Meaning.{refusal_of}
+use Rattle.pb_verify.specs.declared.checked.Accepted.{Accepted}
 use Rattle.pb_verify.specs.declared.refusal.Code.{Code}
 use Rattle.pb_verify.specs.declared.refusal.Code.TheVariants.{N00, P01, I01}
 use Rattle.pb_verify.specs.declared.verify.VerifyFault.{VerifyFault}
@@ -33,14 +38,30 @@ abbrev pub of_verify : VerifyFault → Fault
 of_verify (verify.Refused r) = Refused r
 of_verify verify.NoMemory = NoMemory
 
-abbrev pub data_verdict : Option InventoryData → Result InventoryData Code
-data_verdict None = Err N00
-data_verdict (Some i) = Ok i
+-- what is read of a value, or the code of what isn't built yet
+abbrev pub built : {X : Type 0} → Option X → Result X Code
+built None = Err N00
+built (Some x) = Ok x
 
-abbrev pub text_verdict : Option JsonData → Result InventoryData Code
-text_verdict None = Err I01
-text_verdict (Some d) = data_verdict (inventory_of (data_of d))
+-- what a text is, by what its value is, or else the code of the whole file
+abbrev pub of_text : {X : Type 0} → Code → (Data → Option X) → Option Data → Result X Code
+of_text not_json read None = Err not_json
+of_text not_json read (Some d) = built (read d)
+
+-- a text that is too long isn't looked at
+abbrev pub of_bytes : {X : Type 0} → Code → (Data → Option X) → List ℕ → Result X Code
+of_bytes not_json read bytes = if nat_lt 4194304 (length bytes) then Err N00 else of_text not_json read (json_data bytes)
 
 -- an inventory's text is this inventory, or is refused with this code
 abbrev pub inventory_verdict : List ℕ → Result InventoryData Code
-inventory_verdict bytes = if nat_lt 4194304 (length bytes) then Err N00 else text_verdict (read_text bytes)
+inventory_verdict bytes = of_bytes I01 inventory_of bytes
+
+-- and a book's text this book, with the built-in modules
+abbrev pub book_verdict : List ℕ → Result Book Code
+book_verdict bytes = of_bytes P01 (book_from builtins) bytes
+
+-- accepted with that budget, or refused with that refusal, unless memory ran out
+abbrev pub Judges : Result Accepted Fault → Verdict → Type 0
+Judges (Ok c) v = v ≡ accepted c.budget
+Judges (Err (Refused r)) v = v ≡ refused_at (refusal_of r)
+Judges (Err NoMemory) v = Unit {0}

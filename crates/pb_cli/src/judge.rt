@@ -104,13 +104,17 @@ pub fn judge(
     signatures: Option<&[u8]>,
 ) -> Result<Checked, Fault>
     ensures signatures { is_some signatures.entry ≡ true → result ≡ Err (refused Code.N00) }
-    ensures inventory { is_some signatures.entry ≡ false → IsUtf8 inventory.now → (code : Code)
+    ensures inventory { is_some signatures.entry ≡ false → (code : Code)
         → inventory_verdict inventory.now ≡ Err code
         → (result ≡ Err (refused code)) ⊎ (result ≡ Err Fault.NoMemory) }
-    ensures large { is_some signatures.entry ≡ false → IsUtf8 inventory.now
-        → (i : InventoryData) → inventory_verdict inventory.now ≡ Ok i → 4194304 < length book.now
-        → (result ≡ Err (refused Code.N00)) ⊎ (result ≡ Err Fault.NoMemory) }
+    ensures book { is_some signatures.entry ≡ false
+        → (i : InventoryData) (code : Code) → inventory_verdict inventory.now ≡ Ok i → book_verdict book.now ≡ Err code
+        → (result ≡ Err (refused code)) ⊎ (result ≡ Err Fault.NoMemory) }
+    ensures verdict { is_some signatures.entry ≡ false
+        → (i : InventoryData) (b : Book) → inventory_verdict inventory.now ≡ Ok i → book_verdict book.now ≡ Ok b
+        → Judges result (judged builtins (inventory_of i) b) }
     ensures read { IfOk result (λ c. inventory_verdict inventory.now ≡ Ok (inventory_view c.inventory)) }
+    ensures book_read { IfOk result (λ c. book_verdict book.now ≡ Ok (book_of c.book)) }
     ensures modules { IfOk result (λ c. modules_of c.registry ≡ builtins) }
     ensures known { IfOk result (λ c. names_known builtins (plays_of c.book) ≡ true) }
     ensures accepted { IfOk result (λ c.

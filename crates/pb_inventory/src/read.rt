@@ -12,10 +12,8 @@ ghost use Rattle.std.specs.Prelude.{
   length,
   option_map,
 };
-ghost use Rattle.serde_json.specs.Data.{Data as JsonData};
-ghost use Rattle.serde_json.specs.Read.{read as read_text};
-ghost use Rattle.pb_semantics.specs.Data.{field_value};
-ghost use Rattle.pb_value.specs.FromJson.{data_of};
+ghost use Rattle.pb_semantics.specs.Data.{Data, field_value};
+ghost use Rattle.pb_value.specs.FromJson.{json_data};
 ghost use Rattle.pb_value.specs.View.{view, fields_view};
 ghost use Rattle.pb_inventory.specs.Hosts.{
   host_of,
@@ -30,7 +28,7 @@ ghost use Rattle.pb_inventory.specs.Inventory.{inventory_view};
 
 use crate::inventory::Inventory;
 use pb_value::read::{JsonFault, read_json};
-use pb_value::value::{Fields, Value};
+use pb_value::value::{Value, field_of};
 use std::alloc::{AllocError, Global};
 use thiserror::Error;
 
@@ -84,13 +82,12 @@ impl Inventory {
     /// `NotBuilt` where there are more than 4,194,304 bytes; else `NotJson` where they aren't JSON;
     /// else `NotBuilt` where they are any other JSON. `NoMemory` where memory is refused.
     pub fn read(alloc: Global, bytes: &[u8]) -> Result<Inventory, InventoryFault>
-        ensures ok { IfOk result (λ i. (d : JsonData) × (read_text bytes.now ≡ Some d)
-            × (inventory_of (data_of d) ≡ Some (inventory_view i))) }
+        ensures ok { IfOk result (λ i. (d : Data) × (json_data bytes.now ≡ Some d)
+            × (inventory_of d ≡ Some (inventory_view i))) }
         ensures one_host { IfOk result (λ i. length (inventory_view i).hosts ≡ 1) }
-        ensures not_json { result ≡ Err InventoryFault.NotJson → IsUtf8 bytes.now
-            → read_text bytes.now ≡ None }
+        ensures not_json { result ≡ Err InventoryFault.NotJson → json_data bytes.now ≡ None }
         ensures not_built { result ≡ Err InventoryFault.NotBuilt → length bytes.now ≤ 4194304
-            → (d : JsonData) × (read_text bytes.now ≡ Some d) × (inventory_of (data_of d) ≡ None) }
+            → (d : Data) × (json_data bytes.now ≡ Some d) × (inventory_of d ≡ None) }
         ensures large { 4194304 < length bytes.now → result ≡ Err InventoryFault.NotBuilt }
     {
         if bytes.len() > MOST_BYTES {
@@ -128,13 +125,6 @@ fn field_alone<'v>(value: &'v Value, name: &str) -> Option<&'v Value>
         }
         _ => None,
     }
-}
-
-fn field_of<'v>(fields: &'v Fields, name: &str) -> Option<&'v Value>
-    ensures { option_map (λ v. view v.now) result
-        ≡ field_value name.now (fields_view fields.now.entries) }
-{
-    fields.get(name)
 }
 
 /// The text that is the list's only item.

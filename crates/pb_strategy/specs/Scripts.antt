@@ -1,11 +1,10 @@
 -- Files of answers: an object from host names to lists of objects.
 use Rattle.std.specs.Prelude.{◌≡◌, ◌⊎◌, ℕ, zero, suc, List, Bool, true, false, ◌&&◌, cond, Option, Some, None, codes}
-use Rattle.serde_json.specs.Read.{read as read_text}
 use Rattle.pb_semantics.specs.Data.{Data, list, rec, Items, no_items, item, Fields, no_fields, field, field_value}
 use Rattle.pb_semantics.specs.Keeps.{flag_is}
 use Rattle.pb_language.specs.Expression.{Name}
 use Rattle.pb_language.specs.Give as language
-use Rattle.pb_value.specs.FromJson.{data_of}
+use Rattle.pb_value.specs.FromJson.{json_data}
 use Rattle.pb_value.specs.View.{fields_view}
 use Rattle.pb_strategy.specs.Events.{answer_data}
 use Rattle.pb_strategy.specs.declared.answer.Answer.{Answer}
@@ -62,11 +61,11 @@ answers_in r = fields_view r.answers.value.entries
 
 -- the text is JSON, and these are the answers in it
 abbrev pub IsScript : List ℕ → Fields → Type 0
-IsScript bs fs = (d : _) × ((read_text bs ≡ Some d) × ((data_of d ≡ rec fs) × (are_lists_of_objects fs ≡ true)))
+IsScript bs fs = (json_data bs ≡ Some (rec fs)) × (are_lists_of_objects fs ≡ true)
 
 -- the text is JSON of another shape
 abbrev pub IsNoScript : List ℕ → Type 0
-IsNoScript bs = (d : _) × ((read_text bs ≡ Some d) × (is_script (data_of d) ≡ false))
+IsNoScript bs = (d : Data) × ((json_data bs ≡ Some d) × (is_script d ≡ false))
 
 -- it is that answer; an object for which there is no memory isn't there
 abbrev pub Answers : Answer → language.Answer → Type 0

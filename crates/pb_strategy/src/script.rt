@@ -1,6 +1,6 @@
 // Answers from a file, in place of modules.
-ghost use Rattle.std.specs.Prelude.{◌≡◌, ◌+◌, ◌^◌, ◌<◌, Err, IfOk, IsUtf8, None, codes, length, option_map, string_bytes, true};
-ghost use Rattle.serde_json.specs.Read.{read as read_text};
+ghost use Rattle.std.specs.Prelude.{◌≡◌, ◌+◌, ◌^◌, ◌<◌, Err, IfOk, None, codes, length, option_map, string_bytes, true};
+ghost use Rattle.pb_value.specs.FromJson.{json_data};
 ghost use Rattle.pb_semantics.specs.Data.{field_value};
 ghost use Rattle.pb_semantics.specs.Keeps.{flag_is};
 ghost use Rattle.pb_value.specs.View.{view, items_view, fields_view};
@@ -70,7 +70,7 @@ impl ScriptRunner {
     pub fn read(alloc: Global, bytes: &[u8]) -> Result<ScriptRunner, ScriptFault>
         ensures read { IfOk result (λ r. IsScript bytes.now (answers_in r)) }
         ensures shape { result ≡ Err ScriptFault.Shape → IsNoScript bytes.now }
-        ensures not_json { result ≡ Err ScriptFault.NotJson → IsUtf8 bytes.now → read_text bytes.now ≡ None }
+        ensures not_json { result ≡ Err ScriptFault.NotJson → json_data bytes.now ≡ None }
         ensures large { 67108864 < length bytes.now → result ≡ Err ScriptFault.Limit }
         ensures limit { result ≡ Err ScriptFault.Limit → 67108864 < length bytes.now }
         ensures made { IfOk result (λ r. r.made ≡ 0) }

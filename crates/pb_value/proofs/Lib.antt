@@ -6,3 +6,4 @@ pub mod KeptLists
 pub mod Projections
 pub mod KindLemmas
 pub mod JoinLemmas
+mod Texts

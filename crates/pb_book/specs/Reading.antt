@@ -1,12 +1,11 @@
 -- The book that a JSON value is: no play, or one on all hosts, of tasks that call a module, show a message or set variables.
 use Rattle.std.specs.Prelude.{◌≡◌, ℕ, zero, suc, List, [], ◌∷◌, length, Bool, true, false, not, ◌&&◌, ◌||◌, nat_le, cond, Option, Some, None, Result, Ok, Err, codes}
 use Rattle.std.specs.Str.{bytes_eq}
-use Rattle.serde_json.specs.Read.{read as read_text}
 use Rattle.pb_semantics.specs.Data.{Data, null, boolean, int, text, list, rec, opaque, Items, no_items, item, count_of, Fields, no_fields, field, field_value}
 use Rattle.pb_semantics.specs.Keeps.{is_among}
 use Rattle.pb_semantics.specs.Signature.{ModuleData}
 use Rattle.pb_sig.specs.Modules.{module_at}
-use Rattle.pb_value.specs.FromJson.{data_of}
+use Rattle.pb_value.specs.FromJson.{json_data}
 use Rattle.pb_language.specs.Expression.{Name, Expression, literal, list_of, record_of, Expressions, no_expressions, expression, Parts, no_parts, part}
 use Rattle.pb_language.specs.Grammar.{expression_of, template_of, has_opening}
 use Rattle.pb_language.specs.Rules.{is_variable_name}
@@ -203,8 +202,8 @@ book_from ms d = None
 
 -- the text is JSON, and the book is the one that its value is
 abbrev pub IsBook : List ModuleData → List ℕ → Book → Type 0
-IsBook ms bs b = (d : _) × ((read_text bs ≡ Some d) × (book_from ms (data_of d) ≡ Some (book_of b)))
+IsBook ms bs b = (d : Data) × (json_data bs ≡ Some d) × (book_from ms d ≡ Some (book_of b))
 
 -- the text is JSON whose value is no book
 abbrev pub IsNoBook : List ModuleData → List ℕ → Type 0
-IsNoBook ms bs = (d : _) × ((read_text bs ≡ Some d) × (book_from ms (data_of d) ≡ None))
+IsNoBook ms bs = (d : Data) × (json_data bs ≡ Some d) × (book_from ms d ≡ None)

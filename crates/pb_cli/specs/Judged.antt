@@ -1,7 +1,8 @@
 -- What becomes of the files that are judged.
-use Rattle.std.specs.Prelude.{◌≡◌, ℕ, List, length, nat_lt, if◌then◌else◌, Option, Some, None, Result, Ok, Err}
+use Rattle.std.specs.Prelude.{◌≡◌, ◌⊎◌, ℕ, List, length, nat_lt, if◌then◌else◌, Option, Some, None, Result, Ok, Err}
 use Rattle.pb_semantics.specs.Data.{Data}
 use Rattle.pb_language.specs.Book.{Book}
+use Rattle.pb_language.specs.Judged.{judged}
 use Rattle.pb_language.specs.Verdict.{Verdict, accepted, refused as refused_at}
 use Rattle.pb_value.specs.FromJson.{json_data}
 use Rattle.pb_sig.specs.Table.{builtins}
@@ -11,7 +12,7 @@ use Rattle.pb_inventory.specs.declared.read.InventoryFault.TheVariants as invent
 use Rattle.pb_book.specs.Reading.{book_from}
 use Rattle.pb_book.specs.declared.fault.BookFault.{BookFault}
 use Rattle.pb_book.specs.declared.fault.BookFault.TheVariants as book
-use Rattle.pb_verify.specs.Meaning.{refusal_of}
+use Rattle.pb_verify.specs.Meaning.{inventory_of as inventory_data, refusal_of}
 use Rattle.pb_verify.specs.declared.checked.Accepted.{Accepted}
 use Rattle.pb_verify.specs.declared.refusal.Code.{Code}
 use Rattle.pb_verify.specs.declared.refusal.Code.TheVariants.{N00, P01, I01}
@@ -60,8 +61,31 @@ inventory_verdict bytes = of_bytes I01 inventory_of bytes
 abbrev pub book_verdict : List ℕ → Result Book Code
 book_verdict bytes = of_bytes P01 (book_from builtins) bytes
 
--- accepted with that budget, or refused with that refusal, unless memory ran out
-abbrev pub Judges : Result Accepted Fault → Verdict → Type 0
-Judges (Ok c) v = v ≡ accepted c.budget
-Judges (Err (Refused r)) v = v ≡ refused_at (refusal_of r)
-Judges (Err NoMemory) v = Unit {0}
+-- what becomes of the files: one is refused as a whole, or the book gets a verdict for the inventory
+pub data Found : Type 0 where
+  whole_file : Code → Found
+  verdict : Verdict → Found
+
+abbrev pub book_found : InventoryData → Result Book Code → Found
+book_found i (Err code) = whole_file code
+book_found i (Ok b) = verdict (judged builtins (inventory_data i) b)
+
+abbrev pub found_by : Result InventoryData Code → Result Book Code → Found
+found_by (Err code) book = whole_file code
+found_by (Ok i) book = book_found i book
+
+-- the inventory is asked before the book
+abbrev pub found : List ℕ → List ℕ → Found
+found inventory book = found_by (inventory_verdict inventory) (book_verdict book)
+
+-- refused with that refusal, unless memory ran out
+abbrev pub Refuses : Fault → Verdict → Type 0
+Refuses (Refused r) v = v ≡ refused_at (refusal_of r)
+Refuses NoMemory v = Unit {0}
+
+-- that answer says what becomes of the files
+abbrev pub Tells : Result Accepted Fault → Found → Type 0
+Tells (Ok a) (whole_file code) = ⊥
+Tells (Ok a) (verdict v) = v ≡ accepted a.budget
+Tells (Err f) (whole_file code) = (f ≡ refused code) ⊎ (f ≡ NoMemory)
+Tells (Err f) (verdict v) = Refuses f v

@@ -1,15 +1,14 @@
 // The verdict on the bytes of a playbook and an inventory.
-ghost use Rattle.std.specs.Prelude.{◌≡◌, ◌⊎◌, ◌<◌, Ok, Err, IfOk, IsUtf8, is_some, length, true, false};
+ghost use Rattle.std.specs.Prelude.{◌≡◌, Ok, Err, IfOk, is_some, true, false};
 ghost use Rattle.pb_language.specs.Judged.{judged};
 ghost use Rattle.pb_language.specs.Verdict.{accepted};
 ghost use Rattle.pb_sig.specs.Table.{builtins};
 ghost use Rattle.pb_sig.specs.Modules.{modules_of};
-ghost use Rattle.pb_inventory.specs.Hosts.{InventoryData};
 ghost use Rattle.pb_inventory.specs.Inventory.{inventory_view};
 ghost use Rattle.pb_book.specs.Books.{book_of, plays_of};
 ghost use Rattle.pb_book.specs.Lines.{names_known};
 ghost use Rattle.pb_verify.specs.Meaning.{inventory_of};
-ghost use Rattle.pb_cli.specs.Judged.{inventory_verdict, refused};
+ghost use Rattle.pb_cli.specs.Judged.{Tells, book_verdict, found, inventory_verdict, refused};
 
 use pb_book::book::Book;
 use pb_book::fault::BookFault;
@@ -104,15 +103,7 @@ pub fn judge(
     signatures: Option<&[u8]>,
 ) -> Result<Checked, Fault>
     ensures signatures { is_some signatures.entry ≡ true → result ≡ Err (refused Code.N00) }
-    ensures inventory { is_some signatures.entry ≡ false → (code : Code)
-        → inventory_verdict inventory.now ≡ Err code
-        → (result ≡ Err (refused code)) ⊎ (result ≡ Err Fault.NoMemory) }
-    ensures book { is_some signatures.entry ≡ false
-        → (i : InventoryData) (code : Code) → inventory_verdict inventory.now ≡ Ok i → book_verdict book.now ≡ Err code
-        → (result ≡ Err (refused code)) ⊎ (result ≡ Err Fault.NoMemory) }
-    ensures verdict { is_some signatures.entry ≡ false
-        → (i : InventoryData) (b : Book) → inventory_verdict inventory.now ≡ Ok i → book_verdict book.now ≡ Ok b
-        → Judges result (judged builtins (inventory_of i) b) }
+    ensures verdict { is_some signatures.entry ≡ false → Tells result (found inventory.now book.now) }
     ensures read { IfOk result (λ c. inventory_verdict inventory.now ≡ Ok (inventory_view c.inventory)) }
     ensures book_read { IfOk result (λ c. book_verdict book.now ≡ Ok (book_of c.book)) }
     ensures modules { IfOk result (λ c. modules_of c.registry ≡ builtins) }

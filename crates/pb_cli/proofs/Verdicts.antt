@@ -1,0 +1,118 @@
+-- What the readers' answers say of the files that are judged.
+use Rattle.std.proofs.Common.{◌≡◌, ◌<◌, ◌≤◌, ◌⊎◌, ℕ, List, length, nat_lt, Bool, true, false, if◌then◌else◌, Option, Some, None, Result, Ok, Err, IfOk, refl, sym, inl, inr, ap, ◌∙◌}
+use Rattle.std.proofs.lemmas.Bool.{ltb-true, ltb-false, le-ltb, lt-ltb}
+use Rattle.pb_semantics.specs.Data.{Data}
+use Rattle.pb_language.specs.Book.{Book as BookData}
+use Rattle.pb_language.specs.Judged.{judged}
+use Rattle.pb_language.specs.Verdict.{accepted}
+use Rattle.pb_value.specs.FromJson.{json_data}
+use Rattle.pb_sig.specs.Table.{builtins}
+use Rattle.pb_inventory.specs.Hosts.{InventoryData, inventory_of}
+use Rattle.pb_inventory.specs.Inventory.{inventory_view}
+use Rattle.pb_inventory.specs.declared.inventory.Inventory.{Inventory}
+use Rattle.pb_inventory.specs.declared.read.InventoryFault.{InventoryFault}
+use Rattle.pb_inventory.specs.declared.read.InventoryFault.TheVariants as inventory
+use Rattle.pb_book.specs.Books.{book_of}
+use Rattle.pb_book.specs.Reading.{book_from}
+use Rattle.pb_book.specs.declared.book.Book.{Book}
+use Rattle.pb_book.specs.declared.fault.BookFault.{BookFault}
+use Rattle.pb_book.specs.declared.fault.BookFault.TheVariants as book
+use Rattle.pb_verify.specs.Judges.{Refuses as Judges}
+use Rattle.pb_verify.specs.Meaning.{inventory_of as inventory_data}
+use Rattle.pb_verify.specs.declared.checked.Accepted.{Accepted}
+use Rattle.pb_verify.specs.declared.refusal.Code.{Code}
+use Rattle.pb_verify.specs.declared.refusal.Code.TheVariants.{N00, P01, I01}
+use Rattle.pb_verify.specs.declared.verify.VerifyFault.{VerifyFault}
+use Rattle.pb_verify.specs.declared.verify.VerifyFault.TheVariants as verify
+use Rattle.pb_cli.specs.Judged.{Found, whole_file, verdict, Tells, book_found, book_verdict, found_by, inventory_verdict, of_book, of_bytes, of_inventory, of_text, of_verify}
+use Rattle.pb_cli.specs.declared.judge.Fault.{Fault}
+use Rattle.pb_cli.specs.declared.judge.Fault.TheVariants.{Refused, NoMemory}
+
+-- what is said of a text that is read so, with that code where it isn't JSON
+module _ {X : Type 0} (code : Code) (read : Data → Option X) (bs : List ℕ) where
+  abbrev short_text : Result X Code
+  short_text = of_text code read (json_data bs)
+
+  long : 4194304 < length bs → of_bytes code read bs ≡ Err N00
+  long l = ap (λ b. if b then Err N00 else short_text) (lt-ltb 4194304 (length bs) l)
+
+  short : length bs ≤ 4194304 → of_bytes code read bs ≡ short_text
+  short l = ap (λ b. if b then Err N00 else short_text) (le-ltb 4194304 (length bs) l)
+
+  -- a text that isn't answered as a form that isn't built is short
+  not_long : ¬ (4194304 < length bs) → length bs ≤ 4194304
+  not_long bound = either (nat_lt 4194304 (length bs)) refl where
+    either : (b : Bool) → nat_lt 4194304 (length bs) ≡ b → length bs ≤ 4194304
+    either true e = absurd (bound (ltb-true 4194304 (length bs) e))
+    either false e = ltb-false 4194304 (length bs) e
+
+  is_read : (x : X) → ¬ (4194304 < length bs) → (d : Data) × (json_data bs ≡ Some d) × (read d ≡ Some x) → of_bytes code read bs ≡ Ok x
+  is_read x bound found = short (not_long bound) ∙ rw (found.1, found.2) refl
+
+  is_no_json : ¬ (4194304 < length bs) → json_data bs ≡ None → of_bytes code read bs ≡ Err code
+  is_no_json bound none = short (not_long bound) ∙ rw none refl
+
+  is_not_built : (length bs ≤ 4194304 → (d : Data) × (json_data bs ≡ Some d) × (read d ≡ None)) → of_bytes code read bs ≡ Err N00
+  is_not_built other = either (nat_lt 4194304 (length bs)) refl where
+    either : (b : Bool) → nat_lt 4194304 (length bs) ≡ b → of_bytes code read bs ≡ Err N00
+    either true e = long (ltb-true 4194304 (length bs) e)
+    either false e = let l = ltb-false 4194304 (length bs) e in let found = other l in short l ∙ rw (found.1, found.2) refl
+
+-- want of memory may come in the place of anything
+no_memory : (f : Found) → Tells (Err NoMemory) f
+no_memory (whole_file code) = inr refl
+no_memory (verdict v) = tt
+
+-- what a fault of an inventory, and of a book, says of the text
+abbrev pub InventorySays : InventoryFault → Result InventoryData Code → Type 0
+InventorySays inventory.NotJson v = v ≡ Err I01
+InventorySays inventory.NotBuilt v = v ≡ Err N00
+InventorySays inventory.NoMemory v = Unit {0}
+
+abbrev pub BookSays : BookFault → Result BookData Code → Type 0
+BookSays book.NotJson v = v ≡ Err P01
+BookSays book.NotBuilt v = v ≡ Err N00
+BookSays book.NoMemory v = Unit {0}
+
+module _ (bs : List ℕ) where
+  -- by the clauses of the reader of inventories
+  module _ (r : Result Inventory InventoryFault) (large : 4194304 < length bs → r ≡ Err inventory.NotBuilt) where
+    pub inventory_read : (i : Inventory) → r ≡ Ok i → (d : Data) × (json_data bs ≡ Some d) × (inventory_of d ≡ Some (inventory_view i)) → inventory_verdict bs ≡ Ok (inventory_view i)
+    inventory_read i e found = is_read I01 inventory_of bs (inventory_view i) (λ l. let clash = sym e ∙ large l in cc) found
+
+    pub inventory_says : (f : InventoryFault) → r ≡ Err f → (f ≡ inventory.NotJson → json_data bs ≡ None)
+        → (f ≡ inventory.NotBuilt → length bs ≤ 4194304 → (d : Data) × (json_data bs ≡ Some d) × (inventory_of d ≡ None)) → InventorySays f (inventory_verdict bs)
+    inventory_says inventory.NotJson e none other = is_no_json I01 inventory_of bs (λ l. let clash = sym e ∙ large l in cc) (none refl)
+    inventory_says inventory.NotBuilt e none other = is_not_built I01 inventory_of bs (other refl)
+    inventory_says inventory.NoMemory e none other = tt
+
+  -- and of the reader of books
+  module _ (r : Result Book BookFault) (large : 4194304 < length bs → r ≡ Err book.NotBuilt) where
+    pub book_read : (b : Book) → r ≡ Ok b → (d : Data) × (json_data bs ≡ Some d) × (book_from builtins d ≡ Some (book_of b)) → book_verdict bs ≡ Ok (book_of b)
+    book_read b e found = is_read P01 (book_from builtins) bs (book_of b) (λ l. let clash = sym e ∙ large l in cc) found
+
+    pub book_says : (f : BookFault) → r ≡ Err f → (f ≡ book.NotJson → json_data bs ≡ None)
+        → (f ≡ book.NotBuilt → length bs ≤ 4194304 → (d : Data) × (json_data bs ≡ Some d) × (book_from builtins d ≡ None)) → BookSays f (book_verdict bs)
+    book_says book.NotJson e none other = is_no_json P01 (book_from builtins) bs (λ l. let clash = sym e ∙ large l in cc) (none refl)
+    book_says book.NotBuilt e none other = is_not_built P01 (book_from builtins) bs (other refl)
+    book_says book.NoMemory e none other = tt
+
+-- the answer where the inventory isn't read
+pub tells_inventory : (e : InventoryFault) (v : Result InventoryData Code) (w : Result BookData Code) → InventorySays e v → Tells (Err (of_inventory e)) (found_by v w)
+tells_inventory inventory.NotJson v w says = rw says (inl refl)
+tells_inventory inventory.NotBuilt v w says = rw says (inl refl)
+tells_inventory inventory.NoMemory v w says = no_memory (found_by v w)
+
+-- where the book isn't
+pub tells_book : (i : InventoryData) (e : BookFault) (v : Result InventoryData Code) (w : Result BookData Code) → v ≡ Ok i → BookSays e w → Tells (Err (of_book e)) (found_by v w)
+tells_book i book.NotJson v w read says = rw (read, says) (inl refl)
+tells_book i book.NotBuilt v w read says = rw (read, says) (inl refl)
+tells_book i book.NoMemory v w read says = no_memory (found_by v w)
+
+-- where both are
+pub tells_refused : (i : InventoryData) (b : BookData) (e : VerifyFault) (v : Result InventoryData Code) (w : Result BookData Code) → v ≡ Ok i → w ≡ Ok b → Judges e (judged builtins (inventory_data i) b) → Tells (Err (of_verify e)) (found_by v w)
+tells_refused i b (verify.Refused r) v w read read_book judges = rw (read, read_book) judges
+tells_refused i b verify.NoMemory v w read read_book judges = no_memory (found_by v w)
+
+pub tells_accepted : (i : InventoryData) (b : BookData) (a : Accepted) (v : Result InventoryData Code) (w : Result BookData Code) → v ≡ Ok i → w ≡ Ok b → judged builtins (inventory_data i) b ≡ accepted a.budget → Tells (Ok a) (found_by v w)
+tells_accepted i b a v w read read_book judges = rw (read, read_book) judges

@@ -4,7 +4,8 @@
 Usage: make_rows.py, which writes the rows anew (then `rt fmt` lays them out), or make_rows.py --check.
 The cases are those of tests/cases that cases.txt lists, and all of rows.jsonl.
 
-A case says what is printed for a book; its row says that `judged`, or the run of an accepted book, gives just that.
+A case says what is printed for a book; its row says that `judged`, or the run of an accepted book, gives just that. The
+expressions of all cases have rows too: the tree that the grammar gives each text, or that it has none.
 """
 
 import json
@@ -12,6 +13,7 @@ import re
 import sys
 from pathlib import Path
 
+import trees
 from books import answers_term, book_term, inventory_term, registry_term
 from expressions import codes
 
@@ -90,7 +92,7 @@ def files():
         for number, start in enumerate(range(0, len(rows), PER_FILE)):
             text = f"-- Cases of {family}, computed.\n" + HEADER.read_text() + "\n" + "\n".join(rows[start : start + PER_FILE])
             texts[f"{family.capitalize()}{number + 1:02}"] = text
-    return texts
+    return {**texts, **trees.files(cases_in(HERE.parent / "cases"))}
 
 
 def bare(text):

@@ -1,3 +1,8 @@
 pub mod Lines
 pub mod Plain
 pub mod Ordered
+pub mod Openings
+pub mod Built
+pub mod Works
+pub mod Tasks
+pub mod Copies

@@ -9,5 +9,9 @@ use Rattle.pb_book.specs.declared.book.Play.{Play}
 abbrev pub plays_of : Book → List Play
 plays_of b = b.plays.items
 
+-- the book of these plays
+abbrev pub plain_plays : List Play → language.Book
+plain_plays ps = map (λ p. plain_play p.line (plain_tasks p.tasks.items)) ps
+
 abbrev pub book_of : Book → language.Book
-book_of b = map (λ p. plain_play p.line (plain_tasks p.tasks.items)) (plays_of b)
+book_of b = plain_plays (plays_of b)

@@ -1,5 +1,5 @@
 -- The book that a JSON value is: no play, or one on all hosts, of tasks that call a module, show a message or set variables.
-use Rattle.std.specs.Prelude.{◌≡◌, ℕ, zero, suc, List, [], ◌∷◌, length, Bool, true, false, not, ◌&&◌, ◌||◌, nat_le, cond, Option, Some, None, Result, Ok, Err, codes}
+use Rattle.std.specs.Prelude.{◌≡◌, ℕ, zero, suc, List, [], ◌∷◌, length, Bool, true, false, not, ◌&&◌, ◌||◌, nat_le, cond, Option, Some, None, codes}
 use Rattle.std.specs.Str.{bytes_eq}
 use Rattle.pb_semantics.specs.Data.{Data, null, boolean, int, text, list, rec, opaque, Items, no_items, item, count_of, Fields, no_fields, field, field_value}
 use Rattle.pb_semantics.specs.Keeps.{is_among}
@@ -14,8 +14,6 @@ use Rattle.pb_language.specs.Book.{module_work, debug_work, set_fact_work}
 use Rattle.pb_language.specs.Plain.{PlainTask, plain_play}
 use Rattle.pb_book.specs.Books.{book_of}
 use Rattle.pb_book.specs.declared.book.Book.{Book}
-use Rattle.pb_book.specs.declared.fault.BookFault.{BookFault}
-use Rattle.pb_book.specs.declared.fault.BookFault.TheVariants.{NotJson, NotBuilt, NoMemory}
 
 -- a text that may be an expression is short; another may be longer
 abbrev pub text_fits : List ℕ → Bool

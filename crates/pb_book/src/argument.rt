@@ -1,9 +1,28 @@
 // The arguments of a task.
-ghost use Rattle.std.specs.Prelude.{◌≡◌, IfOk, true};
+ghost use Rattle.std.specs.Prelude.{◌≡◌, IfOk, Some, codes, true};
+ghost use Rattle.pb_language.specs.Expression.{no_parts};
+ghost use Rattle.pb_language.specs.Grammar.{has_opening, is_mark};
 ghost use Rattle.pb_language.specs.Simple.{is_simple, are_simple, parts_simple};
+ghost use Rattle.pb_value.specs.View.{view, items_view, fields_view};
 ghost use Rattle.pb_expr.specs.ExprView.{expr_view, exprs_view, parts_view};
 ghost use Rattle.pb_book.specs.Lines.{are_ascending, argument_names};
 ghost use Rattle.pb_book.specs.Meaning.{argument_parts};
+ghost use Rattle.pb_book.specs.Reading.{
+  argument_of,
+  arguments_of,
+  fields_fit,
+  fits,
+  holds_opening,
+  items_fit,
+  items_of,
+  parts_of,
+  some_field_holds,
+  some_item_holds,
+  text_fits,
+  value_of,
+  with_part,
+};
+ghost use Rattle.pb_book.specs.Results.{Gives};
 
 use crate::book::Argument;
 use crate::fault::FormFault;
@@ -28,6 +47,8 @@ const MOST_LEVELS: usize = 32;
 
 /// The arguments that a record lists, in the order of their names' bytes.
 pub(crate) fn arguments_of(alloc: Global, fields: &Fields) -> Result<Vec<Argument>, FormFault>
+    ensures given { Gives (λ found. argument_parts found.items) result
+        (arguments_of (fields_view fields.now.entries)) }
     ensures simple { IfOk result (λ found. parts_simple (argument_parts found.items) ≡ true) }
     ensures ordered { IfOk result (λ found. are_ascending (argument_names found.items) ≡ true) }
 {
@@ -43,6 +64,8 @@ pub(crate) fn arguments_of(alloc: Global, fields: &Fields) -> Result<Vec<Argumen
 
 /// The argument `cmd` with that value.
 pub(crate) fn command_line(alloc: Global, value: &Value) -> Result<Vec<Argument>, FormFault>
+    ensures given { Gives (λ found. argument_parts found.items) result
+        (with_part (codes "cmd") (argument_of (view value.now)) (Some no_parts)) }
     ensures simple { IfOk result (λ found. parts_simple (argument_parts found.items) ≡ true) }
     ensures ordered { IfOk result (λ found. are_ascending (argument_names found.items) ≡ true) }
 {
@@ -55,7 +78,8 @@ pub(crate) fn command_line(alloc: Global, value: &Value) -> Result<Vec<Argument>
 
 /// The expression that an argument's value is: the value itself where no text in it is a template.
 fn argument_value(alloc: Global, value: &Value) -> Result<Expr, FormFault>
-    ensures { IfOk result (λ e. is_simple (expr_view e) ≡ true) }
+    ensures given { Gives expr_view result (argument_of (view value.now)) }
+    ensures simple { IfOk result (λ e. is_simple (expr_view e) ≡ true) }
 {
     if !fits(value, MOST_LEVELS) {
         return Err(FormFault::NotBuilt);
@@ -65,7 +89,9 @@ fn argument_value(alloc: Global, value: &Value) -> Result<Expr, FormFault>
 
 /// Whether the value is within the limits, with at most so many levels, and holds no opaque value.
 #[cycle(fits)]
-fn fits(value: &Value, levels: usize) -> bool {
+fn fits(value: &Value, levels: usize) -> bool
+    ensures { result ≡ fits levels (view value.now) }
+{
     match value {
         Value::Null | Value::Bool(_) | Value::Int(_) => true,
         Value::Text(text) => text_fits(text.as_str()),
@@ -76,7 +102,9 @@ fn fits(value: &Value, levels: usize) -> bool {
 }
 
 #[cycle(fits)]
-fn items_fit(items: &Vec<Value>, levels: usize) -> bool {
+fn items_fit(items: &Vec<Value>, levels: usize) -> bool
+    ensures { result ≡ items_fit levels (items_view items.now.items) }
+{
     for item in items {
         if !fits(item, levels) {
             return false;
@@ -86,7 +114,9 @@ fn items_fit(items: &Vec<Value>, levels: usize) -> bool {
 }
 
 #[cycle(fits)]
-fn fields_fit(fields: &Fields, levels: usize) -> bool {
+fn fields_fit(fields: &Fields, levels: usize) -> bool
+    ensures { result ≡ fields_fit levels (fields_view fields.now.entries) }
+{
     for (_, value) in fields.iter() {
         if !fits(value, levels) {
             return false;
@@ -96,30 +126,38 @@ fn fields_fit(fields: &Fields, levels: usize) -> bool {
 }
 
 /// Whether the text is short enough: a template is one expression, and other texts may be longer.
-fn text_fits(text: &str) -> bool {
+fn text_fits(text: &str) -> bool
+    ensures { result ≡ text_fits text.now }
+{
     text.len() <= MOST_EXPRESSION_BYTES + BRACES
         || (text.len() <= MOST_TEXT_BYTES && !has_opening(text))
 }
 
 /// Whether a template, a statement or a comment begins in the text.
-fn has_opening(text: &str) -> bool {
-    let mut open = false;
+fn has_opening(text: &str) -> bool
+    ensures { result ≡ has_opening text.now }
+{
+    let mut after_brace = false;
     for byte in text.as_bytes() {
-        if open && is_mark(*byte) {
+        if after_brace && is_mark(*byte) {
             return true;
         }
-        open = *byte == b'{';
+        after_brace = *byte == b'{';
     }
     false
 }
 
-fn is_mark(byte: u8) -> bool {
+fn is_mark(byte: u8) -> bool
+    ensures { result ≡ is_mark byte }
+{
     matches!(byte, b'{' | b'%' | b'#')
 }
 
 /// Whether some text in the value is a template.
 #[cycle(template)]
-fn holds_template(value: &Value) -> bool {
+fn holds_template(value: &Value) -> bool
+    ensures { result ≡ holds_opening (view value.now) }
+{
     match value {
         Value::Text(text) => has_opening(text.as_str()),
         Value::List(items) => some_item_holds(items),
@@ -129,7 +167,9 @@ fn holds_template(value: &Value) -> bool {
 }
 
 #[cycle(template)]
-fn some_item_holds(items: &Vec<Value>) -> bool {
+fn some_item_holds(items: &Vec<Value>) -> bool
+    ensures { result ≡ some_item_holds (items_view items.now.items) }
+{
     for item in items {
         if holds_template(item) {
             return true;
@@ -139,7 +179,9 @@ fn some_item_holds(items: &Vec<Value>) -> bool {
 }
 
 #[cycle(template)]
-fn some_field_holds(fields: &Fields) -> bool {
+fn some_field_holds(fields: &Fields) -> bool
+    ensures { result ≡ some_field_holds (fields_view fields.now.entries) }
+{
     for (_, value) in fields.iter() {
         if holds_template(value) {
             return true;
@@ -150,7 +192,8 @@ fn some_field_holds(fields: &Fields) -> bool {
 
 #[cycle(expr_of)]
 fn expr_of(alloc: Global, value: &Value) -> Result<Expr, FormFault>
-    ensures { IfOk result (λ e. is_simple (expr_view e) ≡ true) }
+    ensures given { Gives expr_view result (value_of (view value.now)) }
+    ensures simple { IfOk result (λ e. is_simple (expr_view e) ≡ true) }
 {
     if !holds_template(value) {
         return Ok(Expr::Literal(value.clone()?));
@@ -165,7 +208,9 @@ fn expr_of(alloc: Global, value: &Value) -> Result<Expr, FormFault>
 
 #[cycle(expr_of)]
 fn list_of(alloc: Global, items: &Vec<Value>) -> Result<Vec<Expr>, FormFault>
-    ensures { IfOk result (λ parts. are_simple (exprs_view parts.items) ≡ true) }
+    ensures given { Gives (λ parts. exprs_view parts.items) result
+        (items_of (items_view items.now.items)) }
+    ensures simple { IfOk result (λ parts. are_simple (exprs_view parts.items) ≡ true) }
 {
     let mut parts = Vec::with_capacity(alloc, items.len())?;
     for item in items {
@@ -176,7 +221,9 @@ fn list_of(alloc: Global, items: &Vec<Value>) -> Result<Vec<Expr>, FormFault>
 
 #[cycle(expr_of)]
 fn record_of(alloc: Global, fields: &Fields) -> Result<BTreeMap<String, Expr>, FormFault>
-    ensures { IfOk result (λ parts. parts_simple (parts_view parts.entries) ≡ true) }
+    ensures given { Gives (λ parts. parts_view parts.entries) result
+        (parts_of (fields_view fields.now.entries)) }
+    ensures simple { IfOk result (λ parts. parts_simple (parts_view parts.entries) ≡ true) }
 {
     let mut parts = BTreeMap::new(alloc);
     for (name, value) in fields.iter() {

@@ -1,19 +1,33 @@
 // The book that a JSON text is.
-ghost use Rattle.std.specs.Prelude.{◌≡◌, ◌<◌, [], ◌∷◌, Err, IfOk, None, length, true};
+ghost use Rattle.std.specs.Prelude.{◌≡◌, ◌<◌, ◌≤◌, [], ◌∷◌, Err, IfOk, None, codes, length, option_map, true};
+ghost use Rattle.pb_semantics.specs.Data.{field_value};
+ghost use Rattle.pb_semantics.specs.Keeps.{is_among};
+ghost use Rattle.pb_value.specs.View.{fields_view, items_view, view};
 ghost use Rattle.pb_value.specs.FromJson.{json_data};
 ghost use Rattle.pb_sig.specs.Modules.{modules_of};
-ghost use Rattle.pb_book.specs.Books.{plays_of};
+ghost use Rattle.pb_book.specs.Books.{plain_plays, plays_of};
 ghost use Rattle.pb_language.specs.Plain.{are_plain_tasks};
-ghost use Rattle.pb_book.specs.Lines.{are_known, are_ordered, are_ordered_plays, is_numbered, names_known};
+ghost use Rattle.pb_book.specs.Lines.{are_from, are_known, are_ordered, are_ordered_plays, is_numbered, names_known};
 ghost use Rattle.pb_book.specs.Meaning.{are_plain_plays, plain_tasks};
+ghost use Rattle.pb_book.specs.Reading.{
+  IsBook,
+  IsNoBook,
+  are_keys,
+  book_from,
+  few_tasks,
+  is_play,
+  names_all,
+  play_of,
+};
+ghost use Rattle.pb_book.specs.Results.{Gives};
 
-use crate::book::{Book, Play};
+use crate::book::{Book, Play, Task};
 use crate::fault::{BookFault, FormFault};
 use crate::task::{is_named, tasks_of};
 use pb_sig::registry::Registry;
 use pb_value::read::read_json;
-use pb_value::value::{Fields, Value};
-use std::alloc::Global;
+use pb_value::value::{Fields, Value, field_of};
+use std::alloc::{AllocError, Global};
 use std::sync::Arc;
 
 /// The most bytes of a book's text.
@@ -29,7 +43,10 @@ impl Book {
     /// `NotBuilt` where there are more than 4,194,304 bytes; else `NotJson` where they aren't JSON;
     /// else `NotBuilt` where they are another JSON. `NoMemory` where memory is refused.
     pub fn read(alloc: Global, bytes: &[u8], registry: &Registry) -> Result<Book, BookFault>
+        ensures book { IfOk result (λ b. IsBook (modules_of registry.now) bytes.now b) }
         ensures known { IfOk result (λ b. names_known (modules_of registry.now) (plays_of b) ≡ true) }
+        ensures not_built { result ≡ Err BookFault.NotBuilt → length bytes.now ≤ 4194304
+            → IsNoBook (modules_of registry.now) bytes.now }
         ensures not_json { result ≡ Err BookFault.NotJson → json_data bytes.now ≡ None }
         ensures large { 4194304 < length bytes.now → result ≡ Err BookFault.NotBuilt }
     {
@@ -43,6 +60,8 @@ impl Book {
 
 // What was read is used up, so that the tasks find its memory.
 fn plays_in(alloc: Global, value: Value, registry: &Registry) -> Result<Vec<Play>, FormFault>
+    ensures given { Gives (λ ps. plain_plays ps.items) result
+        (book_from (modules_of registry.now) (view value)) }
     ensures numbered { IfOk result (λ ps. is_numbered ps.items ≡ true) }
     ensures known { IfOk result (λ ps. names_known (modules_of registry.now) ps.items ≡ true) }
     ensures plain { IfOk result (λ ps. are_plain_plays ps.items ≡ true) }
@@ -51,7 +70,7 @@ fn plays_in(alloc: Global, value: Value, registry: &Registry) -> Result<Vec<Play
     let Value::List(items) = value else {
         return Err(FormFault::NotBuilt);
     };
-    let mut items = Arc::unwrap_or_clone(items)?;
+    let mut items = own_items(items)?;
     if items.len() > 1 {
         return Err(FormFault::NotBuilt);
     }
@@ -62,6 +81,9 @@ fn plays_in(alloc: Global, value: Value, registry: &Registry) -> Result<Vec<Play
 }
 
 fn play_of(alloc: Global, value: Value, registry: &Registry) -> Result<Play, FormFault>
+    ensures given { Gives (λ p. plain_tasks p.tasks.items) result
+        (play_of (modules_of registry.now) (view value)) }
+    ensures first { IfOk result (λ p. p.line ≡ 1) }
     ensures numbered { IfOk result (λ p. is_numbered (p ∷ []) ≡ true) }
     ensures known { IfOk result (λ p. are_known (modules_of registry.now) p.tasks.items ≡ true) }
     ensures plain { IfOk result (λ p. are_plain_tasks (plain_tasks p.tasks.items) ≡ true) }
@@ -73,24 +95,81 @@ fn play_of(alloc: Global, value: Value, registry: &Registry) -> Result<Play, For
     if !is_play(&fields) {
         return Err(FormFault::NotBuilt);
     }
-    let mut fields = Arc::unwrap_or_clone(fields)?;
-    match fields.remove("tasks") {
-        Some(Value::List(items)) => Ok(Play {
-            line: FIRST_LINE,
-            tasks: tasks_of(alloc, Arc::unwrap_or_clone(items)?, registry)?,
-        }),
-        _ => Err(FormFault::NotBuilt),
+    let mut fields = own_fields(fields)?;
+    let tasks = fields.remove("tasks");
+    Ok(Play {
+        line: FIRST_LINE,
+        tasks: tasks_in(alloc, tasks, registry)?,
+    })
+}
+
+/// The tasks of a play whose field `tasks` this is.
+fn tasks_in(
+    alloc: Global,
+    tasks: Option<Value>,
+    registry: &Registry,
+) -> Result<Vec<Task>, FormFault>
+    ensures given { Gives (λ ts. plain_tasks ts.items) result
+        (few_tasks (modules_of registry.now) (option_map view tasks)) }
+    ensures lines { IfOk result (λ ts. are_from 2 ts.items ≡ true) }
+    ensures few { IfOk result (λ ts. length ts.items ≤ 4095) }
+    ensures known { IfOk result (λ ts. are_known (modules_of registry.now) ts.items ≡ true) }
+    ensures plain { IfOk result (λ ts. are_plain_tasks (plain_tasks ts.items) ≡ true) }
+    ensures ordered { IfOk result (λ ts. are_ordered ts.items ≡ true) }
+{
+    let Some(tasks) = tasks else {
+        return Err(FormFault::NotBuilt);
+    };
+    let Value::List(items) = tasks else {
+        return Err(FormFault::NotBuilt);
+    };
+    tasks_of(alloc, own_items(items)?, registry)
+}
+
+/// The items, out of the block that their copies share.
+fn own_items(items: Arc<Vec<Value>>) -> Result<Vec<Value>, AllocError>
+    ensures { IfOk result (λ own. items_view own.items ≡ items_view items.value.items) }
+{
+    Arc::unwrap_or_clone(items)
+}
+
+/// The fields, out of the block that their copies share.
+fn own_fields(fields: Arc<Fields>) -> Result<Fields, AllocError>
+    ensures { IfOk result (λ own. fields_view own.entries ≡ fields_view fields.value.entries) }
+{
+    Arc::unwrap_or_clone(fields)
+}
+
+/// Whether the record's keys are `hosts`, whose value is `all`, and perhaps `tasks` and a `name`.
+fn is_play(fields: &Fields) -> bool
+    ensures { result ≡ is_play (fields_view fields.now.entries) }
+{
+    has_play_keys(fields) && names_all(fields) && is_named(fields)
+}
+
+/// Whether each key is one that a play has.
+fn has_play_keys(fields: &Fields) -> bool
+    ensures { result ≡ are_keys (codes "hosts" ∷ codes "name" ∷ codes "tasks" ∷ [])
+        (fields_view fields.now.entries) }
+{
+    for (key, _) in fields.iter() {
+        if !is_play_key(key.as_str()) {
+            return false;
+        }
     }
+    true
 }
 
-/// Whether the record's keys are `hosts`, whose value is `all`, `tasks`, and perhaps a `name`.
-fn is_play(fields: &Fields) -> bool {
-    let keys = if fields.contains_key("name") { 3 } else { 2 };
-    fields.len() == keys && fields.contains_key("tasks") && names_all(fields) && is_named(fields)
+fn is_play_key(key: &str) -> bool
+    ensures { result ≡ is_among key.now (codes "hosts" ∷ codes "name" ∷ codes "tasks" ∷ []) }
+{
+    key == "hosts" || key == "name" || key == "tasks"
 }
 
-fn names_all(fields: &Fields) -> bool {
-    match fields.get("hosts") {
+fn names_all(fields: &Fields) -> bool
+    ensures { result ≡ names_all (field_value (codes "hosts") (fields_view fields.now.entries)) }
+{
+    match field_of(fields, "hosts") {
         Some(Value::Text(text)) => text.as_str() == "all",
         _ => false,
     }

@@ -1,6 +1,10 @@
 // The tasks of a play.
-ghost use Rattle.std.specs.Prelude.{◌≡◌, ◌≤◌, IfOk, length, true};
+ghost use Rattle.std.specs.Prelude.{◌≡◌, ◌≤◌, IfOk, Some, codes, length, option_map, string_bytes, true};
+ghost use Rattle.pb_semantics.specs.Data.{field_value, list};
+ghost use Rattle.pb_semantics.specs.Keeps.{is_among};
+ghost use Rattle.pb_value.specs.View.{view, items_view, fields_view};
 ghost use Rattle.pb_sig.specs.Modules.{modules_of};
+ghost use Rattle.pb_language.specs.Expression.{Parts};
 ghost use Rattle.pb_language.specs.Plain.{are_plain_tasks, is_plain_task};
 ghost use Rattle.pb_language.specs.Rules.{
   are_name_bytes,
@@ -10,7 +14,20 @@ ghost use Rattle.pb_language.specs.Rules.{
 };
 ghost use Rattle.pb_language.specs.Simple.{are_simple, parts_simple};
 ghost use Rattle.pb_book.specs.Lines.{are_ascending, are_from, are_known, are_ordered, argument_names, is_known};
-ghost use Rattle.pb_book.specs.Meaning.{argument_parts, condition_view, plain_task, plain_tasks};
+ghost use Rattle.pb_book.specs.Meaning.{argument_parts, condition_view, plain_task, plain_tasks, work_of};
+ghost use Rattle.pb_book.specs.Reading.{
+  condition_of,
+  few_tasks,
+  given_arguments,
+  is_named,
+  keywords,
+  register_of,
+  task_of,
+  work_of as work_in,
+  work_with,
+  works_of,
+};
+ghost use Rattle.pb_book.specs.Results.{Gives, lone};
 
 use crate::argument::{MOST_EXPRESSION_BYTES, MOST_TEXT_BYTES, arguments_of, command_line};
 use crate::book::{Argument, Task, Work};
@@ -18,7 +35,7 @@ use crate::fault::FormFault;
 use pb_expr::expr::Expr;
 use pb_expr::parse::parse_expr;
 use pb_sig::registry::Registry;
-use pb_value::value::{Fields, Value};
+use pb_value::value::{Fields, Value, field_of};
 use std::alloc::Global;
 use std::sync::Arc;
 
@@ -37,6 +54,8 @@ pub(crate) fn tasks_of(
     items: Vec<Value>,
     registry: &Registry,
 ) -> Result<Vec<Task>, FormFault>
+    ensures given { Gives (λ ts. plain_tasks ts.items) result
+        (few_tasks (modules_of registry.now) (Some (list (items_view items.items)))) }
     ensures lines { IfOk result (λ ts. are_from 2 ts.items ≡ true) }
     ensures few { IfOk result (λ ts. length ts.items ≤ 4095) }
     ensures known { IfOk result (λ ts. are_known (modules_of registry.now) ts.items ≡ true) }
@@ -57,6 +76,7 @@ pub(crate) fn tasks_of(
 
 /// The task that a record describes, which is let go.
 fn task_of(alloc: Global, value: Value, line: u32, registry: &Registry) -> Result<Task, FormFault>
+    ensures given { Gives plain_task result (task_of (modules_of registry.now) line (view value)) }
     ensures line { IfOk result (λ t. t.line ≡ line) }
     ensures known { IfOk result (λ t. is_known (modules_of registry.now) t.work ≡ true) }
     ensures plain { IfOk result (λ t. is_plain_task (plain_task t) ≡ true) }
@@ -68,9 +88,7 @@ fn task_of(alloc: Global, value: Value, line: u32, registry: &Registry) -> Resul
     if !is_named(&fields) {
         return Err(FormFault::NotBuilt);
     }
-    let (key, given) = work_entry(&fields).ok_or(FormFault::NotBuilt)?;
-    let work = work_of(key, registry)?;
-    let arguments = given_arguments(alloc, key, given)?;
+    let (work, arguments) = work_in(alloc, &fields, registry)?;
     Ok(Task {
         line,
         work,
@@ -80,9 +98,29 @@ fn task_of(alloc: Global, value: Value, line: u32, registry: &Registry) -> Resul
     })
 }
 
+/// What the task does that has these fields, and its arguments.
+fn work_in(
+    alloc: Global,
+    fields: &Fields,
+    registry: &Registry,
+) -> Result<(Work, Vec<Argument>), FormFault>
+    ensures given { Gives (λ w. work_of w.0 (argument_parts w.1.items)) result
+        (work_in (modules_of registry.now) (works_of (fields_view fields.now.entries))) }
+    ensures known { IfOk result (λ w. is_known (modules_of registry.now) w.0 ≡ true) }
+    ensures simple { IfOk result (λ w. parts_simple (argument_parts w.1.items) ≡ true) }
+    ensures ordered { IfOk result (λ w. are_ascending (argument_names w.1.items) ≡ true) }
+{
+    let (key, given) = work_entry(fields).ok_or(FormFault::NotBuilt)?;
+    let work = work_of(key, registry)?;
+    let arguments = given_arguments(alloc, key, given)?;
+    Ok((work, arguments))
+}
+
 /// Whether the name, if there is one, is a text that isn't too long.
-pub(crate) fn is_named(fields: &Fields) -> bool {
-    match fields.get("name") {
+pub(crate) fn is_named(fields: &Fields) -> bool
+    ensures { result ≡ is_named (field_value (codes "name") (fields_view fields.now.entries)) }
+{
+    match field_of(fields, "name") {
         None => true,
         Some(Value::Text(text)) => text.len() <= MOST_TEXT_BYTES,
         Some(_) => false,
@@ -90,7 +128,10 @@ pub(crate) fn is_named(fields: &Fields) -> bool {
 }
 
 /// The one entry whose key is no keyword.
-fn work_entry(fields: &Fields) -> Option<(&str, &Value)> {
+fn work_entry(fields: &Fields) -> Option<(&str, &Value)>
+    ensures { option_map (λ e. (e.0.now, view e.1.now)) result
+        ≡ lone (works_of (fields_view fields.now.entries)) }
+{
     let mut found = None;
     for (key, value) in fields.iter() {
         if !is_keyword(key.as_str()) {
@@ -103,13 +144,17 @@ fn work_entry(fields: &Fields) -> Option<(&str, &Value)> {
     found
 }
 
-fn is_keyword(key: &str) -> bool {
+fn is_keyword(key: &str) -> bool
+    ensures { result ≡ is_among key.now keywords }
+{
     key == "name" || key == "register" || key == "when"
 }
 
 /// The action or the module of that name.
 fn work_of(key: &str, registry: &Registry) -> Result<Work, FormFault>
-    ensures { IfOk result (λ w. is_known (modules_of registry.now) w ≡ true) }
+    ensures given { (ps : Parts) → Gives (λ w. work_of w ps) result
+        (work_with (modules_of registry.now) key.now (Some ps)) }
+    ensures known { IfOk result (λ w. is_known (modules_of registry.now) w ≡ true) }
 {
     if key == "debug" {
         return Ok(Work::Debug);
@@ -125,6 +170,8 @@ fn work_of(key: &str, registry: &Registry) -> Result<Work, FormFault>
 
 /// The arguments that stand at the key of a module or an action.
 fn given_arguments(alloc: Global, key: &str, given: &Value) -> Result<Vec<Argument>, FormFault>
+    ensures given { Gives (λ found. argument_parts found.items) result
+        (given_arguments key.now (view given.now)) }
     ensures simple { IfOk result (λ found. parts_simple (argument_parts found.items) ≡ true) }
     ensures ordered { IfOk result (λ found. are_ascending (argument_names found.items) ≡ true) }
 {
@@ -138,9 +185,11 @@ fn given_arguments(alloc: Global, key: &str, given: &Value) -> Result<Vec<Argume
 
 /// The condition of a task: a text that is an expression, or a truth value.
 fn condition_of(alloc: Global, fields: &Fields) -> Result<Option<Expr>, FormFault>
-    ensures { IfOk result (λ when. are_simple (condition_view when) ≡ true) }
+    ensures given { Gives condition_view result
+        (condition_of (field_value (codes "when") (fields_view fields.now.entries))) }
+    ensures simple { IfOk result (λ when. are_simple (condition_view when) ≡ true) }
 {
-    match fields.get("when") {
+    match field_of(fields, "when") {
         None => Ok(None),
         Some(Value::Bool(holds)) => Ok(Some(Expr::Literal(Value::Bool(*holds)))),
         Some(Value::Text(text)) if text.len() <= MOST_EXPRESSION_BYTES => {
@@ -151,8 +200,11 @@ fn condition_of(alloc: Global, fields: &Fields) -> Result<Option<Expr>, FormFaul
 }
 
 /// The variable that keeps the result.
-fn register_of(fields: &Fields) -> Result<Option<Arc<String>>, FormFault> {
-    match fields.get("register") {
+fn register_of(fields: &Fields) -> Result<Option<Arc<String>>, FormFault>
+    ensures { Gives (λ register. option_map (λ n. string_bytes n.value) register) result
+        (register_of (field_value (codes "register") (fields_view fields.now.entries))) }
+{
+    match field_of(fields, "register") {
         None => Ok(None),
         Some(Value::Text(text)) if is_variable(text.as_str()) => Ok(Some(text.clone()?)),
         Some(_) => Err(FormFault::NotBuilt),

@@ -1,5 +1,5 @@
 -- What the readers' answers say of the files that are judged.
-use Rattle.std.proofs.Common.{◌≡◌, ◌<◌, ◌≤◌, ◌⊎◌, ℕ, List, length, nat_lt, Bool, true, false, if◌then◌else◌, Option, Some, None, Result, Ok, Err, IfOk, refl, sym, inl, inr, ap, ◌∙◌}
+use Rattle.std.proofs.Common.{◌≡◌, ◌<◌, ◌≤◌, ℕ, List, length, nat_lt, Bool, true, false, if◌then◌else◌, Option, Some, None, Result, Ok, Err, refl, sym, inl, inr, ap, ◌∙◌}
 use Rattle.std.proofs.lemmas.Bool.{ltb-true, ltb-false, le-ltb, lt-ltb}
 use Rattle.pb_semantics.specs.Data.{Data}
 use Rattle.pb_language.specs.Book.{Book as BookData}
@@ -24,9 +24,8 @@ use Rattle.pb_verify.specs.declared.refusal.Code.{Code}
 use Rattle.pb_verify.specs.declared.refusal.Code.TheVariants.{N00, P01, I01}
 use Rattle.pb_verify.specs.declared.verify.VerifyFault.{VerifyFault}
 use Rattle.pb_verify.specs.declared.verify.VerifyFault.TheVariants as verify
-use Rattle.pb_cli.specs.Judged.{Found, whole_file, verdict, Tells, book_found, book_verdict, found_by, inventory_verdict, of_book, of_bytes, of_inventory, of_text, of_verify}
-use Rattle.pb_cli.specs.declared.judge.Fault.{Fault}
-use Rattle.pb_cli.specs.declared.judge.Fault.TheVariants.{Refused, NoMemory}
+use Rattle.pb_cli.specs.Judged.{Found, whole_file, verdict, Tells, book_verdict, found_by, inventory_verdict, of_book, of_bytes, of_inventory, of_text, of_verify}
+use Rattle.pb_cli.specs.declared.judge.Fault.TheVariants.{NoMemory}
 
 -- what is said of a text that is read so, with that code where it isn't JSON
 module _ {X : Type 0} (code : Code) (read : Data → Option X) (bs : List ℕ) where

@@ -7,3 +7,13 @@ pub mod Parsed
 pub mod Ascending
 pub mod Untaught
 pub mod Records
+pub mod Scanned
+pub mod Meanings
+pub mod Numerals
+pub mod Steps
+pub mod Fewer
+pub mod Chains
+pub mod Sorts
+pub mod Operands
+pub mod Braces
+pub mod Refusals

@@ -4,3 +4,5 @@ pub mod FitView
 pub mod OwnWorld
 pub mod Letters
 pub mod Trees
+pub mod Signs
+pub mod Forms

@@ -1,6 +1,16 @@
 // The tokens of an expression's text.
-ghost use Rattle.std.specs.Prelude.{◌≡◌, ◌+◌, ◌<◌, ◌≤◌, length, slice_range, string_bytes, IfOk, IfErr, IfSome};
+ghost use Rattle.std.specs.Prelude.{◌≡◌, ℕ, ◌+◌, ◌<◌, ◌≤◌, ◌==◌, ◌||◌, List, ◌++◌, None, Some, true, false, drop, length, slice_index, slice_range, string_bytes, IfOk, IfErr, IfSome, IfNone};
+ghost use Rattle.pb_expr.specs.Letters as letters;
+ghost use Rattle.pb_expr.specs.Letters.{IsLettered, is_lettered, letters_at, meaning_at, quoted_letters, sort_tokens, tokens_at};
 ghost use Rattle.pb_expr.specs.Place.{place_of, least_width};
+ghost use Rattle.pb_expr.specs.Signs.{begins_numeral, begins_other, may_pair, sign_with, starts_equal};
+ghost use Rattle.pb_expr.specs.Trees.{Refuses};
+ghost use Rattle.pb_language.specs.Expression.{literal};
+ghost use Rattle.pb_language.specs.Grammar.{literal_of};
+ghost use Rattle.pb_language.specs.Rules.{are_name_bytes, is_digit, is_letter};
+ghost use Rattle.pb_language.specs.Tokens as tokens;
+ghost use Rattle.pb_language.specs.Tokens.{Tokens, a_number, are_digits, escape_of, number_then, quoted, sign_then, token, tokens_from, tokens_of, unreadable, word_token};
+ghost use Rattle.pb_semantics.specs.Data.{text as text_data};
 
 use crate::fault::ExprFault;
 use std::alloc::{AllocError, Global};
@@ -52,6 +62,9 @@ pub fn token_at(text: &[u8], from: usize) -> Result<Token, ExprFault>
     ensures begins { IfOk result (λ t. from ≤ t.start) }
     ensures ends { IfOk result (λ t. t.end ≤ length text.now) }
     ensures wide { IfOk result (λ t. t.start + least_width t.sort ≤ t.end) }
+    ensures read { IfOk result (λ t. tokens_at text.now t ≡ tokens_of (drop from text.now)) }
+    ensures lettered { IfOk result (λ t. IsLettered text.now t) }
+    ensures refused { IfErr result (λ _. tokens_of (drop from text.now) ≡ unreadable) }
     ensures place { IfErr result (λ e. place_of e ≤ length text.now) }
 {
     let start = after_blanks(text, from);
@@ -63,12 +76,14 @@ pub fn token_at(text: &[u8], from: usize) -> Result<Token, ExprFault>
         });
     }
     let first = text[start];
-    match sign_at(text, start) {
-        Some(sign) => Ok(sign),
-        None if first == b'-' || first.is_ascii_digit() => number_at(text, start),
-        None if first == b'\'' || first == b'"' => text_at(text, start),
-        None if is_in_name(first) => Ok(word_at(text, start)),
-        None => Err(ExprFault::Unreadable { at: start }),
+    if begins_number(first) {
+        number_at(text, start)
+    } else if is_quote(first) {
+        text_at(text, start)
+    } else if is_in_name(first) {
+        Ok(word_at(text, start))
+    } else {
+        sign_at(text, start)
     }
 }
 
@@ -76,8 +91,9 @@ pub fn token_at(text: &[u8], from: usize) -> Result<Token, ExprFault>
 pub fn name_of(alloc: Global, text: &[u8], token: Token) -> Result<String, ExprFault>
     requires ordered { token.start ≤ token.end }
     requires within { token.end ≤ length text.now }
-    ensures named { IfOk result (λ n. string_bytes n ≡ slice_range text.now token.start token.end) }
-    ensures place { IfErr result (λ e. place_of e ≤ length text.now) }
+    requires lettered { are_name_bytes (letters_at text.now token) ≡ true }
+    ensures named { IfOk result (λ n. string_bytes n ≡ letters_at text.now token) }
+    ensures refused { IfErr result (λ e. e ≡ ExprFault.NoMemory) }
 {
     match str::from_utf8(&text[token.start..token.end]) {
         Ok(name) => Ok(String::from_str(alloc, name)?),
@@ -89,6 +105,9 @@ pub fn name_of(alloc: Global, text: &[u8], token: Token) -> Result<String, ExprF
 pub fn meaning_of(alloc: Global, text: &[u8], token: Token) -> Result<String, ExprFault>
     requires ordered { token.start + 2 ≤ token.end }
     requires within { token.end ≤ length text.now }
+    ensures read { IfOk result (λ s. literal_of (quoted (meaning_at text.now token))
+        ≡ Some (literal (text_data (string_bytes s)))) }
+    ensures refused { IfErr result (λ e. Refuses e (literal_of (quoted (meaning_at text.now token)))) }
     ensures place { IfErr result (λ e. place_of e ≤ length text.now) }
 {
     let letters = unescaped(alloc, &text[token.start + 1..token.end - 1])?;
@@ -99,7 +118,9 @@ pub fn meaning_of(alloc: Global, text: &[u8], token: Token) -> Result<String, Ex
 }
 
 /// Whether a token may be a step's name.
-pub fn is_step(sort: Sort) -> bool {
+pub fn is_step(sort: Sort) -> bool
+    ensures { result ≡ is_lettered sort }
+{
     match sort {
         Sort::Name | Sort::And | Sort::Or | Sort::Not | Sort::In | Sort::Is => true,
         Sort::True | Sort::False | Sort::None | Sort::Reserved => true,
@@ -107,11 +128,27 @@ pub fn is_step(sort: Sort) -> bool {
     }
 }
 
-fn is_blank(byte: u8) -> bool {
+fn is_blank(byte: u8) -> bool
+    ensures { result ≡ tokens.is_blank byte }
+{
     byte == b' ' || byte == b'\t' || byte == b'\n' || byte == b'\r'
 }
 
-fn is_in_name(byte: u8) -> bool {
+fn begins_number(byte: u8) -> bool
+    ensures { result ≡ begins_numeral byte }
+{
+    byte == b'-' || byte.is_ascii_digit()
+}
+
+fn is_quote(byte: u8) -> bool
+    ensures { result ≡ tokens.is_quote byte }
+{
+    byte == b'\'' || byte == b'"'
+}
+
+fn is_in_name(byte: u8) -> bool
+    ensures { result ≡ is_letter byte || is_digit byte }
+{
     byte.is_ascii_alphanumeric() || byte == b'_'
 }
 
@@ -119,6 +156,8 @@ fn after_blanks(text: &[u8], from: usize) -> usize
     requires { from ≤ length text.now }
     ensures begins { from ≤ result }
     ensures ends { result ≤ length text.now }
+    ensures same { tokens_of (drop result text.now) ≡ tokens_of (drop from text.now) }
+    ensures past { result < length text.now → tokens.is_blank (slice_index text.now result) ≡ false }
 {
     let mut at = from;
     while at < text.len() && is_blank(text[at]) {
@@ -128,29 +167,48 @@ fn after_blanks(text: &[u8], from: usize) -> usize
 }
 
 // A token of one or two signs.
-fn sign_at(text: &[u8], start: usize) -> Option<Token>
-    requires { start < length text.now }
-    ensures begins { IfSome result (λ t. t.start ≡ start) }
-    ensures ends { IfSome result (λ t. t.end ≤ length text.now) }
-    ensures wide { IfSome result (λ t. t.start + least_width t.sort ≤ t.end) }
+fn sign_at(text: &[u8], start: usize) -> Result<Token, ExprFault>
+    requires within { start < length text.now }
+    requires apart { begins_other (slice_index text.now start) ≡ false }
+    ensures begins { IfOk result (λ t. t.start ≡ start) }
+    ensures ends { IfOk result (λ t. t.end ≤ length text.now) }
+    ensures wide { IfOk result (λ t. t.start + least_width t.sort ≤ t.end) }
+    ensures read { IfOk result (λ t. tokens_at text.now t ≡ tokens_of (drop start text.now)) }
+    ensures lettered { IfOk result (λ t. is_lettered t.sort ≡ false) }
+    ensures refused { IfErr result (λ _. tokens_of (drop start text.now) ≡ unreadable) }
+    ensures place { IfErr result (λ e. place_of e ≤ length text.now) }
 {
-    let is_paired = start + 1 < text.len() && text[start + 1] == b'=';
-    let sort = sign_of(text[start], is_paired)?;
+    let is_paired = has_equal(text, start + 1);
+    let Some(sort) = sign_of(text[start], is_paired) else {
+        return Err(ExprFault::Unreadable { at: start });
+    };
     let end = if is_paired && is_pair(sort) {
         start + 2
     } else {
         start + 1
     };
-    Some(Token { sort, start, end })
+    Ok(Token { sort, start, end })
 }
 
-fn is_pair(sort: Sort) -> bool {
+fn has_equal(text: &[u8], at: usize) -> bool
+    ensures { result ≡ starts_equal (drop at text.now) }
+{
+    at < text.len() && text[at] == b'='
+}
+
+fn is_pair(sort: Sort) -> bool
+    ensures { result ≡ may_pair sort }
+{
     sort == Sort::Equal || sort == Sort::Unequal || sort == Sort::Order
 }
 
 // The sort of a sign, which a `=` may follow.
 fn sign_of(byte: u8, is_paired: bool) -> Option<Sort>
-    ensures { IfSome result (λ s. least_width s ≤ 1) }
+    ensures width { IfSome result (λ s. least_width s ≤ 1) }
+    ensures lettered { IfSome result (λ s. is_lettered s ≡ false) }
+    ensures pair { IfSome result (λ s. may_pair s ≡ tokens.is_paired byte) }
+    ensures sign { IfSome result (λ s. (n w : List ℕ) (ts : Tokens) → sort_tokens s n w ts ≡ sign_then (sign_with byte is_paired) ts) }
+    ensures refused { IfNone result (sign_with byte is_paired ≡ None) }
 {
     match byte {
         b'(' => Some(Sort::Open),
@@ -167,10 +225,13 @@ fn sign_of(byte: u8, is_paired: bool) -> Option<Sort>
 }
 
 fn word_at(text: &[u8], start: usize) -> Token
-    requires { start < length text.now }
+    requires within { start < length text.now }
+    requires letter { is_letter (slice_index text.now start) ≡ true }
     ensures begins { result.start ≡ start }
     ensures ends { result.end ≤ length text.now }
     ensures wide { result.start + least_width result.sort ≤ result.end }
+    ensures read { tokens_at text.now result ≡ tokens_of (drop start text.now) }
+    ensures lettered { are_name_bytes (letters_at text.now result) ≡ true }
 {
     let mut end = start + 1;
     while end < text.len() && is_in_name(text[end]) {
@@ -184,7 +245,8 @@ fn word_at(text: &[u8], start: usize) -> Token
 }
 
 fn word_of(word: &[u8]) -> Sort
-    ensures { least_width result ≡ 1 }
+    ensures width { least_width result ≡ 1 }
+    ensures word { (w : List ℕ) (ts : Tokens) → sort_tokens result word.now w ts ≡ token (word_token word.now) ts }
 {
     match word {
         b"and" => Sort::And,
@@ -202,21 +264,17 @@ fn word_of(word: &[u8]) -> Sort
 
 // A whole number: an optional `-`, and digits without a leading zero.
 fn number_at(text: &[u8], start: usize) -> Result<Token, ExprFault>
-    requires { start < length text.now }
+    requires within { start < length text.now }
+    requires first { begins_numeral (slice_index text.now start) ≡ true }
     ensures begins { IfOk result (λ t. t.start ≡ start) }
     ensures ends { IfOk result (λ t. t.end ≤ length text.now) }
     ensures wide { IfOk result (λ t. t.start + least_width t.sort ≤ t.end) }
+    ensures read { IfOk result (λ t. tokens_at text.now t ≡ tokens_of (drop start text.now)) }
+    ensures lettered { IfOk result (λ t. is_lettered t.sort ≡ false) }
+    ensures refused { IfErr result (λ _. tokens_of (drop start text.now) ≡ unreadable) }
     ensures place { IfErr result (λ e. place_of e ≤ length text.now) }
 {
-    let first = if text[start] == b'-' {
-        start + 1
-    } else {
-        start
-    };
-    let end = after_digits(text, first);
-    if end == first || (text[first] == b'0' && first + 1 < end) {
-        return Err(ExprFault::Unreadable { at: start });
-    }
+    let end = after_digits(text, start + 1);
     match number_of(&text[start..end]) {
         Some(number) => Ok(Token {
             sort: Sort::Int(number),
@@ -231,6 +289,9 @@ fn after_digits(text: &[u8], from: usize) -> usize
     requires { from ≤ length text.now }
     ensures begins { from ≤ result }
     ensures ends { result ≤ length text.now }
+    ensures digits { are_digits (slice_range text.now from result) ≡ true }
+    ensures read { (w : List ℕ) → tokens_from (a_number w) (drop from text.now)
+        ≡ number_then (tokens.number_of (w ++ slice_range text.now from result)) (tokens_of (drop result text.now)) }
 {
     let mut at = from;
     while at < text.len() && text[at].is_ascii_digit() {
@@ -239,15 +300,46 @@ fn after_digits(text: &[u8], from: usize) -> usize
     at
 }
 
-fn number_of(digits: &[u8]) -> Option<i64> {
-    str::from_utf8(digits).ok()?.parse::<i64>().ok()
+// The number that digits write, perhaps behind a `-`; none with a leading zero or past 64 bits.
+fn number_of(numeral: &[u8]) -> Option<i64>
+    requires filled { 0 < length numeral.now }
+    requires first { begins_numeral (slice_index numeral.now 0) ≡ true }
+    requires digits { are_digits (drop 1 numeral.now) ≡ true }
+    ensures { result ≡ tokens.number_of numeral.now }
+{
+    let digits = if numeral[0] == b'-' {
+        &numeral[1..]
+    } else {
+        numeral
+    };
+    if !is_numeral(digits) {
+        return None;
+    }
+    match str::from_utf8(numeral) {
+        Ok(text) => text.parse::<i64>().ok(),
+        Err(_) => None,
+    }
+}
+
+fn is_numeral(digits: &[u8]) -> bool
+    requires { are_digits digits.now ≡ true }
+    ensures { result ≡ tokens.is_numeral digits.now }
+{
+    match digits {
+        [] | [b'0', _, ..] => false,
+        _ => true,
+    }
 }
 
 fn text_at(text: &[u8], start: usize) -> Result<Token, ExprFault>
-    requires { start < length text.now }
+    requires within { start < length text.now }
+    requires quote { tokens.is_quote (slice_index text.now start) ≡ true }
     ensures begins { IfOk result (λ t. t.start ≡ start) }
     ensures ends { IfOk result (λ t. t.end ≤ length text.now) }
     ensures wide { IfOk result (λ t. t.start + least_width t.sort ≤ t.end) }
+    ensures read { IfOk result (λ t. tokens_at text.now t ≡ tokens_of (drop start text.now)) }
+    ensures lettered { IfOk result (λ t. is_lettered t.sort ≡ false) }
+    ensures refused { IfErr result (λ _. tokens_of (drop start text.now) ≡ unreadable) }
     ensures place { IfErr result (λ e. place_of e ≤ length text.now) }
 {
     match closing_after(text, start) {
@@ -263,17 +355,22 @@ fn text_at(text: &[u8], start: usize) -> Result<Token, ExprFault>
 // The place after the quote that ends the text which the quote at `start` begins; none where the text
 // doesn't end or has an escape that isn't known.
 fn closing_after(text: &[u8], start: usize) -> Option<usize>
-    requires { start < length text.now }
+    requires within { start < length text.now }
+    requires quote { tokens.is_quote (slice_index text.now start) ≡ true }
     ensures begins { IfSome result (λ end. start + 2 ≤ end) }
     ensures ends { IfSome result (λ end. end ≤ length text.now) }
+    ensures read { IfSome result (λ end. tokens_of (drop start text.now)
+        ≡ token (quoted (quoted_letters text.now start end)) (tokens_of (drop end text.now))) }
+    ensures refused { IfNone result (tokens_of (drop start text.now) ≡ unreadable) }
 {
     let quote = text[start];
     let mut at = start + 1;
     while at < text.len() {
-        if text[at] == quote {
+        let byte = text[at];
+        if byte == quote {
             return Some(at + 1);
         }
-        if text[at] != b'\\' {
+        if byte != b'\\' {
             at += 1;
         } else if at + 1 < text.len() && letter_of(text[at + 1]).is_some() {
             at += 2;
@@ -285,7 +382,9 @@ fn closing_after(text: &[u8], start: usize) -> Option<usize>
 }
 
 // The letter that an escape stands for.
-fn letter_of(escape: u8) -> Option<u8> {
+fn letter_of(escape: u8) -> Option<u8>
+    ensures { result ≡ escape_of escape }
+{
     match escape {
         b'\\' | b'\'' | b'"' => Some(escape),
         b'n' => Some(b'\n'),
@@ -294,7 +393,9 @@ fn letter_of(escape: u8) -> Option<u8> {
     }
 }
 
-fn unescaped(alloc: Global, inside: &[u8]) -> Result<Vec<u8>, AllocError> {
+fn unescaped(alloc: Global, inside: &[u8]) -> Result<Vec<u8>, AllocError>
+    ensures { IfOk result (λ v. v.items ≡ letters.unescaped inside.now) }
+{
     let mut letters = Vec::new(alloc);
     let mut is_escaped = false;
     for byte in inside {

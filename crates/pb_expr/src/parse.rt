@@ -1,9 +1,17 @@
 // Expressions and templates, read from their texts.
-ghost use Rattle.std.specs.Prelude.{vec_len, ◌≡◌, ◌+◌, ◌<◌, ◌≤◌, length, true, IfOk, IfErr, IfSome};
+ghost use Rattle.std.specs.Prelude.{vec_len, ◌≡◌, ◌+◌, ◌<◌, ◌≤◌, None, Some, drop, length, slice_range, true, IfOk, IfErr, IfSome};
 ghost use Rattle.pb_semantics.specs.Keeps.{is_among};
 ghost use Rattle.pb_language.specs.Simple.{is_simple, shared_names};
-ghost use Rattle.pb_expr.specs.ExprView.{expr_view};
+ghost use Rattle.pb_expr.specs.ExprView.{expr_view, names_of};
+ghost use Rattle.pb_expr.specs.Letters.{IsLettered, letters_at, tokens_at};
 ghost use Rattle.pb_expr.specs.Place.{place_of, least_width};
+ghost use Rattle.pb_expr.specs.Trees.{IsTree, Reads, Refuses};
+ghost use Rattle.pb_expr.specs.Forms.{first_literal, opening_at, related_by, with_bytes};
+ghost use Rattle.pb_language.specs.Expression.{literal};
+ghost use Rattle.pb_language.specs.Grammar.{closed, conjunction_of, cut, cut_in, deeper, disjunction_of, expression_of, is_mark, negation_of, operand_at as bare_operand, operand_of, path_of, reading, relation_of, steps_of, template_of};
+ghost use Rattle.pb_language.specs.Rules.{are_name_bytes};
+ghost use Rattle.pb_language.specs.Tokens.{is_quote as is_quote_byte, tokens_of};
+ghost use Rattle.pb_value.specs.View.{view};
 
 use crate::expr::{Expr, Path};
 use crate::fault::ExprFault;
@@ -19,6 +27,7 @@ pub const STEPS: usize = 16;
 
 /// Reads an expression.
 pub fn parse_expr(alloc: Global, text: &str) -> Result<Expr, ExprFault>
+    ensures tree { IsTree result (expression_of text.now) }
     ensures place { IfErr result (λ e. place_of e ≤ length text.now) }
     ensures simple { IfOk result (λ e. is_simple (expr_view e) ≡ true) }
 {
@@ -28,6 +37,7 @@ pub fn parse_expr(alloc: Global, text: &str) -> Result<Expr, ExprFault>
 /// Reads a text that may have templates: without any it is a literal text, and one that is `{{ e }}` from its
 /// first byte to its last is the expression `e`.
 pub fn parse_template(alloc: Global, text: &str) -> Result<Expr, ExprFault>
+    ensures tree { IsTree result (template_of text.now) }
     ensures place { IfErr result (λ e. place_of e ≤ length text.now) }
     ensures simple { IfOk result (λ e. is_simple (expr_view e) ≡ true) }
 {
@@ -42,7 +52,10 @@ pub fn parse_template(alloc: Global, text: &str) -> Result<Expr, ExprFault>
     let Some(end) = closing_of(bytes, at + 2) else {
         return Err(ExprFault::Unreadable { at: bytes.len() });
     };
-    if at != 0 || end + 2 != bytes.len() {
+    if at != 0 {
+        return Err(ExprFault::NotBuilt);
+    }
+    if end + 2 != bytes.len() {
         return Err(ExprFault::NotBuilt);
     }
     expr_from(alloc, &bytes[..end], 2)
@@ -50,7 +63,8 @@ pub fn parse_template(alloc: Global, text: &str) -> Result<Expr, ExprFault>
 
 // The place of the first `{{`, `{%` or `{#`.
 fn opening_of(text: &[u8]) -> Option<usize>
-    ensures { IfSome result (λ at. at + 2 ≤ length text.now) }
+    ensures place { result ≡ opening_at text.now }
+    ensures ends { IfSome result (λ at. at + 2 ≤ length text.now) }
 {
     let mut at = 0;
     while at + 1 < text.len() {
@@ -62,7 +76,9 @@ fn opening_of(text: &[u8]) -> Option<usize>
     None
 }
 
-fn is_opening(byte: u8) -> bool {
+fn is_opening(byte: u8) -> bool
+    ensures { result ≡ is_mark byte }
+{
     byte == b'{' || byte == b'%' || byte == b'#'
 }
 
@@ -71,19 +87,49 @@ fn closing_of(text: &[u8], from: usize) -> Option<usize>
     requires { from ≤ length text.now }
     ensures begins { IfSome result (λ at. from ≤ at) }
     ensures ends { IfSome result (λ at. at + 2 ≤ length text.now) }
+    ensures found { IfSome result (λ at. cut_in None (drop from text.now)
+        ≡ Some (cut (slice_range text.now from at) (drop (at + 2) text.now))) }
+    ensures none { result ≡ None → cut_in None (drop from text.now) ≡ None }
 {
-    let mut quote = None;
     let mut at = from;
     while at + 1 < text.len() {
         let byte = text[at];
-        match quote {
-            None if byte == b'}' && text[at + 1] == b'}' => return Some(at),
-            None if byte == b'\'' || byte == b'"' => quote = Some(byte),
-            Some(_) if byte == b'\\' => at += 1,
-            Some(open) if byte == open => quote = None,
-            _ => {}
+        if byte == b'}' && text[at + 1] == b'}' {
+            return Some(at);
         }
-        at += 1;
+        if is_quote(byte) {
+            at = after_quote(text, at + 1, byte)?;
+        } else {
+            at += 1;
+        }
+    }
+    None
+}
+
+fn is_quote(byte: u8) -> bool
+    ensures { result ≡ is_quote_byte byte }
+{
+    byte == b'\'' || byte == b'"'
+}
+
+// The place behind the next such quote that no `\` stands before.
+fn after_quote(text: &[u8], from: usize, quote: u8) -> Option<usize>
+    requires { from ≤ length text.now }
+    ensures begins { IfSome result (λ at. from ≤ at) }
+    ensures ends { IfSome result (λ at. at ≤ length text.now) }
+    ensures found { IfSome result (λ at. cut_in (Some quote) (drop from text.now)
+        ≡ with_bytes (slice_range text.now from at) (cut_in None (drop at text.now))) }
+    ensures none { result ≡ None → cut_in (Some quote) (drop from text.now) ≡ None }
+{
+    let mut at = from;
+    while at + 1 < text.len() {
+        if text[at] == b'\\' {
+            at += 2;
+        } else if text[at] == quote {
+            return Some(at + 1);
+        } else {
+            at += 1;
+        }
     }
     None
 }
@@ -91,6 +137,7 @@ fn closing_of(text: &[u8], from: usize) -> Option<usize>
 // The expression that the text is from there on.
 fn expr_from(alloc: Global, text: &[u8], from: usize) -> Result<Expr, ExprFault>
     requires { from ≤ length text.now }
+    ensures tree { IsTree result (expression_of (drop from text.now)) }
     ensures place { IfErr result (λ e. place_of e ≤ length text.now) }
     ensures simple { IfOk result (λ e. is_simple (expr_view e) ≡ true) }
 {
@@ -107,11 +154,14 @@ fn or_at(alloc: Global, text: &[u8], token: Token, depth: usize) -> Result<(Expr
     requires bounded { depth ≤ 32 }
     requires wide { token.start + least_width token.sort ≤ token.end }
     requires within { token.end ≤ length text.now }
+    requires lettered { IsLettered text.now token }
     ensures begins { IfOk result (λ r. token.start < r.1.start) }
     ensures ends { IfOk result (λ r. r.1.end ≤ length text.now) }
     ensures wide { IfOk result (λ r. r.1.start + least_width r.1.sort ≤ r.1.end) }
     ensures place { IfErr result (λ e. place_of e ≤ length text.now) }
     ensures simple { IfOk result (λ r. is_simple (expr_view r.0) ≡ true) }
+    ensures lettered { IfOk result (λ r. IsLettered text.now r.1) }
+    ensures tree { Reads text.now result (disjunction_of (deeper depth) (tokens_at text.now token)) }
 {
     let (first, mut after) = and_at(alloc, text, token, depth)?;
     if after.sort != Sort::Or {
@@ -138,11 +188,14 @@ fn and_at(
     requires bounded { depth ≤ 32 }
     requires wide { token.start + least_width token.sort ≤ token.end }
     requires within { token.end ≤ length text.now }
+    requires lettered { IsLettered text.now token }
     ensures begins { IfOk result (λ r. token.start < r.1.start) }
     ensures ends { IfOk result (λ r. r.1.end ≤ length text.now) }
     ensures wide { IfOk result (λ r. r.1.start + least_width r.1.sort ≤ r.1.end) }
     ensures place { IfErr result (λ e. place_of e ≤ length text.now) }
     ensures simple { IfOk result (λ r. is_simple (expr_view r.0) ≡ true) }
+    ensures lettered { IfOk result (λ r. IsLettered text.now r.1) }
+    ensures tree { Reads text.now result (conjunction_of (deeper depth) (tokens_at text.now token)) }
 {
     let (first, mut after) = not_at(alloc, text, token, depth)?;
     if after.sort != Sort::And {
@@ -169,11 +222,14 @@ fn not_at(
     requires bounded { depth ≤ 32 }
     requires wide { token.start + least_width token.sort ≤ token.end }
     requires within { token.end ≤ length text.now }
+    requires lettered { IsLettered text.now token }
     ensures begins { IfOk result (λ r. token.start < r.1.start) }
     ensures ends { IfOk result (λ r. r.1.end ≤ length text.now) }
     ensures wide { IfOk result (λ r. r.1.start + least_width r.1.sort ≤ r.1.end) }
     ensures place { IfErr result (λ e. place_of e ≤ length text.now) }
     ensures simple { IfOk result (λ r. is_simple (expr_view r.0) ≡ true) }
+    ensures lettered { IfOk result (λ r. IsLettered text.now r.1) }
+    ensures tree { Reads text.now result (negation_of (deeper depth) (tokens_at text.now token)) }
 {
     if token.sort != Sort::Not {
         return relation_at(alloc, text, token, depth);
@@ -196,11 +252,14 @@ fn relation_at(
     requires bounded { depth ≤ 32 }
     requires wide { token.start + least_width token.sort ≤ token.end }
     requires within { token.end ≤ length text.now }
+    requires lettered { IsLettered text.now token }
     ensures begins { IfOk result (λ r. token.start < r.1.start) }
     ensures ends { IfOk result (λ r. r.1.end ≤ length text.now) }
     ensures wide { IfOk result (λ r. r.1.start + least_width r.1.sort ≤ r.1.end) }
     ensures place { IfErr result (λ e. place_of e ≤ length text.now) }
     ensures simple { IfOk result (λ r. is_simple (expr_view r.0) ≡ true) }
+    ensures lettered { IfOk result (λ r. IsLettered text.now r.1) }
+    ensures tree { Reads text.now result (relation_of (deeper depth) (tokens_at text.now token)) }
 {
     let (left, sign) = operand_at(alloc, text, token, depth)?;
     match sign.sort {
@@ -225,7 +284,8 @@ fn relation_at(
 fn related(alloc: Global, sort: Sort, left: Expr, right: Expr) -> Result<Expr, AllocError>
     requires left { is_simple (expr_view left) ≡ true }
     requires right { is_simple (expr_view right) ≡ true }
-    ensures { IfOk result (λ e. is_simple (expr_view e) ≡ true) }
+    ensures simple { IfOk result (λ e. is_simple (expr_view e) ≡ true) }
+    ensures tree { IfOk result (λ e. expr_view e ≡ related_by sort (expr_view left) (expr_view right)) }
 {
     let left = Box::new(alloc, left)?;
     let right = Box::new(alloc, right)?;
@@ -236,7 +296,7 @@ fn related(alloc: Global, sort: Sort, left: Expr, right: Expr) -> Result<Expr, A
     }
 }
 
-// A literal, a path or an expression in parentheses.
+// A literal, a path or an expression in parentheses, and no filter behind it.
 #[cycle(parser)]
 fn operand_at(
     alloc: Global,
@@ -247,24 +307,50 @@ fn operand_at(
     requires bounded { depth ≤ 32 }
     requires wide { token.start + least_width token.sort ≤ token.end }
     requires within { token.end ≤ length text.now }
+    requires lettered { IsLettered text.now token }
     ensures begins { IfOk result (λ r. token.start < r.1.start) }
     ensures ends { IfOk result (λ r. r.1.end ≤ length text.now) }
     ensures wide { IfOk result (λ r. r.1.start + least_width r.1.sort ≤ r.1.end) }
     ensures place { IfErr result (λ e. place_of e ≤ length text.now) }
     ensures simple { IfOk result (λ r. is_simple (expr_view r.0) ≡ true) }
+    ensures lettered { IfOk result (λ r. IsLettered text.now r.1) }
+    ensures tree { Reads text.now result (operand_of (deeper depth) (tokens_at text.now token)) }
 {
-    let (operand, after) = match token.sort {
-        Sort::Open => inside(alloc, text, token, depth)?,
-        Sort::Name => path_at(alloc, text, token)?,
-        _ => {
-            let literal = literal_of(alloc, text, token)?;
-            (Expr::Literal(literal), token_at(text, token.end)?)
-        }
-    };
+    let (operand, after) = bare_operand_at(alloc, text, token, depth)?;
     if after.sort == Sort::Pipe {
         return Err(ExprFault::NotBuilt);
     }
     Ok((operand, after))
+}
+
+// The same, whatever token stands behind it.
+#[cycle(parser)]
+fn bare_operand_at(
+    alloc: Global,
+    text: &[u8],
+    token: Token,
+    depth: usize,
+) -> Result<(Expr, Token), ExprFault>
+    requires bounded { depth ≤ 32 }
+    requires wide { token.start + least_width token.sort ≤ token.end }
+    requires within { token.end ≤ length text.now }
+    requires lettered { IsLettered text.now token }
+    ensures begins { IfOk result (λ r. token.start < r.1.start) }
+    ensures ends { IfOk result (λ r. r.1.end ≤ length text.now) }
+    ensures wide { IfOk result (λ r. r.1.start + least_width r.1.sort ≤ r.1.end) }
+    ensures place { IfErr result (λ e. place_of e ≤ length text.now) }
+    ensures simple { IfOk result (λ r. is_simple (expr_view r.0) ≡ true) }
+    ensures lettered { IfOk result (λ r. IsLettered text.now r.1) }
+    ensures tree { Reads text.now result (bare_operand (deeper depth) (tokens_at text.now token)) }
+{
+    match token.sort {
+        Sort::Open => inside(alloc, text, token, depth),
+        Sort::Name => path_at(alloc, text, token),
+        _ => {
+            let literal = literal_of(alloc, text, token)?;
+            Ok((Expr::Literal(literal), token_at(text, token.end)?))
+        }
+    }
 }
 
 // What stands in the parentheses that the token opens.
@@ -283,6 +369,9 @@ fn inside(
     ensures wide { IfOk result (λ r. r.1.start + least_width r.1.sort ≤ r.1.end) }
     ensures place { IfErr result (λ e. place_of e ≤ length text.now) }
     ensures simple { IfOk result (λ r. is_simple (expr_view r.0) ≡ true) }
+    ensures lettered { IfOk result (λ r. IsLettered text.now r.1) }
+    ensures tree { Reads text.now result
+        (closed ((deeper depth).whole (tokens_of (drop token.end text.now)))) }
 {
     if depth == 0 {
         return Err(ExprFault::TooDeep);
@@ -299,6 +388,8 @@ fn literal_of(alloc: Global, text: &[u8], token: Token) -> Result<Value, ExprFau
     requires wide { token.start + least_width token.sort ≤ token.end }
     requires within { token.end ≤ length text.now }
     ensures wide { IfOk result (λ _. token.start < token.end) }
+    ensures read { IfOk result (λ v. first_literal (tokens_at text.now token) ≡ Some (literal (view v))) }
+    ensures refused { IfErr result (λ e. Refuses e (first_literal (tokens_at text.now token))) }
     ensures place { IfErr result (λ e. place_of e ≤ length text.now) }
 {
     match token.sort {
@@ -315,10 +406,14 @@ fn literal_of(alloc: Global, text: &[u8], token: Token) -> Result<Value, ExprFau
 fn path_at(alloc: Global, text: &[u8], token: Token) -> Result<(Expr, Token), ExprFault>
     requires wide { token.start < token.end }
     requires within { token.end ≤ length text.now }
+    requires lettered { are_name_bytes (letters_at text.now token) ≡ true }
     ensures begins { IfOk result (λ r. token.start < r.1.start) }
     ensures ends { IfOk result (λ r. r.1.end ≤ length text.now) }
     ensures wide { IfOk result (λ r. r.1.start + least_width r.1.sort ≤ r.1.end) }
     ensures place { IfErr result (λ e. place_of e ≤ length text.now) }
+    ensures lettered { IfOk result (λ r. IsLettered text.now r.1) }
+    ensures tree { Reads text.now result
+        (path_of (letters_at text.now token) (tokens_of (drop token.end text.now))) }
     ensures simple { IfOk result (λ r. is_simple (expr_view r.0) ≡ true) }
 {
     if is_special(&text[token.start..token.end]) {
@@ -345,10 +440,15 @@ fn is_special(root: &[u8]) -> bool
 fn steps_at(alloc: Global, text: &[u8], token: Token) -> Result<(Vec<String>, Token), ExprFault>
     requires wide { token.start + least_width token.sort ≤ token.end }
     requires within { token.end ≤ length text.now }
+    requires lettered { IsLettered text.now token }
     ensures short { IfOk result (λ r. vec_len r.0 ≤ 16) }
     ensures begins { IfOk result (λ r. token.start ≤ r.1.start) }
     ensures ends { IfOk result (λ r. r.1.end ≤ length text.now) }
     ensures wide { IfOk result (λ r. r.1.start + least_width r.1.sort ≤ r.1.end) }
+    ensures lettered { IfOk result (λ r. IsLettered text.now r.1) }
+    ensures read { IfOk result (λ r. steps_of 16 (tokens_at text.now token)
+        ≡ Some (reading (names_of r.0.items) (tokens_at text.now r.1))) }
+    ensures refused { IfErr result (λ e. Refuses e (steps_of 16 (tokens_at text.now token))) }
     ensures place { IfErr result (λ e. place_of e ≤ length text.now) }
 {
     let mut steps = Vec::new(alloc);

@@ -43,3 +43,11 @@ pub mod Template01
 pub mod Template02
 pub mod Large
 mod Texts
+pub mod Trees01
+pub mod Trees02
+pub mod Trees03
+pub mod Trees04
+pub mod Trees05
+pub mod Trees06
+pub mod Trees07
+pub mod Trees08

@@ -16,7 +16,8 @@ use Rattle.pb_book.specs.Lines.{are_from, is_numbered}
 use Rattle.pb_book.specs.Meaning.{plain_tasks, are_plain_plays}
 use Rattle.pb_book.specs.declared.book.Play.{Play}
 use Rattle.pb_book.specs.declared.book.Task.{Task}
-use Rattle.pb_verify.specs.Judges.{plays_mean, tasks_verdict}
+use Rattle.pb_book.specs.Books.{plain_plays}
+use Rattle.pb_verify.specs.Judges.{tasks_verdict}
 use Rattle.pb_verify.specs.Meaning.{or_later, accepts}
 
 both_offences : (o p : Option Refusal) (v : Verdict) → offence_verdict o (offence_verdict p v) ≡ offence_verdict (or_later o p) v
@@ -33,7 +34,7 @@ counted (t ∷ ts) = ap suc (counted ts)
 
 -- one play is judged in one pass
 pub one_play : (ms : Registry) (h : Name) (inventory : Inventory) (p : Play) → inventory ≡ lone_host h → is_numbered (p ∷ []) ≡ true → are_plain_plays (p ∷ []) ≡ true
-    → judged ms inventory (plays_mean (p ∷ [])) ≡ tasks_verdict ms h (plain_tasks p.tasks.items)
+    → judged ms inventory (plain_plays (p ∷ [])) ≡ tasks_verdict ms h (plain_tasks p.tasks.items)
 one_play ms h inventory p e n q =
     let ts = p.tasks.items in
     let later = are_from 2 ts && nat_le (length ts) 4095 in
@@ -42,7 +43,7 @@ one_play ms h inventory p e n q =
     let plain = and-left (are_plain_tasks (plain_tasks ts)) true q in
     let from : are_lined (suc p.line) (plain_tasks ts) ≡ true = rw first (sym (lined 2 ts) ∙ and-left (are_from 2 ts) (nat_le (length ts) 4095) rest) in
     let few : nat_le (length (plain_tasks ts)) 4095 ≡ true = rw (counted ts) (and-right (are_from 2 ts) (nat_le (length ts) 4095) rest) in
-    ap (λ i. judged ms i (plays_mean (p ∷ []))) e ∙ plain_judged ms h p.line (plain_tasks ts) plain from few
+    ap (λ i. judged ms i (plain_plays (p ∷ []))) e ∙ plain_judged ms h p.line (plain_tasks ts) plain from few
     ∙ both_offences (plain_rules ms (plain_tasks ts)) (plain_flow ms h 0 no_slots (plain_tasks ts)) (accepted (plain_calls (plain_tasks ts)))
 
 -- a list of one item

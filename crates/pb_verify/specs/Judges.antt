@@ -1,27 +1,21 @@
 -- What it is to judge: an accepted book with the number of the verdict, else its refusal.
-use Rattle.std.specs.Prelude.{◌≡◌, ℕ, List, map, Result, Ok, Err, Bool}
+use Rattle.std.specs.Prelude.{◌≡◌, ℕ, List, Result, Ok, Err, Bool}
 use Rattle.pb_semantics.specs.Kind.{no_slots}
 use Rattle.pb_language.specs.Expression.{Name}
-use Rattle.pb_language.specs.Book.{Book, Registry}
+use Rattle.pb_language.specs.Book.{Registry}
 use Rattle.pb_language.specs.Judged.{judged}
 use Rattle.pb_language.specs.Machine.{Event, State}
 use Rattle.pb_language.specs.Theorem.{run_of}
-use Rattle.pb_language.specs.Plain.{PlainTask, plain_play}
+use Rattle.pb_language.specs.Plain.{PlainTask}
 use Rattle.pb_language.specs.Verdict.{Verdict, accepted, refused, offence_verdict}
 use Rattle.pb_language.proofs.PlainPass.{plain_rules, plain_flow, plain_calls}
 use Rattle.pb_sig.specs.Modules.{modules_of}
 use Rattle.pb_inventory.specs.Inventory.{inventory_view}
 use Rattle.pb_book.specs.Books.{book_of}
-use Rattle.pb_book.specs.Meaning.{plain_tasks}
-use Rattle.pb_book.specs.declared.book.Play.{Play}
 use Rattle.pb_verify.specs.Meaning.{inventory_of, refusal_of, accepts, or_later}
 use Rattle.pb_verify.specs.declared.checked.Accepted.{Accepted}
 use Rattle.pb_verify.specs.declared.verify.VerifyFault.{VerifyFault}
 use Rattle.pb_verify.specs.declared.verify.VerifyFault.TheVariants.{Refused, NoMemory}
-
--- the book of these plays
-abbrev pub plays_mean : List Play → Book
-plays_mean ps = map (λ p. plain_play p.line (plain_tasks p.tasks.items)) ps
 
 -- the rules, then the host's way, then the number of calls
 abbrev pub tasks_verdict : Registry → Name → List PlainTask → Verdict

@@ -10,10 +10,10 @@ ghost use Rattle.pb_language.proofs.PlainPass.{plain_rules, plain_flow};
 ghost use Rattle.pb_semantics.specs.Kind.{no_slots};
 ghost use Rattle.pb_sig.specs.Modules.{modules_of};
 ghost use Rattle.pb_inventory.specs.Inventory.{inventory_view};
-ghost use Rattle.pb_book.specs.Books.{plays_of, book_of};
+ghost use Rattle.pb_book.specs.Books.{plays_of, book_of, plain_plays};
 ghost use Rattle.pb_book.specs.Lines.{are_known, is_numbered, names_known};
 ghost use Rattle.pb_book.specs.Meaning.{are_plain_plays, plain_tasks};
-ghost use Rattle.pb_verify.specs.Judges.{Judges, Refuses, plays_mean, tasks_verdict};
+ghost use Rattle.pb_verify.specs.Judges.{Judges, Refuses, tasks_verdict};
 ghost use Rattle.pb_verify.specs.Meaning.{code_number, inventory_of, refusal_of, or_later};
 
 use crate::budget::calls_in;
@@ -92,7 +92,7 @@ fn judge(
     requires numbered { is_numbered plays.now ≡ true }
     requires plain { are_plain_plays plays.now ≡ true }
     requires known { names_known (modules_of registry.now) plays.now ≡ true }
-    ensures { Judges result (judged (modules_of registry.now) (inventory_of (inventory_view inventory.now)) (plays_mean plays.now)) }
+    ensures { Judges result (judged (modules_of registry.now) (inventory_of (inventory_view inventory.now)) (plain_plays plays.now)) }
 {
     match plays {
         [play] => judge_tasks(alloc, play.tasks.as_slice(), inventory, registry),

@@ -1,7 +1,6 @@
 use Rattle.std.proofs.Common.{Err, Ok, sym, ap, ◌∙◌, subst}
 use Rattle.std.proofs.lemmas.Result.{err_from_is_err_and}
 use Rattle.pb_language.specs.Judged.{judged}
-use Rattle.pb_language.specs.Verdict.{Verdict, accepted}
 use Rattle.pb_sig.specs.Table.{builtins}
 use Rattle.pb_inventory.specs.Inventory.{inventory_view}
 use Rattle.pb_book.specs.Books.{book_of}

@@ -6,7 +6,8 @@ use Rattle.pb_language.specs.Verdict.{Verdict}
 use Rattle.pb_book.specs.Lines.{is_numbered}
 use Rattle.pb_book.specs.Meaning.{are_plain_plays, plain_tasks}
 use Rattle.pb_book.specs.declared.book.Play.{Play}
-use Rattle.pb_verify.specs.Judges.{Judges, plays_mean, tasks_verdict}
+use Rattle.pb_book.specs.Books.{plain_plays}
+use Rattle.pb_verify.specs.Judges.{Judges, tasks_verdict}
 use Rattle.pb_verify.specs.Meaning.{inventory_of}
 use Rattle.pb_verify.proofs.Lone.{alone}
 use Rattle.pb_verify.proofs.Verdicts.{one_play, only_item}
@@ -21,5 +22,5 @@ returns-in-len1 c =
     let numbered = subst (λ (ps : List Play). is_numbered ps ≡ true) is c.requires.numbered in
     let plain = subst (λ (ps : List Play). are_plain_plays ps ≡ true) is c.requires.plain in
     subst (λ (v : Verdict). Judges c.judge_tasks.result v)
-    (ap (λ ts. tasks_verdict ms a.host.name (plain_tasks ts)) c.as_slice.ensures.value ∙ sym (ap (λ ps. judged ms (inventory_of (inventory_view c.args.inventory.now)) (plays_mean ps)) is ∙ one_play ms a.host.name (inventory_of (inventory_view c.args.inventory.now)) p a.stands numbered plain))
+    (ap (λ ts. tasks_verdict ms a.host.name (plain_tasks ts)) c.as_slice.ensures.value ∙ sym (ap (λ ps. judged ms (inventory_of (inventory_view c.args.inventory.now)) (plain_plays ps)) is ∙ one_play ms a.host.name (inventory_of (inventory_view c.args.inventory.now)) p a.stands numbered plain))
     (c.judge_tasks.ensures a.host.name a.stands)

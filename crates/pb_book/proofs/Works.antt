@@ -1,0 +1,82 @@
+-- What a task does, by the one entry whose key is no keyword.
+use Rattle.std.proofs.Common.{◌≡◌, ℕ, List, String, Global, BTreeMap, Option, Some, None, Bool, true, false, bytes_eq, codes, refl, sym, ap, ◌∙◌}
+use Rattle.std.specs.declared.sync.Arc.{Arc}
+use Rattle.pb_semantics.specs.Data.{Data, Fields, no_fields, field, field_value}
+use Rattle.pb_semantics.specs.Signature.{ModuleData}
+use Rattle.pb_sig.specs.Modules.{module_at}
+use Rattle.pb_language.specs.Book as language
+use Rattle.pb_language.specs.Book.{module_work}
+use Rattle.pb_language.specs.Expression.{Name, Expressions, Parts}
+use Rattle.pb_value.specs.View.{view, fields_view}
+use Rattle.pb_value.specs.declared.value.Value as Value-of
+use Rattle.pb_value.specs.declared.value.Value.{Value}
+use Rattle.pb_book.specs.Reading.{condition_of, few_tasks, given_arguments, is_named, is_play, play_of, register_of, task_of, task_with, work_of, work_with, works_of}
+use Rattle.pb_book.specs.Results.{lone}
+use Rattle.pb_book.proofs.Copies.{view-fields}
+
+abbrev Map : Type 0
+Map = BTreeMap (String Global) Value
+
+-- the entry that was found, if any, before others
+abbrev pub entry_before : Option (Name × Data) → Fields → Fields
+entry_before None fs = fs
+entry_before (Some e) fs = field e.0 e.1 fs
+
+-- a key that is no action's is a module's
+pub work_with-module : (ms : List ModuleData) (k : Name) (ps : Parts) (m : ModuleData) → bytes_eq k (codes "debug") ≡ false → bytes_eq k (codes "set_fact") ≡ false → module_at k ms ≡ Some m
+    → work_with ms k (Some ps) ≡ Some (module_work k ps)
+work_with-module ms k ps m p q found = rw (p, q, found) refl
+
+-- the entry does the work, where there is exactly one
+pub work_of-lone : (ms : List ModuleData) (fs : Fields) (k : Name) (d : Data) → lone fs ≡ Some (k, d) → work_of ms fs ≡ work_with ms k (given_arguments k d)
+work_of-lone ms no_fields k d h = absurd (cc)
+work_of-lone ms (field l e no_fields) k d h =
+    let same : ◌≡◌ {A = Name × Data} (l, e) (k, d) = cc in
+    ap (λ (x : Name × Data). work_with ms x.0 (given_arguments x.0 x.1)) same
+work_of-lone ms (field l e (field m f fs)) k d h = absurd (cc)
+
+pub work_of-none : (ms : List ModuleData) (fs : Fields) → lone fs ≡ None → work_of ms fs ≡ None
+work_of-none ms no_fields h = refl
+work_of-none ms (field l e no_fields) h = absurd (cc)
+work_of-none ms (field l e (field m f fs)) h = refl
+
+-- what has no name has none with any arguments
+pub work_with-none : (ms : List ModuleData) (k : Name) (o : Option Parts) → ((ps : Parts) → work_with ms k (Some ps) ≡ None) → work_with ms k o ≡ None
+work_with-none ms k None h = refl
+work_with-none ms k (Some ps) h = h ps
+
+-- a task whose name may stand has its work, its condition and its register
+pub task_of-named : (ms : List ModuleData) (l : ℕ) (v : Value) (fields : Arc Map Global) (m : Map) (b : Bool) → v ≡ Value-of.Rec fields → m ≡ fields.value
+    → b ≡ is_named (field_value (codes "name") (fields_view m.entries)) → b ≡ true
+    → task_of ms l (view v) ≡ task_with l (work_of ms (works_of (fields_view fields.value.entries))) (condition_of (field_value (codes "when") (fields_view fields.value.entries))) (register_of (field_value (codes "register") (fields_view fields.value.entries)))
+task_of-named ms l v fields m b is behind e h =
+    let named : is_named (field_value (codes "name") (fields_view m.entries)) ≡ true = sym e ∙ h in
+    ap (task_of ms l) (view-fields v fields m is behind) ∙ rw (named, behind)
+
+pub task_of-unnamed : (ms : List ModuleData) (l : ℕ) (v : Value) (fields : Arc Map Global) (m : Map) (b : Bool) → v ≡ Value-of.Rec fields → m ≡ fields.value
+    → b ≡ is_named (field_value (codes "name") (fields_view m.entries)) → b ≡ false → task_of ms l (view v) ≡ None
+task_of-unnamed ms l v fields m b is behind e h =
+    let unnamed : is_named (field_value (codes "name") (fields_view m.entries)) ≡ false = sym e ∙ h in
+    ap (task_of ms l) (view-fields v fields m is behind) ∙ rw unnamed
+
+pub no_condition : (l : ℕ) (w : Option language.Work) (n : Option (Option Name)) → task_with l w None n ≡ None
+no_condition l None n = refl
+no_condition l (Some w) n = refl
+
+pub no_register : (l : ℕ) (w : Option language.Work) (es : Option Expressions) → task_with l w es None ≡ None
+no_register l None es = refl
+no_register l (Some w) None = refl
+no_register l (Some w) (Some es) = refl
+
+-- a play has the tasks of its field
+pub play_of-play : (ms : List ModuleData) (v : Value) (fields : Arc Map Global) (m : Map) (b : Bool) → v ≡ Value-of.Rec fields → m ≡ fields.value → b ≡ is_play (fields_view m.entries) → b ≡ true
+    → play_of ms (view v) ≡ few_tasks ms (field_value (codes "tasks") (fields_view fields.value.entries))
+play_of-play ms v fields m b is behind e h =
+    let play : is_play (fields_view m.entries) ≡ true = sym e ∙ h in
+    ap (play_of ms) (view-fields v fields m is behind) ∙ rw (play, behind)
+
+pub play_of-other : (ms : List ModuleData) (v : Value) (fields : Arc Map Global) (m : Map) (b : Bool) → v ≡ Value-of.Rec fields → m ≡ fields.value → b ≡ is_play (fields_view m.entries) → b ≡ false
+    → play_of ms (view v) ≡ None
+play_of-other ms v fields m b is behind e h =
+    let other : is_play (fields_view m.entries) ≡ false = sym e ∙ h in
+    ap (play_of ms) (view-fields v fields m is behind) ∙ rw other

@@ -1,0 +1,66 @@
+use Rattle.std.proofs.Common.{◌≡◌, ◌∙◌, String, Global, Vec, BTreeMap, Option, Some, codes, option_map, string_bytes, ap, sym}
+use Rattle.std.specs.declared.sync.Arc.{Arc}
+use Rattle.pb_semantics.specs.Data.{field_value}
+use Rattle.pb_value.specs.View.{fields_view}
+use Rattle.pb_value.specs.declared.value.Value.{Value}
+use Rattle.pb_sig.specs.Modules.{modules_of}
+use Rattle.pb_book.specs.Meaning.{argument_parts, condition_view, plain_task}
+use Rattle.pb_book.specs.Meaning as meaning
+use Rattle.pb_book.specs.Reading.{condition_of, register_of, task_with, work_of, works_of}
+use Rattle.pb_book.specs.declared.book.Argument.{Argument}
+use Rattle.pb_book.specs.declared.book.Work.{Work}
+use Rattle.pb_book.proofs.Built.{refused-exit}
+use Rattle.pb_book.proofs.Works.{task_of-named, task_of-unnamed, no_condition, no_register}
+use Rattle.pb_book.proofs.task.task_of.Goals as goal
+
+abbrev Map : Type 0
+Map = BTreeMap (String Global) Value
+
+pub returns-then-not-is_named-clause-given : goal.returns-then-not-is_named-clause-given
+returns-then-not-is_named-clause-given c = task_of-unnamed _ _ _ _ _ _ c.in-Rec.is c.deref.ensures c.is_named.ensures c.if-not-is_named.true
+
+pub returns-in_err-work-clause-given : goal.returns-in_err-work-clause-given
+returns-in_err-work-clause-given c =
+    let ms = modules_of c.args.registry.now in
+    let fs = fields_view c.in-Rec.fields.value.entries in
+    let all = task_of-named ms c.args.line _ _ _ _ c.in-Rec.is c.deref.ensures c.is_named.ensures c.if-not-is_named.false in
+    let same = ap (λ (m : Map). work_of ms (works_of (fields_view m.entries))) (sym c.deref-2.ensures) in
+    refused-exit (λ (w : Work × Vec Argument Global). meaning.work_of w.0 (argument_parts w.1.items)) plain_task _ _ _ _ c.from_residual.ensures.1 c.in_err-work.ensures.given
+    (λ none. all ∙ ap (λ w. task_with c.args.line w (condition_of (field_value (codes "when") fs)) (register_of (field_value (codes "register") fs))) (same ∙ none))
+
+pub returns-in_err-condition_of-clause-given : goal.returns-in_err-condition_of-clause-given
+returns-in_err-condition_of-clause-given c =
+    let ms = modules_of c.args.registry.now in
+    let l = c.args.line in
+    let fs = fields_view c.in-Rec.fields.value.entries in
+    let all = task_of-named ms l _ _ _ _ c.in-Rec.is c.deref.ensures c.is_named.ensures c.if-not-is_named.false in
+    let same = ap (λ (m : Map). condition_of (field_value (codes "when") (fields_view m.entries))) (sym c.deref-3.ensures) in
+    let work = work_of ms (works_of fs) in
+    let register = register_of (field_value (codes "register") fs) in
+    refused-exit condition_view plain_task _ _ _ _ c.from_residual-in_err-condition_of.ensures.1 c.in_err-condition_of.ensures.given
+    (λ none. all ∙ ap (λ es. task_with l work es register) (same ∙ none) ∙ no_condition l work register)
+
+pub returns-in_err-register_of-clause-given : goal.returns-in_err-register_of-clause-given
+returns-in_err-register_of-clause-given c =
+    let ms = modules_of c.args.registry.now in
+    let l = c.args.line in
+    let fs = fields_view c.in-Rec.fields.value.entries in
+    let all = task_of-named ms l _ _ _ _ c.in-Rec.is c.deref.ensures c.is_named.ensures c.if-not-is_named.false in
+    let same = ap (λ (m : Map). register_of (field_value (codes "register") (fields_view m.entries))) (sym c.deref-4.ensures) in
+    let work = work_of ms (works_of fs) in
+    let condition = condition_of (field_value (codes "when") fs) in
+    refused-exit (λ (register : Option (Arc (String Global) Global)). option_map (λ n. string_bytes n.value) register) plain_task _ _ _ _ c.from_residual-in_err-register_of.ensures.1 c.in_err-register_of.ensures
+    (λ none. all ∙ ap (λ n. task_with l work condition n) (same ∙ none) ∙ no_register l work condition)
+
+pub returns-clause-given : goal.returns-clause-given
+returns-clause-given c =
+    let ms = modules_of c.args.registry.now in
+    let fs = fields_view c.in-Rec.fields.value.entries in
+    let all = task_of-named ms c.args.line _ _ _ _ c.in-Rec.is c.deref.ensures c.is_named.ensures c.if-not-is_named.false in
+    let works : work_of ms (works_of fs) ≡ Some (meaning.work_of c.in_ok-work.work (argument_parts c.in_ok-work.arguments.items)) =
+    ap (λ (m : Map). work_of ms (works_of (fields_view m.entries))) (sym c.deref-2.ensures) ∙ c.in_ok-work.ensures.given in
+    let conditions : condition_of (field_value (codes "when") fs) ≡ Some (condition_view c.in_ok-condition_of.field-0) =
+    ap (λ (m : Map). condition_of (field_value (codes "when") (fields_view m.entries))) (sym c.deref-3.ensures) ∙ c.in_ok-condition_of.ensures.given in
+    let registers : register_of (field_value (codes "register") fs) ≡ Some (option_map (λ n. string_bytes n.value) c.in_ok-register_of.field-0) =
+    ap (λ (m : Map). register_of (field_value (codes "register") (fields_view m.entries))) (sym c.deref-4.ensures) ∙ c.in_ok-register_of.ensures in
+    all ∙ rw (works, conditions, registers)

@@ -1,0 +1,24 @@
+-- The loop that goes to a word's end.
+use Rattle.std.proofs.Common.{◌∙◌, arith}
+use Rattle.pb_expr.proofs.Scanned.{names-begin, names-turn, word-begins, word-turn}
+use Rattle.pb_expr.proofs.lexer.word_at.Goals as goal
+
+pub loop-end-init : goal.loop-end-init
+loop-end-init c =
+    let text = c.args.text.now in let start = c.args.start in
+    record {
+      begins = omega arith;
+      ends = omega arith;
+      lettered = names-begin text start (omega arith) c.requires.letter;
+      read = word-begins text start (omega arith) (c.type_inv.text start).fits c.requires.letter;
+    }
+
+pub loop-end-preserved : goal.loop-end-preserved
+loop-end-preserved c =
+    let text = c.args.text.now in let start = c.args.start in let end = c.loop-end.end in
+    record {
+      begins = omega arith;
+      ends = omega arith;
+      lettered = names-turn text start end (omega arith) (omega arith) (cc) c.loop-end.invariant.lettered;
+      read = c.loop-end.invariant.read ∙ word-turn text start end (omega arith) (omega arith) (cc);
+    }

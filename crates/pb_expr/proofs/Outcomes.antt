@@ -6,6 +6,7 @@ use Rattle.pb_language.specs.World.{World}
 use Rattle.pb_language.specs.Evaluation.{Outcome, Stuck, value, stuck, wrong_sort, then_go, only_boolean, negated, and_then, or_then, holds_opaque, equal_values, found_in, put_item, put_part, eval, eval_all, eval_any}
 use Rattle.pb_value.specs.View.{view, items_view}
 use Rattle.pb_value.specs.declared.value.Value.{Value}
+use Rattle.pb_value.proofs.Projections.{append_fields}
 use Rattle.pb_expr.specs.ExprView.{truth, is_unreadable}
 use Rattle.pb_expr.specs.OwnWorld.{shown}
 
@@ -155,10 +156,6 @@ items-end (item d ds) = rw (items-end ds) refl
 abbrev pub after_fields : Fields → Outcome → Outcome
 after_fields no_fields o = o
 after_fields (field n d fs) o = with_first_field n d (after_fields fs o)
-
-abbrev pub append_fields : Fields → Fields → Fields
-append_fields no_fields gs = gs
-append_fields (field n d fs) gs = field n d (append_fields fs gs)
 
 after_fields-stuck : (fs : Fields) (s : Stuck) → after_fields fs (stuck s) ≡ stuck s
 after_fields-stuck no_fields s = refl

@@ -10,7 +10,8 @@ use Rattle.pb_value.specs.declared.value.Value.{Value}
 use Rattle.pb_expr.specs.ExprView.{expr_view, exprs_view, parts_view, truth, is_unreadable}
 use Rattle.pb_expr.specs.OwnWorld.{shown}
 use Rattle.pb_expr.specs.declared.expr.Expr.{Expr}
-use Rattle.pb_expr.proofs.Outcomes.{and-true, or-false, after_items, items-spoilt, items-step, items-end, after_fields, append_fields, fields-spoilt, fields-step}
+use Rattle.pb_value.proofs.Projections.{append_fields}
+use Rattle.pb_expr.proofs.Outcomes.{and-true, or-false, after_items, items-spoilt, items-step, items-end, after_fields, fields-spoilt, fields-step}
 
 pub drop-at : {A : Type 0} → (xs : List A) (i : ℕ) (x : A) → i < length xs → x ≡ get_or xs i x → drop i xs ≡ x ∷ drop (i + 1) xs
 drop-at xs i x h e = rw add-one (drop-cons xs i x h ∙ ap (λ y. y ∷ drop (suc i) xs) (sym e))

@@ -9,7 +9,8 @@ use Rattle.pb_value.proofs.Fields.{put_last}
 use Rattle.pb_expr.specs.ExprView.{expr_view, exprs_view, parts_view}
 use Rattle.pb_expr.specs.OwnWorld.{shown}
 use Rattle.pb_expr.specs.declared.expr.Expr.{Expr}
-use Rattle.pb_expr.proofs.Outcomes.{negated-by, equal-by, unequal-by, found-by, after_items, after_fields, append_fields, fields-end}
+use Rattle.pb_value.proofs.Projections.{append_fields}
+use Rattle.pb_expr.proofs.Outcomes.{negated-by, equal-by, unequal-by, found-by, after_items, after_fields, fields-end}
 use Rattle.pb_expr.proofs.Exprs.{view-Bool, view-Opaque, view-Not, view-Equal, view-Unequal, view-In}
 use Rattle.pb_expr.proofs.Turns.{all-turn, all-done, any-turn, any-done, list-turn, list-spoilt, list-done, record-turn, record-spoilt, fields-last}
 use Rattle.pb_expr.proofs.eval.+eval.Goals as goal

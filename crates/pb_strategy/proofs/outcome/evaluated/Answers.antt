@@ -8,7 +8,8 @@ use Rattle.pb_expr.specs.ExprView.{expr_view, parts_view}
 use Rattle.pb_expr.specs.OwnWorld.{own_world, shown}
 use Rattle.pb_expr.specs.declared.expr.Expr.{Expr}
 use Rattle.pb_expr.proofs.Ascending.{Ascending}
-use Rattle.pb_expr.proofs.Outcomes.{after_fields, append_fields, fields-end}
+use Rattle.pb_value.proofs.Projections.{append_fields}
+use Rattle.pb_expr.proofs.Outcomes.{after_fields, fields-end}
 use Rattle.pb_expr.proofs.Exprs.{view-Opaque}
 use Rattle.pb_expr.proofs.Turns.{drop-at, record-turn, record-spoilt, fields-last}
 use Rattle.pb_strategy.specs.OwnNames.{own_fields}

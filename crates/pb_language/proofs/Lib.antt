@@ -44,3 +44,5 @@ pub mod PlainMachine
 pub mod PlainSteps
 pub mod PlainGives
 pub mod PlainEval
+pub mod Derived
+pub mod Derives

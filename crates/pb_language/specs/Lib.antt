@@ -34,3 +34,4 @@ pub mod Simple
 pub mod Plain
 pub mod Tokens
 pub mod Grammar
+pub mod Derivations

@@ -1,4 +1,5 @@
 // The laws of the definitions, each on a function that does nothing.
+ghost use Rattle.pb_language.specs.Derivations.{DerivedAreTrees, TreesAreDerived};
 ghost use Rattle.pb_language.specs.Knows.{FitHasValue, ValueKeepsKind, TestTeaches, KindsAreWell};
 ghost use Rattle.pb_language.specs.Theorem.{LatersHold, NeverStuck, Progress, ShortHistory, WithinBudget};
 ghost use Rattle.pb_language.specs.Unwinding.{UnwindingWalks};
@@ -51,4 +52,10 @@ pub fn short_history()
 /// What a first walk says of later places is so in the walk with each table of kinds: it never keeps a book from being accepted.
 pub fn laters_hold()
     ensures { LatersHold }
+{}
+
+/// A text has a tree exactly where the grammar derives one, and it is that one.
+pub fn derivations_are_read()
+    ensures derived { TreesAreDerived }
+    ensures read { DerivedAreTrees }
 {}

@@ -44,3 +44,4 @@ pub mod PlainMachine
 pub mod PlainSteps
 pub mod PlainGives
 pub mod PlainEval
+pub mod PlainTables

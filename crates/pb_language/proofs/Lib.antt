@@ -46,3 +46,4 @@ pub mod PlainGives
 pub mod PlainEval
 pub mod Derived
 pub mod Derives
+pub mod PlainTables

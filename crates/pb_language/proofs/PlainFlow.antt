@@ -101,7 +101,7 @@ module _ (ms : Registry) where
   case_left false m (assert_work a ps) = refl
   case_left false m (fail_work ps) = refl
 
-  goes_on : (p : ℕ) (t : PlainTask) → has_case (going_cases (plain_run ms p t)) ≡ true
+  pub goes_on : (p : ℕ) (t : PlainTask) → has_case (going_cases (plain_run ms p t)) ≡ true
   goes_on p t = case_left (is_conditional t.condition) (action_name (plain_action ms t.work)) t.work
 
   abbrev pub plain_row : ℕ → List PlainTask → Row → Row

@@ -32,10 +32,10 @@ module _ (ms : Registry) (h : Name) (l : ℕ) (ts : List PlainTask) (plain : are
   abbrev row : Row
   row = plain_row ms 0 ts (plain_tail ms ts)
 
-  abbrev program : Program
+  abbrev pub program : Program
   program = play_of row ∷ []
 
-  plain_program : program_of ms (lone_host h) (plain_play l ts ∷ []) ≡ program
+  pub plain_program : program_of ms (lone_host h) (plain_play l ts ∷ []) ≡ program
   plain_program = ap (λ r. play_of r ∷ []) (plain_play_row ms l ts plain)
 
   module _ (views : List View) (ls : List (List Later)) where
@@ -71,7 +71,7 @@ module _ (ms : Registry) (h : Name) (l : ℕ) (ts : List PlainTask) (plain : are
     way_view : view_of h (next_views way views) ≡ with_writes (plain_writes ms h 0 no_slots ts) (view_of h views)
     way_view = rw (own_name h) (ap (λ vs. with_visits vs (view_of h views)) way_visits ∙ visits_writes ms h views (first_laters ls) 0 no_slots (view_of h views) ts plain)
 
-    next_view : view_of h (next_round (lone_host h) program ls views) ≡ with_writes (plain_writes ms h 0 no_slots ts) (view_of h views)
+    pub next_view : view_of h (next_round (lone_host h) program ls views) ≡ with_writes (plain_writes ms h 0 no_slots ts) (view_of h views)
     next_view = ap (λ ws. view_of h (next_views ws views)) one_way ∙ way_view
 
   -- a table after a round is settled

@@ -25,11 +25,11 @@ use Rattle.pb_language.proofs.PlainPass.{plain_run, lone_setting}
 use Rattle.pb_language.proofs.PlainFlow.{plain_writes}
 
 -- a write is below what it is joined to, and so is what was there
-written_above : (s : Spot) (k : KindData) → WellSpot s → Well k → (below (spot_kind s) (spot_kind (written_spot s k)) ≡ true) × (below k (spot_kind (written_spot s k)) ≡ true)
+pub written_above : (s : Spot) (k : KindData) → WellSpot s → Well k → (below (spot_kind s) (spot_kind (written_spot s k)) ≡ true) × (below k (spot_kind (written_spot s k)) ≡ true)
 written_above nowhere k v w = (never_below k, own_below k w)
 written_above (spot a j) k v w = joins_above j k v w
 
-at_written : (p n : Name) (s : Spot) (k : KindData) (ss : Slots) → slot_at p (with_spot n (written_spot s k) ss) ≡ cond (bytes_eq p n) (written_spot s k) (slot_at p ss)
+pub at_written : (p n : Name) (s : Spot) (k : KindData) (ss : Slots) → slot_at p (with_spot n (written_spot s k) ss) ≡ cond (bytes_eq p n) (written_spot s k) (slot_at p ss)
 at_written p n nowhere k ss = at_with p n false k ss
 at_written p n (spot a j) k ss = at_with p n a (join j k) ss
 

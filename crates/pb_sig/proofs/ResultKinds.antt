@@ -3,7 +3,7 @@ use Rattle.std.proofs.Common.{◌≡◌, [], ◌∷◌, Bool, true, false, cond,
 use Rattle.std.proofs.Common.{rules}
 use Rattle.std.specs.Str.{bytes_eq}
 use Rattle.std.specs.declared.sync.Arc.{Arc}
-use Rattle.pb_semantics.specs.Kind.{KindData, Slots, Cases, Shape, booleans, no_slots, slot, recs, results, no_cases, one, put_slot, is_listed, ok_shape, skipped_shape}
+use Rattle.pb_semantics.specs.Kind.{KindData, Slots, Cases, Shape, booleans, no_slots, slot, recs, results, no_cases, one, put_slot, is_listed, ok_shape, failure_shape, skipped_shape}
 use Rattle.pb_semantics.specs.Join.{join, append_cases}
 use Rattle.pb_semantics.proofs.Bools.{untrue}
 use Rattle.pb_language.specs.Expression.{Name}
@@ -51,3 +51,8 @@ pub two_results : (v : Arc (Vec (Case Kind) Global) Global) (r : Arc Kind Global
     → kind_view (Kind-of.Result v r) ≡ results_of (one n skipped_shape false (recs ss) (one n ok_shape false (recs ts) no_cases))
 two_results v r c d n ss ts h i l m =
     kind_view-Result v r ∙ rw (h, m) (ap (λ cs. results cs (join (recs ss) (recs ts))) (two_cases c d (one n skipped_shape false (recs ss) no_cases) (one n ok_shape false (recs ts) no_cases) i l))
+
+-- the one case of a failure
+pub one_failure : (v : Arc (Vec (Case Kind) Global) Global) (r : Arc Kind Global) (c : Case Kind) (n : Name) (ss : Slots) → v.value.items ≡ c ∷ [] → string_bytes c.action.value ≡ n → shape_view c.shape ≡ failure_shape → c.failed ≡ true
+    → kind_view c.fields ≡ recs ss → kind_view r.value ≡ recs ss → kind_view (Kind-of.Result v r) ≡ results_of (one n failure_shape true (recs ss) no_cases)
+one_failure v r c n ss h i j k l m = kind_view-Result v r ∙ rw (h, i, j, k, l, m) refl

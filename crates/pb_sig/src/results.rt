@@ -1,7 +1,7 @@
-// The kinds of what a task of a module or an action registers where it goes on.
+// The kinds of what a task of a module or an action registers.
 ghost use Rattle.std.specs.Prelude.{◌≡◌, true, false, IfOk, string_bytes, codes};
 ghost use Rattle.pb_semantics.specs.Kind.{booleans, is_listed, put_slot, recs};
-ghost use Rattle.pb_language.specs.Cases.{skipped_slots};
+ghost use Rattle.pb_language.specs.Cases.{failure_case, skipped_slots};
 ghost use Rattle.pb_language.specs.Narrow.{results_of};
 ghost use Rattle.pb_value.specs.KindView.{kind_view, slots_view};
 ghost use Rattle.pb_sig.specs.Results.{result_cases, result_kind};
@@ -55,6 +55,24 @@ impl Results {
             &self.ran
         }
     }
+}
+
+/// The kind of the result of a task that fails, of a module of that name with these fields in its failed shape, which has
+/// no `failed`.
+pub fn failed_kind(alloc: Global, action: &str, failure: &Slots) -> Result<Kind, AllocError>
+    requires { is_listed (codes "failed") (slots_view failure.now.entries) ≡ false }
+    ensures { IfOk result (λ k. kind_view k
+        ≡ results_of (failure_case action.now (slots_view failure.now.entries))) }
+{
+    let ended = Kind::Rec(Arc::new(alloc, ended_slots(alloc, failure)?)?);
+    let failed = Case {
+        action: Arc::new(alloc, String::from_str(alloc, action)?)?,
+        shape: Shape::Failure,
+        failed: true,
+        fields: ended.clone()?,
+    };
+    let cases = vec![in alloc; failed]?;
+    Ok(Kind::Result(Arc::new(alloc, cases)?, Arc::new(alloc, ended)?))
 }
 
 fn case_of(action: &Arc<String>, shape: Shape, fields: &Kind) -> Result<Case<Kind>, AllocError>

@@ -5,12 +5,12 @@ use Rattle.pb_semantics.specs.Signature.{ModuleData, is_shape, are_free, is_cert
 use Rattle.pb_semantics.proofs.Bools.{and-right, not-true, untrue}
 use Rattle.pb_language.specs.Expression.{Name, Parts}
 use Rattle.pb_language.specs.Book.{module_work}
-use Rattle.pb_language.specs.Cases.{slots_of}
-use Rattle.pb_language.specs.Narrow.{results_of}
 use Rattle.pb_sig.specs.Modules.{module_at}
-use Rattle.pb_sig.specs.Results.{result_cases}
-use Rattle.pb_verify.specs.ResultTables.{Listed, module_listed, kind_listed}
-use Rattle.pb_verify.specs.Way.{work_result}
+use Rattle.pb_sig.specs.Results.{result_kind}
+use Rattle.pb_sig.specs.declared.results.Results.{Results}
+use Rattle.pb_verify.specs.ResultTables.{Listed, module_listed, listed_at}
+use Rattle.pb_language.specs.Plays.{module_named}
+use Rattle.pb_verify.specs.Way.{work_result, written_result}
 use Rattle.pb_verify.proofs.RuleModules.{module_found}
 
 -- no shape has a final status of its own
@@ -20,29 +20,30 @@ unfailed ss h =
     (and-right (is_certain_boolean (slot_at (codes "changed") ss)) (not (is_listed (codes "failed") ss))
     (and-right (are_free ss) (is_certain_boolean (slot_at (codes "changed") ss) && not (is_listed (codes "failed") ss)) h))
 
-abbrev module_result : Bool → ModuleData → KindData
-module_result q m = results_of (result_cases q m.name (slots_of m.ok))
+listed_step : (b : Bool) (x m : ModuleData) (o : Option ModuleData) (l : Option Listed) → (o ≡ Some m → l ≡ Some (module_listed m)) → cond b (Some x) o ≡ Some m → cond b (Some (module_listed x)) l ≡ Some (module_listed m)
+listed_step true x m o l f h = let e : x ≡ m = cc in ap (λ y. Some (module_listed y)) e
+listed_step false x m o l f h = f h
 
-own_result : (q : Bool) (m : ModuleData) → cond q (module_listed m).perhaps_skipped (module_listed m).ran ≡ module_result q m
-own_result true m = refl
-own_result false m = refl
+listed_found : (n : Name) (ms : List ModuleData) (m : ModuleData) → module_at n ms ≡ Some m → listed_at n (map module_listed ms) ≡ Some (module_listed m)
+listed_found n [] m h = cc
+listed_found n (x ∷ ms) m h = listed_step (bytes_eq x.name n) x m (module_at n ms) (listed_at n (map module_listed ms)) (listed_found n ms m) h
 
-listed_step : (b q : Bool) (x m : ModuleData) (o : Option ModuleData) (l : Option KindData) → (o ≡ Some m → l ≡ Some (module_result q m)) → cond b (Some x) o ≡ Some m
-    → cond b (Some (cond q (module_listed x).perhaps_skipped (module_listed x).ran)) l ≡ Some (module_result q m)
-listed_step true q x m o l f h = let e : x ≡ m = cc in rw e (ap (λ k. Some k) (own_result q m))
-listed_step false q x m o l f h = f h
-
-listed_result : (n : Name) (q : Bool) (ms : List ModuleData) (m : ModuleData) → module_at n ms ≡ Some m → kind_listed n q (map module_listed ms) ≡ Some (module_result q m)
-listed_result n q [] m h = cc
-listed_result n q (x ∷ ms) m h = listed_step (bytes_eq x.name n) q x m (module_at n ms) (kind_listed n q (map module_listed ms)) (listed_result n q ms m) h
-
-known_result : (n : Name) (q : Bool) (ms : List ModuleData) (ps : Parts) (o : Option ModuleData) → module_at n ms ≡ o → is_some o ≡ true → kind_listed n q (map module_listed ms) ≡ Some (work_result ms q (module_work n ps))
-known_result n q ms ps None e h = untrue h
-known_result n q ms ps (Some m) e h = listed_result n q ms m e ∙ rw (module_found n ms m e) refl
-
-module_result_listed : (n : Name) (q : Bool) (ms : List ModuleData) (ps : Parts) → is_some (module_at n ms) ≡ true → kind_listed n q (map module_listed ms) ≡ Some (work_result ms q (module_work n ps))
-module_result_listed n q ms ps h = known_result n q ms ps (module_at n ms) refl h
+known_listed : (n : Name) (ms : List ModuleData) (o : Option ModuleData) → module_at n ms ≡ o → is_some o ≡ true → listed_at n (map module_listed ms) ≡ Some (module_listed (module_named n ms))
+known_listed n ms None e h = untrue h
+known_listed n ms (Some m) e h = listed_found n ms m e ∙ rw (module_found n ms m e) refl
 
 -- what is found under a name in a table that lists the modules
-pub module_kind_found : (n : Name) (q : Bool) (ls : List Listed) (ms : List ModuleData) (ps : Parts) (o : Option KindData) → o ≡ kind_listed n q ls → ls ≡ map module_listed ms → is_some (module_at n ms) ≡ true → o ≡ Some (work_result ms q (module_work n ps))
-module_kind_found n q ls ms ps o f e h = f ∙ rw e (module_result_listed n q ms ps h)
+pub module_entry_found : (n : Name) (ls : List Listed) (ms : List ModuleData) (o : Option Listed) → o ≡ listed_at n ls → ls ≡ map module_listed ms → is_some (module_at n ms) ≡ true → o ≡ Some (module_listed (module_named n ms))
+module_entry_found n ls ms o f e h = f ∙ rw e (known_listed n ms (module_at n ms) refl h)
+
+pub going_kind : (l : Listed) (k : KindData) (q : Bool) (n : Name) (ms : List ModuleData) (ps : Parts) → l ≡ module_listed (module_named n ms) → k ≡ cond q l.perhaps_skipped l.ran → k ≡ work_result ms q (module_work n ps)
+going_kind l k true n ms ps e h = h ∙ ap (λ (x : Listed). x.perhaps_skipped) e
+going_kind l k false n ms ps e h = h ∙ ap (λ (x : Listed). x.ran) e
+
+pub written_kind : (l : Listed) (k : KindData) (q : Bool) (n : Name) (ms : List ModuleData) (ps : Parts) → l ≡ module_listed (module_named n ms) → k ≡ cond q l.skipped_or_failed l.ran_or_failed → k ≡ written_result ms q (module_work n ps)
+written_kind l k true n ms ps e h = h ∙ ap (λ (x : Listed). x.skipped_or_failed) e
+written_kind l k false n ms ps e h = h ∙ ap (λ (x : Listed). x.ran_or_failed) e
+
+pub own_kind : (r : Results) (q : Bool) → result_kind r q ≡ cond q (result_kind r true) (result_kind r false)
+own_kind r true = refl
+own_kind r false = refl

@@ -21,7 +21,7 @@ use Rattle.pb_book.specs.declared.book.Task.{Task}
 use Rattle.pb_book.specs.declared.book.Work.{Work}
 use Rattle.pb_book.specs.declared.book.Work.TheVariants.{Module, Debug, SetFact}
 use Rattle.pb_expr.specs.FitView.{own_scope}
-use Rattle.pb_verify.specs.Way.{Stands, own_fault, own_sets, work_result, registered, all_set}
+use Rattle.pb_verify.specs.Way.{Stands, own_fault, own_sets, work_result, written_result, registered, all_set}
 use Rattle.pb_verify.proofs.RuleModules.{module_found}
 use Rattle.pb_verify.proofs.WalkModules.{found_plain}
 use Rattle.pb_verify.proofs.WalkWays.{is_kept, asked_here, stands_after}
@@ -73,6 +73,11 @@ module _ (ms : Registry) where
   same_result q (Module n) ps qs = refl
   same_result q Debug ps qs = refl
   same_result q SetFact ps qs = refl
+
+  pub same_written : (q : Bool) (w : Work) (ps qs : Parts) → written_result ms q (work_of w ps) ≡ written_result ms q (work_of w qs)
+  same_written q (Module n) ps qs = refl
+  same_written q Debug ps qs = refl
+  same_written q SetFact ps qs = refl
 
 -- from what was known before the tasks to what is known now: each host's way goes on from a place and an environment that agree with it
 pub record Way (ms : Registry) (before now : Slots) (all rest : List PlainTask) : Type 0 where

@@ -34,13 +34,13 @@ nothing_after : (f : Option Fault) → first f None ≡ f
 nothing_after None = refl
 nothing_after (Some x) = refl
 
-always : (b : Bool) → b && true ≡ b
+pub always : (b : Bool) → b && true ≡ b
 always true = refl
 always false = refl
 
 module _ (ms : Registry) where
   -- a task registers the cases with which it goes on
-  kind_here : (w : Work) (q : Bool) → is_plain_work w ≡ true → is_kept ms w ≡ true
+  pub kind_here : (w : Work) (q : Bool) → is_plain_work w ≡ true → is_kept ms w ≡ true
       → work_result ms q w ≡ results_of (cases_with (λ sh fl k. not fl) (append_cases (cond q (one (action_name (plain_action ms w)) skipped_shape false (recs skipped_slots) no_cases) no_cases) (answered_cases (plain_action ms w))))
   kind_here (module_work n ps) q s k = shaped (and-left (is_lawful_shape (module_named n ms).ok) (is_lawful_shape (module_named n ms).failure) (and-left (is_lawful (module_named n ms)) (not (is_setup (module_named n ms))) k)) q where
     shaped : is_lawful_shape (module_named n ms).ok ≡ true → (q : Bool)
@@ -65,7 +65,7 @@ module _ (ms : Registry) where
     items_own = record { first_present = refl; second_present = refl; own = λ n i. sym (stands.own n i) }
 
     -- conditions teach nothing
-    actions_own : SameOwn (action_scope (lone_setting h) run env) (own_scope ss)
+    pub actions_own : SameOwn (action_scope (lone_setting h) run env) (own_scope ss)
     actions_own = rw (narrow_each_untaught t.condition (item_scope (lone_setting h) run env) true (any_untaught t.condition (and-left (are_simple t.condition) (is_plain_work t.work) plain))) items_own
 
     pub asked_here : task_fault (lone_setting h) run env ≡ own_fault ms ss t

@@ -14,6 +14,7 @@ use Rattle.pb_inventory.specs.Inventory.{inventory_view}
 use Rattle.pb_book.specs.Books.{book_of}
 use Rattle.pb_verify.specs.Meaning.{inventory_of, refusal_of, accepts, or_later}
 use Rattle.pb_verify.specs.declared.checked.Accepted.{Accepted}
+use Rattle.pb_verify.specs.declared.verify.Findings.{Findings}
 use Rattle.pb_verify.specs.declared.verify.VerifyFault.{VerifyFault}
 use Rattle.pb_verify.specs.declared.verify.VerifyFault.TheVariants.{Refused, NoMemory}
 
@@ -34,6 +35,6 @@ Refuses (Refused r) v = v ≡ refused (refusal_of r)
 Refuses NoMemory v = Unit {0}
 
 -- accepted with that budget, or refused with that refusal, unless memory ran out
-abbrev pub Judges : Result ℕ VerifyFault → Verdict → Type 0
-Judges (Ok n) v = v ≡ accepted n
+abbrev pub Judges : Result Findings VerifyFault → Verdict → Type 0
+Judges (Ok f) v = v ≡ accepted f.budget
 Judges (Err e) v = Refuses e v

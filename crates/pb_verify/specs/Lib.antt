@@ -4,3 +4,4 @@ pub mod Way
 pub mod ResultTables
 pub mod Faults
 pub mod Judges
+pub mod Known

@@ -3,12 +3,15 @@ use Rattle.std.specs.Prelude.{◌≡◌, List, [], ◌∷◌, Bool, true, false,
 use Rattle.std.specs.declared.alloc.Global.{Global}
 use Rattle.std.specs.declared.sync.Arc.{Arc}
 use Rattle.std.specs.Prelude.{String}
+use Rattle.pb_semantics.specs.Join.{join}
 use Rattle.pb_semantics.specs.Kind.{KindData, Slots, Spot, nowhere, spot, slot_at, put_slot}
+use Rattle.pb_semantics.specs.Signature.{ModuleData}
+use Rattle.pb_language.specs.Tables.{written_spot}
 use Rattle.pb_language.specs.Expression.{Name}
 use Rattle.pb_language.specs.Book.{Work, module_work, debug_work, set_fact_work, assert_work, fail_work, Registry}
 use Rattle.pb_language.specs.Fit.{Fault, first}
 use Rattle.pb_language.specs.Judgement.{conditions_fault, action_fault}
-use Rattle.pb_language.specs.Cases.{Sets, no_sets, sets, parts_set, set_spot, slots_of, changed_slots}
+use Rattle.pb_language.specs.Cases.{Sets, no_sets, sets, parts_set, set_spot, slots_of, changed_slots, failure_case}
 use Rattle.pb_language.specs.Scope.{Scope}
 use Rattle.pb_language.specs.Setting.{named_slots}
 use Rattle.pb_language.specs.Simple.{shared_names}
@@ -35,6 +38,15 @@ work_result ms q (set_fact_work ps) = results_of (result_cases q (codes "set_fac
 work_result ms q (assert_work a ps) = results_of (result_cases q (codes "assert") changed_slots)
 work_result ms q (fail_work ps) = results_of (result_cases q (codes "fail") changed_slots)
 
+-- the kind of what a task of the module registers where it fails
+abbrev pub failed_result : ModuleData → KindData
+failed_result m = results_of (failure_case m.name (slots_of m.failure))
+
+-- the kind of whatever the task registers, be it failed or not
+abbrev pub written_result : Registry → Bool → Work → KindData
+written_result ms q (module_work n ps) = join (work_result ms q (module_work n ps)) (failed_result (module_named n ms))
+written_result ms q w = work_result ms q w
+
 abbrev pub registered : Option Name → KindData → Slots → Slots
 registered None k ss = ss
 registered (Some n) k ss = put_slot n true k ss
@@ -47,6 +59,18 @@ put_spot n (spot a k) ss = put_slot n a k ss
 abbrev pub all_set : Sets → Slots → Slots
 all_set no_sets ss = ss
 all_set (sets n a k r) ss = all_set r (put_spot n (set_spot a (slot_at n ss) k) ss)
+
+-- a write is joined to what was written before
+abbrev pub join_slot : Name → KindData → Slots → Slots
+join_slot n k ss = put_spot n (written_spot (slot_at n ss) k) ss
+
+abbrev pub register_joined : Option Name → KindData → Slots → Slots
+register_joined None k ss = ss
+register_joined (Some n) k ss = join_slot n k ss
+
+abbrev pub all_joined : Sets → Slots → Slots
+all_joined no_sets ss = ss
+all_joined (sets n a k r) ss = all_joined r (join_slot n k ss)
 
 -- what is known of the host h's variables, beside the environment of its place: of each name but the shared ones the same
 pub record Stands (h : Name) (ss env : Slots) : Type 0 where

@@ -4,6 +4,8 @@ ghost use Rattle.std.specs.Prelude.{◌≡◌, IfOk};
 use pb_book::book::Book;
 use pb_inventory::inventory::Inventory;
 use pb_sig::registry::Registry;
+use pb_value::below::find;
+use pb_value::kind::{Kind, Slots};
 use std::alloc::{AllocError, Global};
 use std::marker::Model;
 use std::sync::Arc;
@@ -16,6 +18,8 @@ pub struct Accepted {
     pub registry: Registry,
     /// The most module calls that a run hands out.
     pub budget: u64,
+    /// Each variable that tasks write, with the least kind above all that they write.
+    pub known: Slots,
 }
 
 /// A book that was accepted for an inventory. Contracts see what was accepted; copies share it.
@@ -30,6 +34,7 @@ impl Model for Checked {
     ghost use Rattle.pb_book.specs.Books.{plays_of};
     ghost use Rattle.pb_book.specs.Lines.{names_known};
     ghost use Rattle.pb_verify.specs.Judges.{is_accepted};
+    ghost use Rattle.pb_verify.specs.Known.{HasTable};
     ghost use Rattle.pb_verify.specs.declared.checked.Accepted.{Accepted};
     ghost use Rattle.pb_value.specs.contracts.value.Value as value;
     ghost use Rattle.pb_value.specs.contracts.kind.Kind as kind;
@@ -46,7 +51,8 @@ impl Model for Checked {
     ghost view = { λ a. a.accepted.value };
 
     ghost invariant = { λ a. (is_accepted a.accepted.value ≡ true)
-        × (names_known (modules_of a.accepted.value.registry) (plays_of a.accepted.value.book) ≡ true) };
+        × ((names_known (modules_of a.accepted.value.registry) (plays_of a.accepted.value.book) ≡ true)
+        × HasTable a.accepted.value) };
 }
 
 impl Clone for Checked {
@@ -62,18 +68,20 @@ impl Clone for Checked {
 }
 
 impl Checked {
-    ghost use Rattle.std.specs.Prelude.{ℕ, ◌≤◌, List, length, true, false};
+    ghost use Rattle.std.specs.Prelude.{ℕ, ◌≤◌, ◌<◌, List, length, true, false};
     ghost use Rattle.pb_language.specs.Machine.{Event};
     ghost use Rattle.pb_sig.specs.Modules.{modules_of};
     ghost use Rattle.pb_inventory.specs.Inventory.{inventory_view};
     ghost use Rattle.pb_book.specs.Books.{plays_of};
     ghost use Rattle.pb_book.specs.Lines.{names_known};
     ghost use Rattle.pb_verify.specs.Judges.{is_accepted, run_of_accepted};
+    ghost use Rattle.pb_verify.specs.Known.{HasTable, IsKnownAs, known_spot};
 
     /// What was accepted.
     pub(crate) fn of(alloc: Global, accepted: Accepted) -> Result<Checked, AllocError>
         requires accepted { is_accepted accepted ≡ true }
         requires known { names_known (modules_of accepted.registry) (plays_of accepted.book) ≡ true }
+        requires table { HasTable accepted }
         ensures { IfOk result (λ c. c ≡ accepted) }
     {
         Ok(Checked {
@@ -119,5 +127,17 @@ impl Checked {
         ensures { result ≡ length (inventory_view self.now.inventory).hosts }
     {
         self.accepted.inventory.hosts()
+    }
+
+    /// What is known of the host's variable of that name anywhere in the book: the least kind above all that its tasks
+    /// write; none where none writes it.
+    pub fn view(&self, host: usize, name: &str) -> Option<&Kind>
+        requires { host < length (inventory_view self.now.inventory).hosts }
+        ensures { IsKnownAs result (known_spot self.now host name.now) }
+    {
+        match find(&self.accepted.known, name) {
+            Some(slot) => Some(&slot.kind),
+            None => None,
+        }
     }
 }

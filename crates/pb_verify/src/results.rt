@@ -1,5 +1,5 @@
 // The kinds of what tasks register, worked out once for each module and action.
-ghost use Rattle.std.specs.Prelude.{◌≡◌, true, map, IfOk, Some, option_map, string_bytes};
+ghost use Rattle.std.specs.Prelude.{◌≡◌, true, false, cond, map, IfOk, Some, option_map, string_bytes};
 ghost use Rattle.pb_semantics.specs.Kind.{recs};
 ghost use Rattle.pb_language.specs.Book.{Registry as Modules};
 ghost use Rattle.pb_language.specs.Cases.{changed_slots};
@@ -9,14 +9,16 @@ ghost use Rattle.pb_sig.specs.ModuleView.{builtin_view};
 ghost use Rattle.pb_sig.specs.Modules.{modules_of};
 ghost use Rattle.pb_book.specs.Lines.{is_known};
 ghost use Rattle.pb_book.specs.Meaning.{work_of};
-ghost use Rattle.pb_verify.specs.ResultTables.{Lists, entry_listed, module_listed, kind_listed};
-ghost use Rattle.pb_verify.specs.Way.{work_result};
+ghost use Rattle.pb_sig.specs.Results.{result_kind};
+ghost use Rattle.pb_verify.specs.ResultTables.{Lists, entry_listed, listed_at, module_listed, module_result};
+ghost use Rattle.pb_verify.specs.Way.{failed_result as result_of_failure, work_result, written_result};
 
 use pb_book::book::Work;
 use pb_sig::builtin::Builtin;
 use pb_sig::registry::Registry;
-use pb_sig::results::Results;
+use pb_sig::results::{Results, failed_kind};
 use pb_sig::signature::Module;
+use pb_value::join::join;
 use pb_value::kind::{Kind, Presence, Slot, Slots};
 use std::alloc::{AllocError, Global};
 use std::sync::Arc;
@@ -25,7 +27,12 @@ use std::sync::Arc;
 #[derive(Drop)]
 pub struct Entry {
     name: Arc<String>,
+    /// Where a task goes on.
     results: Results,
+    /// Whether it goes on or fails, of a task that always runs.
+    ran_or_failed: Kind,
+    /// And of a task that may be skipped.
+    skipped_or_failed: Kind,
 }
 
 /// The results of each module and action.
@@ -50,15 +57,15 @@ impl ResultTable {
         })
     }
 
-    /// The kind of what a task with this work registers, which may be skipped or not. Each module is one of those that
-    /// are listed.
+    /// The kind of what a task with this work registers where it goes on, which may be skipped or not. Each module is one of
+    /// those that are listed.
     pub fn kind(&self, work: &Work, may_skip: bool) -> Result<Kind, AllocError>
         ensures { IfOk result (λ k. (ms : Modules) → Lists self.now ms → is_known ms work.now ≡ true
             → kind_view k ≡ work_result ms may_skip (work_of work.now no_parts)) }
     {
         match work {
-            Work::Module(name) => match self.module_kind(name.as_str(), may_skip) {
-                Some(kind) => kind.clone(),
+            Work::Module(name) => match self.find(name.as_str()) {
+                Some(entry) => entry.results.kind(may_skip).clone(),
                 None => Ok(Kind::Any),
             },
             Work::Debug => self.debug.kind(may_skip).clone(),
@@ -66,16 +73,44 @@ impl ResultTable {
         }
     }
 
-    fn module_kind(&self, name: &str, may_skip: bool) -> Option<&Kind>
-        ensures { option_map (λ k. kind_view k.now) result
-            ≡ kind_listed name.now may_skip (map entry_listed self.now.modules.items) }
+    /// The kind of what it registers, whether it goes on or fails.
+    pub fn written_kind(&self, work: &Work, may_skip: bool) -> Result<Kind, AllocError>
+        ensures { IfOk result (λ k. (ms : Modules) → Lists self.now ms → is_known ms work.now ≡ true
+            → kind_view k ≡ written_result ms may_skip (work_of work.now no_parts)) }
+    {
+        match work {
+            Work::Module(name) => match self.find(name.as_str()) {
+                Some(entry) => entry.written_kind(may_skip).clone(),
+                None => Ok(Kind::Any),
+            },
+            Work::Debug => self.debug.kind(may_skip).clone(),
+            Work::SetFact => self.set_fact.kind(may_skip).clone(),
+        }
+    }
+
+    fn find(&self, name: &str) -> Option<&Entry>
+        ensures { option_map (λ e. entry_listed e.now) result
+            ≡ listed_at name.now (map entry_listed self.now.modules.items) }
     {
         for entry in &self.modules {
             if entry.name.as_str() == name {
-                return Some(entry.results.kind(may_skip));
+                return Some(entry);
             }
         }
         None
+    }
+}
+
+impl Entry {
+    fn written_kind(&self, may_skip: bool) -> &Kind
+        ensures { kind_view result.now
+            ≡ cond may_skip (entry_listed self.now).skipped_or_failed (entry_listed self.now).ran_or_failed }
+    {
+        if may_skip {
+            &self.skipped_or_failed
+        } else {
+            &self.ran_or_failed
+        }
     }
 }
 
@@ -92,14 +127,33 @@ fn entries_of(alloc: Global, registry: &Registry) -> Result<Vec<Entry>, AllocErr
 fn entry_of(alloc: Global, found: &Builtin) -> Result<Entry, AllocError>
     ensures { IfOk result (λ e. entry_listed e ≡ module_listed (builtin_view found.now)) }
 {
-    let results = match found.ok_shape() {
-        Kind::Rec(fields) => Results::of(alloc, found.name(), fields)?,
-        _ => unreachable!(),
-    };
+    let results = going_results(alloc, found)?;
+    let failed = failed_result(alloc, found)?;
     Ok(Entry {
         name: found.shared_name().clone()?,
+        ran_or_failed: join(alloc, results.kind(false), &failed)?,
+        skipped_or_failed: join(alloc, results.kind(true), &failed)?,
         results,
     })
+}
+
+fn going_results(alloc: Global, found: &Builtin) -> Result<Results, AllocError>
+    ensures ran { IfOk result (λ r. result_kind r false ≡ module_result false (builtin_view found.now)) }
+    ensures skipped { IfOk result (λ r. result_kind r true ≡ module_result true (builtin_view found.now)) }
+{
+    match found.ok_shape() {
+        Kind::Rec(fields) => Results::of(alloc, found.name(), fields),
+        _ => unreachable!(),
+    }
+}
+
+fn failed_result(alloc: Global, found: &Builtin) -> Result<Kind, AllocError>
+    ensures { IfOk result (λ k. kind_view k ≡ result_of_failure (builtin_view found.now)) }
+{
+    match found.fail_shape() {
+        Kind::Rec(fields) => failed_kind(alloc, found.name(), fields),
+        _ => unreachable!(),
+    }
 }
 
 // The fields of the result of an action.

@@ -6,7 +6,11 @@ ghost use Rattle.pb_language.specs.Plain.{are_plain_tasks, lone_host};
 ghost use Rattle.pb_language.specs.Verdict.{accepted, code_of as number_of};
 ghost use Rattle.pb_expr.specs.FitView.{fault_view};
 ghost use Rattle.pb_verify.specs.Faults.{fault_refusal};
+ghost use Rattle.pb_language.proofs.PlainFlow.{plain_writes};
 ghost use Rattle.pb_language.proofs.PlainPass.{plain_rules, plain_flow};
+ghost use Rattle.pb_language.proofs.PlainTables.{Joins};
+ghost use Rattle.pb_value.specs.KindView.{slots_view};
+ghost use Rattle.pb_verify.specs.Known.{IsTable};
 ghost use Rattle.pb_semantics.specs.Kind.{no_slots};
 ghost use Rattle.pb_sig.specs.Modules.{modules_of};
 ghost use Rattle.pb_inventory.specs.Inventory.{inventory_view};
@@ -20,11 +24,12 @@ use crate::budget::calls_in;
 use crate::checked::{Accepted, Checked};
 use crate::refusal::{Code, Refusal};
 use crate::rules::first_offence;
-use crate::walk::{Fault, first_fault, opening};
+use crate::walk::{Fault, follow, opening};
 use pb_book::book::{Book, Play, Task};
 use pb_expr::fit::Unfit;
 use pb_inventory::inventory::Inventory;
 use pb_sig::registry::Registry;
+use pb_value::kind::Slots;
 use std::alloc::{AllocError, AllocFailed, Global};
 
 /// Why there is no accepted book.
@@ -72,50 +77,84 @@ pub fn verify(
     ensures refused { IfErr result (λ e.
         Refuses e (judged (modules_of registry) (inventory_of (inventory_view inventory)) (book_of book))) }
 {
-    let budget = judge(alloc, book.plays(), &inventory, &registry)?;
+    let Findings { budget, known } = judge(alloc, book.plays(), &inventory, &registry)?;
     let accepted = Accepted {
         book,
         inventory,
         registry,
         budget,
+        known,
     };
     Ok(Checked::of(alloc, accepted)?)
 }
 
-// The budget of the plays, of which there is one at most.
+/// What is found of plays that are accepted.
+#[derive(Drop)]
+pub struct Findings {
+    budget: u64,
+    known: Slots,
+}
+
+impl Findings {
+    // Of no play.
+    fn none(alloc: Global) -> Findings
+        ensures budget { result.budget ≡ 0 }
+        ensures known { slots_view result.known.entries ≡ no_slots }
+    {
+        Findings {
+            budget: 0,
+            known: Slots::new(alloc),
+        }
+    }
+}
+
+// The budget of the plays, of which there is one at most, and what they write.
 fn judge(
     alloc: Global,
     plays: &[Play],
     inventory: &Inventory,
     registry: &Registry,
-) -> Result<u64, VerifyFault>
+) -> Result<Findings, VerifyFault>
     requires numbered { is_numbered plays.now ≡ true }
     requires plain { are_plain_plays plays.now ≡ true }
     requires known { names_known (modules_of registry.now) plays.now ≡ true }
-    ensures { Judges result (judged (modules_of registry.now) (inventory_of (inventory_view inventory.now)) (plain_plays plays.now)) }
+    ensures verdict { Judges result (judged (modules_of registry.now) (inventory_of (inventory_view inventory.now)) (plain_plays plays.now)) }
+    ensures known { IfOk result (λ f. IsTable (modules_of registry.now) (inventory_of (inventory_view inventory.now))
+        (plain_plays plays.now) (slots_view f.known.entries)) }
 {
     match plays {
         [play] => judge_tasks(alloc, play.tasks.as_slice(), inventory, registry),
-        _ => Ok(0),
+        _ => Ok(Findings::none(alloc)),
     }
 }
 
-// The budget of the tasks of a play on the one host that there is.
+// The budget of the tasks of a play on the one host that there is, and what they write.
 fn judge_tasks(
     alloc: Global,
     tasks: &[Task],
     inventory: &Inventory,
     registry: &Registry,
-) -> Result<u64, VerifyFault>
+) -> Result<Findings, VerifyFault>
     requires known { are_known (modules_of registry.now) tasks.now ≡ true }
     requires plain { are_plain_tasks (plain_tasks tasks.now) ≡ true }
-    ensures { (h : Name) → inventory_of (inventory_view inventory.now) ≡ lone_host h
+    ensures verdict { (h : Name) → inventory_of (inventory_view inventory.now) ≡ lone_host h
         → Judges result (tasks_verdict (modules_of registry.now) h (plain_tasks tasks.now)) }
+    ensures known { IfOk result (λ f. (h : Name) → inventory_of (inventory_view inventory.now) ≡ lone_host h
+        → Joins (plain_writes (modules_of registry.now) h 0 no_slots (plain_tasks tasks.now)) (slots_view f.known.entries)) }
 {
-    if let Some(refusal) = first_refusal(alloc, tasks, inventory, registry)? {
+    let Way { refusal, known } = first_refusal(alloc, tasks, inventory, registry)?;
+    if let Some(refusal) = refusal {
         return Err(VerifyFault::Refused(refusal));
     }
-    Ok(calls_in(tasks))
+    let budget = calls_in(tasks);
+    Ok(Findings { budget, known })
+}
+
+/// The first refusal of tasks, or none, and what they write up to there.
+#[derive(Drop)]
+pub struct Way {
+    refusal: Option<Refusal>,
+    known: Slots,
 }
 
 // The first refusal of the tasks, by the rules that follow no host and then on the way of the one host that there is.
@@ -124,24 +163,40 @@ fn first_refusal(
     tasks: &[Task],
     inventory: &Inventory,
     registry: &Registry,
-) -> Result<Option<Refusal>, AllocError>
+) -> Result<Way, AllocError>
     requires known { are_known (modules_of registry.now) tasks.now ≡ true }
     requires plain { are_plain_tasks (plain_tasks tasks.now) ≡ true }
-    ensures { IfOk result (λ o. (h : Name) → inventory_of (inventory_view inventory.now) ≡ lone_host h
-        → option_map refusal_of o ≡ or_later (plain_rules (modules_of registry.now) (plain_tasks tasks.now))
+    ensures refusal { IfOk result (λ w. (h : Name) → inventory_of (inventory_view inventory.now) ≡ lone_host h
+        → option_map refusal_of w.refusal ≡ or_later (plain_rules (modules_of registry.now) (plain_tasks tasks.now))
         (plain_flow (modules_of registry.now) h 0 no_slots (plain_tasks tasks.now))) }
+    ensures known { IfOk result (λ w. (h : Name) → inventory_of (inventory_view inventory.now) ≡ lone_host h
+        → w.refusal ≡ None
+        → Joins (plain_writes (modules_of registry.now) h 0 no_slots (plain_tasks tasks.now)) (slots_view w.known.entries)) }
 {
     if let Some(refusal) = first_offence(tasks, registry) {
-        return Ok(Some(refusal));
+        return Ok(Way {
+            refusal: Some(refusal),
+            known: Slots::new(alloc),
+        });
     }
     if inventory.hosts() == 0 {
-        return Ok(None);
+        return Ok(Way {
+            refusal: None,
+            known: Slots::new(alloc),
+        });
     }
     let name = inventory.host_name(0);
     let environment = opening(alloc, name, inventory.group_names(0).len())?;
-    match first_fault(alloc, tasks, registry, environment)? {
-        Some(fault) => Ok(Some(refusal_at(alloc, fault, name)?)),
-        None => Ok(None),
+    let followed = follow(alloc, tasks, registry, environment)?;
+    match followed.fault {
+        Some(fault) => Ok(Way {
+            refusal: Some(refusal_at(alloc, fault, name)?),
+            known: followed.known,
+        }),
+        None => Ok(Way {
+            refusal: None,
+            known: followed.known,
+        }),
     }
 }
 

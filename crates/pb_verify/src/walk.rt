@@ -12,7 +12,10 @@ ghost use Rattle.pb_language.specs.Kinds.{kind_of as kind_found};
 ghost use Rattle.pb_language.specs.Plain.{are_plain_tasks};
 ghost use Rattle.pb_language.specs.Task.{call_of};
 ghost use Rattle.pb_language.specs.Plays.{argument_or, module_named};
+ghost use Rattle.pb_language.specs.Tables.{written_spot};
+ghost use Rattle.pb_language.proofs.PlainFlow.{plain_writes};
 ghost use Rattle.pb_language.proofs.PlainPass.{plain_rules, plain_flow};
+ghost use Rattle.pb_language.proofs.PlainTables.{Joins};
 ghost use Rattle.pb_value.specs.KindView.{kind_view, slots_view, is_always};
 ghost use Rattle.pb_value.specs.Found.{spot_view};
 ghost use Rattle.pb_expr.specs.ExprView.{expr_view};
@@ -23,7 +26,7 @@ ghost use Rattle.pb_book.specs.Lines.{are_known, is_known};
 ghost use Rattle.pb_book.specs.Meaning.{argument_parts, condition_view, plain_task, plain_tasks, work_of};
 ghost use Rattle.pb_verify.specs.Faults.{fault_refusal};
 ghost use Rattle.pb_verify.specs.ResultTables.{Lists};
-ghost use Rattle.pb_verify.specs.Way.{Asks, Stands, own_fault, own_sets, work_result, registered, put_spot, all_set, sets_of};
+ghost use Rattle.pb_verify.specs.Way.{Asks, Stands, own_fault, own_sets, work_result, written_result, registered, put_spot, all_set, sets_of, join_slot, register_joined, all_joined};
 
 use crate::results::ResultTable;
 use pb_book::book::{Argument, Task, Work};
@@ -45,33 +48,49 @@ pub struct Fault {
     pub line: u32,
 }
 
-/// The first fault of a host's way through the tasks, from what is known of its variables before them, or none. The tasks
-/// keep the rules that follow no host.
-pub fn first_fault(
+/// What a host's way through tasks shows.
+#[derive(Drop)]
+pub struct Followed {
+    /// The first fault, or none.
+    pub fault: Option<Fault>,
+    /// Each name that was written up to there, with the least kind above all its writes.
+    pub known: Slots,
+}
+
+/// Follows a host's way through the tasks, from what is known of its variables before them. The tasks keep the rules that
+/// follow no host.
+pub fn follow(
     alloc: Global,
     tasks: &[Task],
     registry: &Registry,
     opening: Slots,
-) -> Result<Option<Fault>, AllocError>
+) -> Result<Followed, AllocError>
     requires known { are_known (modules_of registry.now) tasks.now ≡ true }
     requires plain { are_plain_tasks (plain_tasks tasks.now) ≡ true }
     requires ruled { plain_rules (modules_of registry.now) (plain_tasks tasks.now) ≡ None }
-    ensures { IfOk result (λ o. (h : Name) → Stands h (slots_view opening.entries) no_slots
-        → option_map (fault_refusal h) o ≡ plain_flow (modules_of registry.now) h 0 no_slots (plain_tasks tasks.now)) }
+    ensures fault { IfOk result (λ f. (h : Name) → Stands h (slots_view opening.entries) no_slots
+        → option_map (fault_refusal h) f.fault ≡ plain_flow (modules_of registry.now) h 0 no_slots (plain_tasks tasks.now)) }
+    ensures known { IfOk result (λ f. (h : Name) → Stands h (slots_view opening.entries) no_slots → f.fault ≡ None
+        → Joins (plain_writes (modules_of registry.now) h 0 no_slots (plain_tasks tasks.now)) (slots_view f.known.entries)) }
 {
     let results = ResultTable::of(alloc, registry)?;
     let mut environment = opening;
+    let mut known = Slots::new(alloc);
     for task in tasks {
         match task_asked(alloc, task, registry, &environment) {
-            Ok(sets) => write(alloc, task, &results, sets, &mut environment)?,
+            Ok(sets) => {
+                learn(alloc, task, &results, &sets, &mut known)?;
+                write(alloc, task, &results, sets, &mut environment)?;
+            }
             Err(KindFault::Unfit(unfit)) => {
                 let line = task.line;
-                return Ok(Some(Fault { unfit, line }));
+                let fault = Some(Fault { unfit, line });
+                return Ok(Followed { fault, known });
             }
             Err(KindFault::NoMemory) => return Err(AllocError),
         }
     }
-    Ok(None)
+    Ok(Followed { fault: None, known })
 }
 
 /// What is known of a host before anything is run.
@@ -262,6 +281,56 @@ fn is_any(kind: &Kind) -> bool
     match kind {
         Kind::Any => true,
         _ => false,
+    }
+}
+
+// What is written by the tasks up to this one: what it registers, be it failed or not, then what it sets.
+fn learn(
+    alloc: Global,
+    task: &Task,
+    results: &ResultTable,
+    sets: &Sets,
+    known: &mut Slots,
+) -> Result<(), AllocError>
+    ensures { OnOk result ((ms : Modules) → Lists results.now ms → is_known ms task.now.work ≡ true → (a : Bool)
+        → slots_view known.new.entries
+        ≡ all_joined (sets_of a sets.now.items)
+        (register_joined (option_map (λ n. string_bytes n.value) task.now.register)
+        (written_result ms (is_conditional (condition_view task.now.when)) (work_of task.now.work no_parts))
+        (slots_view known.old.entries))) }
+{
+    if let Some(name) = &task.register {
+        let kind = results.written_kind(&task.work, task.when.is_some())?;
+        add(alloc, name, kind, known)?;
+    }
+    for (name, kind) in sets {
+        add(alloc, name, kind.clone()?, known)?;
+    }
+    Ok(())
+}
+
+fn add(alloc: Global, name: &String, kind: Kind, known: &mut Slots) -> Result<(), AllocError>
+    ensures { OnOk result (slots_view known.new.entries
+        ≡ join_slot (string_bytes name.now) (kind_view kind) (slots_view known.old.entries)) }
+{
+    let slot = joined(alloc, find(known, name.as_str()), kind)?;
+    put(known, name.clone()?, slot)
+}
+
+// A write beside those before it.
+fn joined(alloc: Global, before: Option<&Slot<Kind>>, kind: Kind) -> Result<Slot<Kind>, AllocError>
+    ensures { IfOk result (λ s. spot (is_always s.presence) (kind_view s.kind)
+        ≡ written_spot (spot_view before.entry) (kind_view kind)) }
+{
+    match before {
+        Some(slot) => Ok(Slot {
+            presence: slot.presence,
+            kind: join(alloc, &slot.kind, &kind)?,
+        }),
+        None => Ok(Slot {
+            presence: Presence::Maybe,
+            kind,
+        }),
     }
 }
 

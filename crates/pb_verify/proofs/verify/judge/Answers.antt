@@ -1,4 +1,11 @@
 use Rattle.std.proofs.Common.{ap, ◌≡◌, List, sym, subst, ◌∙◌, true}
+use Rattle.std.proofs.lemmas.Result.{MatchResult-weaker}
+use Rattle.pb_semantics.specs.Kind.{no_slots}
+use Rattle.pb_language.proofs.PlainFlow.{plain_writes}
+use Rattle.pb_language.proofs.PlainTables.{Joins}
+use Rattle.pb_value.specs.KindView.{slots_view}
+use Rattle.pb_verify.specs.Known.{IsTable}
+use Rattle.pb_verify.proofs.KnownTables.{play_table}
 use Rattle.pb_sig.specs.Modules.{modules_of}
 use Rattle.pb_inventory.specs.Inventory.{inventory_view}
 use Rattle.pb_language.specs.Judged.{judged}
@@ -13,8 +20,8 @@ use Rattle.pb_verify.proofs.Lone.{alone}
 use Rattle.pb_verify.proofs.Verdicts.{one_play, only_item}
 use Rattle.pb_verify.proofs.verify.judge.Goals as goal
 
-pub returns-in-len1 : goal.returns-in-len1
-returns-in-len1 c =
+pub returns-in-len1-clause-verdict : goal.returns-in-len1-clause-verdict
+returns-in-len1-clause-verdict c =
     let a = alone (inventory_view c.args.inventory.now) c.args.inventory.now.lone in
     let p = c.play-item.result in
     let ms = modules_of c.args.registry.now in
@@ -23,4 +30,17 @@ returns-in-len1 c =
     let plain = subst (λ (ps : List Play). are_plain_plays ps ≡ true) is c.requires.plain in
     subst (λ (v : Verdict). Judges c.judge_tasks.result v)
     (ap (λ ts. tasks_verdict ms a.host.name (plain_tasks ts)) c.as_slice.ensures.value ∙ sym (ap (λ ps. judged ms (inventory_of (inventory_view c.args.inventory.now)) (plain_plays ps)) is ∙ one_play ms a.host.name (inventory_of (inventory_view c.args.inventory.now)) p a.stands numbered plain))
-    (c.judge_tasks.ensures a.host.name a.stands)
+    (c.judge_tasks.ensures.verdict a.host.name a.stands)
+
+pub returns-in-len1-clause-known : goal.returns-in-len1-clause-known
+returns-in-len1-clause-known c =
+    let p = c.play-item.result in
+    let ms = modules_of c.args.registry.now in
+    let inventory = inventory_of (inventory_view c.args.inventory.now) in
+    let is = only_item c.args.plays.now p c.in-len1.len_at_least c.in-len1.len_below c.play-item.is in
+    let plain = subst (λ (ps : List Play). are_plain_plays ps ≡ true) is c.requires.plain in
+    MatchResult-weaker c.judge_tasks.result c.judge_tasks.ensures.known
+    (λ f k. subst (λ (ps : List Play). IsTable ms inventory (plain_plays ps) (slots_view f.known.entries)) (sym is)
+    (play_table ms inventory p (slots_view f.known.entries) plain
+    (λ h e. subst (λ ts. Joins (plain_writes ms h 0 no_slots (plain_tasks ts)) (slots_view f.known.entries)) c.as_slice.ensures.value (k h e))))
+    (λ y e. tt)

@@ -9,13 +9,16 @@ use Rattle.pb_expr.proofs.Turns.{drop-at}
 use Rattle.pb_sig.specs.Modules.{modules_of}
 use Rattle.pb_book.specs.Meaning.{argument_parts, plain_task, plain_tasks, work_of}
 use Rattle.pb_verify.specs.Faults.{fault_refusal}
-use Rattle.pb_verify.specs.Way.{own_fault, own_sets, registered, all_set, work_result}
-use Rattle.pb_verify.proofs.WalkFlow.{Rest, Way, first_known, first_plain, first_free, later_rest, known_kept, same_result, way_done, way_fault, way_on}
-use Rattle.pb_verify.proofs.walk.first_fault.Goals as goal
+use Rattle.pb_verify.specs.Way.{own_fault, own_sets, registered, all_set, work_result, written_result, register_joined, all_joined}
+use Rattle.pb_verify.proofs.WalkFlow.{Rest, Way, first_known, first_plain, first_free, later_rest, known_kept, same_result, same_written, way_done, way_fault, way_on}
+use Rattle.pb_verify.proofs.WalkKnown.{Learned, learned_as, learned_none, learned_on, learned_all}
+use Rattle.pb_verify.proofs.walk.follow.Goals as goal
 
 pub loop-task-init : goal.loop-task-init
 loop-task-init c = record {
   left = record { known = c.requires.known; plain = c.requires.plain; ruled = c.requires.ruled };
+  learned = subst (λ es. Learned (modules_of c.args.registry.now) (slots_view c.args.opening.entries) (slots_view c.args.opening.entries) (slots_view es) (plain_tasks c.args.tasks.now) (plain_tasks c.args.tasks.now)) (sym c.new-known.ensures.empty)
+      (learned_none (modules_of c.args.registry.now) (slots_view c.args.opening.entries) (plain_tasks c.args.tasks.now));
   way = record { from = λ h s. (0, (no_slots, (s, refl))) };
 }
 
@@ -27,8 +30,8 @@ task_asked-requires c =
     let next : drop i tasks ≡ c.task-item.result ∷ drop (i + 1) tasks = drop-at tasks i c.task-item.result c.loop-task-test.true c.task-item.is in
     first_known ms c.task-item.result (drop (i + 1) tasks) (subst (Rest ms) next c.loop-task.invariant.left)
 
-pub returns-in-Err-Unfit : goal.returns-in-Err-Unfit
-returns-in-Err-Unfit c =
+pub returns-in-Err-Unfit-clause-fault : goal.returns-in-Err-Unfit-clause-fault
+returns-in-Err-Unfit-clause-fault c =
     let ms = modules_of c.args.registry.now in
     let tasks = c.args.tasks.now in
     let i = c.loop-task.task-index in
@@ -58,18 +61,38 @@ loop-task-preserved c =
     let way = subst (λ ts. Way ms before now (plain_tasks tasks) (plain_tasks ts)) next c.loop-task.invariant.way in
     let p = plain_task t in
     let q = is_conditional p.condition in
+    let known-before = slots_view c.loop-task.known.entries in
     let kept = known_kept ms t.work (argument_parts t.arguments.items) c.args.registry.now.plain known in
     let on = way_on ms before now (plain_tasks tasks) p (plain_tasks rest) (first_plain ms t rest left) way c.in-Ok.ensures.fault kept (first_free ms t rest left) in
     let written = c.in_ok-write-in-Ok.ensures ms c.in_ok-results.ensures known
     ∙ ap (λ s. all_set s (registered p.register (work_result ms q (work_of t.work no_parts)) now)) (c.in-Ok.ensures.sets (not q))
     ∙ ap (λ k. all_set (own_sets (own_scope now) (not q) p.work) (registered p.register k now)) (same_result ms q t.work no_parts (argument_parts t.arguments.items)) in
-    record { left = later_rest ms t rest left; way = subst (λ ss. Way ms before ss (plain_tasks tasks) (plain_tasks rest)) (sym written) on }
+    let learned = subst (λ ts. Learned ms before now known-before (plain_tasks tasks) (plain_tasks ts)) next c.loop-task.invariant.learned in
+    let further = learned_on ms before now known-before (plain_tasks tasks) p (plain_tasks rest) (first_plain ms t rest left) learned kept (first_free ms t rest left) in
+    let joined = c.in_ok-learn-in-Ok.ensures ms c.in_ok-results.ensures known (not q)
+    ∙ ap (λ s. all_joined s (register_joined p.register (written_result ms q (work_of t.work no_parts)) known-before)) (c.in-Ok.ensures.sets (not q))
+    ∙ ap (λ k. all_joined (own_sets (own_scope now) (not q) p.work) (register_joined p.register k known-before)) (same_written ms q t.work no_parts (argument_parts t.arguments.items)) in
+    record {
+      left = later_rest ms t rest left;
+      learned = learned_as ms before _ _ _ _ (plain_tasks tasks) (plain_tasks rest) further written joined;
+      way = subst (λ ss. Way ms before ss (plain_tasks tasks) (plain_tasks rest)) (sym written) on;
+    }
 
-pub returns : goal.returns
-returns c =
+pub returns-clause-fault : goal.returns-clause-fault
+returns-clause-fault c =
     let ms = modules_of c.args.registry.now in
     let tasks = c.args.tasks.now in
     let before = slots_view c.args.opening.entries in
     let now = slots_view c.loop-task.environment.entries in
     let past = drop_all c.loop-task.task-index tasks c.loop-task-test.false in
     way_done ms before now (plain_tasks tasks) (subst (λ ts. Way ms before now (plain_tasks tasks) (plain_tasks ts)) past c.loop-task.invariant.way)
+
+pub returns-clause-known : goal.returns-clause-known
+returns-clause-known c =
+    let ms = modules_of c.args.registry.now in
+    let tasks = c.args.tasks.now in
+    let before = slots_view c.args.opening.entries in
+    let now = slots_view c.loop-task.environment.entries in
+    let known = slots_view c.loop-task.known.entries in
+    let past = drop_all c.loop-task.task-index tasks c.loop-task-test.false in
+    λ h s n. learned_all ms before now known (plain_tasks tasks) (subst (λ ts. Learned ms before now known (plain_tasks tasks) (plain_tasks ts)) past c.loop-task.invariant.learned) h s

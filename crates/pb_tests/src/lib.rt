@@ -13,3 +13,5 @@ mod inventories;
 mod refusals;
 #[cfg(test)]
 mod runs;
+#[cfg(test)]
+mod views;

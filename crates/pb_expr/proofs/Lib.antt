@@ -17,3 +17,4 @@ pub mod Sorts
 pub mod Operands
 pub mod Braces
 pub mod Refusals
+pub mod Relations

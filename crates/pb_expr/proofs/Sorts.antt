@@ -1,9 +1,8 @@
 -- What the forms of the grammar read at a token of the code, by its sort.
 use Rattle.std.proofs.Common.{◌≡◌, ℕ, zero, suc, ◌-◌, ◌<◌, List, drop, Option, Some, None, refl, sym, ap, ◌∙◌, arith}
-use Rattle.pb_language.specs.Expression.{Name, Expression}
-use Rattle.pb_language.specs.Grammar.{Reading, reading, Reader, Deeper, before, closed, literal_before, operand_at, behind_word, count_of, disjunction_of, deeper}
-use Rattle.pb_language.specs.Tokens.{Tokens, unreadable, and_word, or_word, tokens_of}
-use Rattle.pb_expr.specs.Forms.{first_literal}
+use Rattle.pb_language.specs.Expression.{Name, Expression, negation}
+use Rattle.pb_language.specs.Grammar.{Reading, reading, Reader, before, closed, behind_word, count_of, disjunction_of, negation_of, deeper, with_tree}
+use Rattle.pb_language.specs.Tokens.{Tokens, and_word, or_word, tokens_of}
 use Rattle.pb_expr.specs.Letters.{sort_tokens, letters_at, meaning_at, tokens_at}
 use Rattle.pb_expr.specs.declared.lexer.Sort.{Sort}
 use Rattle.pb_expr.specs.declared.lexer.Sort.TheVariants as sort
@@ -60,16 +59,6 @@ in-parentheses : (bs : List ℕ) (t : Place) (n : ℕ) (r : Option (Reading Expr
     → closed ((deeper n).whole (behind bs t)) ≡ closed r
 in-parentheses bs t n r some h = ap (λ (f : Reader). closed (f (behind bs t))) (whole-deeper n some) ∙ ap closed h
 
-no_closing : (e : Expression) (s : Sort) (n w : Name) (ts : Tokens) → (s ≡ sort.Close → ⊥) → closed (Some (reading e (sort_tokens s n w ts))) ≡ None
-no_closing e sort.Close n w ts h = absurd (h refl)
-no_closing e s n w ts h = refl
-
-not-closed : (bs : List ℕ) (t : Place) (e : Expression) → (t.sort ≡ sort.Close → ⊥) → closed (Some (reading e (tokens_at bs t))) ≡ None
-not-closed bs t e h = no_closing e t.sort (letters_at bs t) (meaning_at bs t) (behind bs t) h
-
-closed-before : (bs : List ℕ) (t : Place) (e : Expression) → t.sort ≡ sort.Close → closed (Some (reading e (tokens_at bs t))) ≡ before e (behind bs t)
-closed-before bs t e h = ap (λ ts. closed (Some (reading e ts))) (of_sort bs t sort.Close h)
-
 -- what is inside, and the token that closes it
 abbrev pub InsideOf : ℕ → List ℕ → Place → Expression → Place → Type 0
 InsideOf n bs t e u = closed ((deeper n).whole (behind bs t)) ≡ closed (Some (reading e (tokens_at bs u)))
@@ -78,28 +67,13 @@ pub inside-of : (n : ℕ) (bs : List ℕ) (t first : Place) (e : Expression) (u 
     → InsideOf n bs t e u
 inside-of n bs t first e u some next h = in-parentheses bs t n (Some (reading e (tokens_at bs u))) some (ap (disjunction_of (deeper (n - 1))) (sym next) ∙ h)
 
-pub inside-open : (n : ℕ) (bs : List ℕ) (t : Place) (e : Expression) (u : Place) → InsideOf n bs t e u → (u.sort ≡ sort.Close → ⊥) → closed ((deeper n).whole (behind bs t)) ≡ None
-inside-open n bs t e u h is = h ∙ not-closed bs u e is
+negated-deeper : (n : ℕ) → (n ≡ 0 → ⊥) → (deeper n).negated ≡ negation_of (deeper (n - 1))
+negated-deeper zero h = absurd (h refl)
+negated-deeper (suc n) h = ap (λ m. negation_of (deeper m)) (omega arith)
 
-pub inside-broken : (n : ℕ) (bs : List ℕ) (t : Place) (e : Expression) (u : Place) → InsideOf n bs t e u → u.sort ≡ sort.Close → behind bs u ≡ unreadable → closed ((deeper n).whole (behind bs t)) ≡ None
-inside-broken n bs t e u h is past = h ∙ closed-before bs u e is ∙ ap (before e) past
-
-pub inside-closed : (n : ℕ) (bs : List ℕ) (t : Place) (e : Expression) (u next : Place) → InsideOf n bs t e u → u.sort ≡ sort.Close → tokens_at bs next ≡ behind bs u
-    → closed ((deeper n).whole (behind bs t)) ≡ Some (reading e (tokens_at bs next))
-inside-closed n bs t e u next h is there = h ∙ closed-before bs u e is ∙ ap (before e) (sym there) ∙ before-token bs next e
-
--- an operand that is neither in parentheses nor a path
-a_literal : (d : Deeper) (s : Sort) (n w : Name) (ts : Tokens) → (s ≡ sort.Open → ⊥) → (s ≡ sort.Name → ⊥)
-    → operand_at d (sort_tokens s n w ts) ≡ literal_before (first_literal (sort_tokens s n w ts)) ts
-a_literal d sort.Open n w ts h g = absurd (h refl)
-a_literal d sort.Name n w ts h g = absurd (g refl)
-a_literal d s n w ts h g = refl
-
-literal-operand : (bs : List ℕ) (t : Place) (d : Deeper) → (t.sort ≡ sort.Open → ⊥) → (t.sort ≡ sort.Name → ⊥)
-    → operand_at d (tokens_at bs t) ≡ literal_before (first_literal (tokens_at bs t)) (behind bs t)
-literal-operand bs t d h g = a_literal d t.sort (letters_at bs t) (meaning_at bs t) (behind bs t) h g
-
-pub literal-read : (bs : List ℕ) (t u : Place) (d : Deeper) (e : Expression) → (t.sort ≡ sort.Open → ⊥) → (t.sort ≡ sort.Name → ⊥) → first_literal (tokens_at bs t) ≡ Some e → tokens_at bs u ≡ behind bs t
-    → operand_at d (tokens_at bs t) ≡ Some (reading e (tokens_at bs u))
-literal-read bs t u d e h g is next =
-    literal-operand bs t d h g ∙ ap (λ o. literal_before o (behind bs t)) is ∙ ap (before e) (sym next) ∙ before-token bs u e
+-- what is behind `not`
+pub negation-read : (n : ℕ) (bs : List ℕ) (t first : Place) (e : Expression) (u : Place) → t.sort ≡ sort.Not → (n ≡ 0 → ⊥) → tokens_at bs first ≡ behind bs t
+    → negation_of (deeper (n - 1)) (tokens_at bs first) ≡ Some (reading e (tokens_at bs u)) → negation_of (deeper n) (tokens_at bs t) ≡ Some (reading (negation e) (tokens_at bs u))
+negation-read n bs t first e u is some next h =
+    ap (negation_of (deeper n)) (of_sort bs t sort.Not is) ∙ ap (λ (f : Reader). with_tree (λ x. negation x) (f (behind bs t))) (negated-deeper n some)
+    ∙ ap (λ ts. with_tree (λ x. negation x) (negation_of (deeper (n - 1)) ts)) (sym next) ∙ ap (with_tree (λ x. negation x)) h

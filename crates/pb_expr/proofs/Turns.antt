@@ -34,18 +34,18 @@ any-turn w es i e v t lt is told found holds =
 pub any-done : (w : World) (es : List Expr) (i : ℕ) → length es ≤ i → shown (eval_any w (exprs_view (drop i es))) ≡ boolean false
 any-done w es i past = ap (λ xs. shown (eval_any w (exprs_view xs))) (drop_all i es past)
 
-pub list-turn : (w : World) (es : List Expr) (vs : List Value) (i : ℕ) (e : Expr) (v : Value) (b : Bool) → i < length es → e ≡ get_or es i e → view v ≡ shown (eval w (expr_view e))
-    → b ≡ is_unreadable (view v) → b ≡ false
+pub list-turn : (w : World) (es : List Expr) (vs : List Value) (i : ℕ) (e : Expr) (v : Value) → i < length es → e ≡ get_or es i e → view v ≡ shown (eval w (expr_view e))
+    → is_unreadable (view v) ≡ false
     → after_items (items_view vs) (eval_items w (exprs_view (drop i es))) ≡ after_items (items_view (vs ++ v ∷ [])) (eval_items w (exprs_view (drop (i + 1) es)))
-list-turn w es vs i e v b lt is told found readable =
+list-turn w es vs i e v lt is told readable =
     ap (λ xs. after_items (items_view vs) (eval_items w (exprs_view xs))) (drop-at es i e lt is)
-    ∙ items-step vs v (eval w (expr_view e)) (eval_items w (exprs_view (drop (i + 1) es))) told (ap is_unreadable (sym told) ∙ sym found ∙ readable)
+    ∙ items-step vs v (eval w (expr_view e)) (eval_items w (exprs_view (drop (i + 1) es))) told (ap is_unreadable (sym told) ∙ readable)
 
-pub list-spoilt : (w : World) (es : List Expr) (vs : List Value) (i : ℕ) (e : Expr) (v : Value) (b : Bool) → i < length es → e ≡ get_or es i e → view v ≡ shown (eval w (expr_view e))
-    → b ≡ is_unreadable (view v) → b ≡ true → shown (after_items (items_view vs) (eval_items w (exprs_view (drop i es)))) ≡ opaque
-list-spoilt w es vs i e v b lt is told found spoilt =
+pub list-spoilt : (w : World) (es : List Expr) (vs : List Value) (i : ℕ) (e : Expr) (v : Value) → i < length es → e ≡ get_or es i e → view v ≡ shown (eval w (expr_view e))
+    → is_unreadable (view v) ≡ true → shown (after_items (items_view vs) (eval_items w (exprs_view (drop i es)))) ≡ opaque
+list-spoilt w es vs i e v lt is told spoilt =
     ap (λ xs. shown (after_items (items_view vs) (eval_items w (exprs_view xs)))) (drop-at es i e lt is)
-    ∙ items-spoilt (items_view vs) (eval w (expr_view e)) _ (ap is_unreadable (sym told) ∙ sym found ∙ spoilt)
+    ∙ items-spoilt (items_view vs) (eval w (expr_view e)) _ (ap is_unreadable (sym told) ∙ spoilt)
 
 pub list-done : (w : World) (es : List Expr) (vs : List Value) (i : ℕ) → length es ≤ i → shown (after_items (items_view vs) (eval_items w (exprs_view (drop i es)))) ≡ list (items_view vs)
 list-done w es vs i past =
@@ -57,12 +57,12 @@ pub fields-last : (f : Expr → Data) (done : List (String Global × Expr)) (e :
 fields-last f [] e = refl
 fields-last f (x ∷ done) e = ap (field (string_bytes x.0) (f x.1)) (fields-last f done e)
 
-pub record-turn : (w : World) (fs : Fields) (e : String Global × Expr) (left : List (String Global × Expr)) (v : Value) (b : Bool) → view v ≡ shown (eval w (expr_view e.1))
-    → b ≡ is_unreadable (view v) → b ≡ false
+pub record-turn : (w : World) (fs : Fields) (e : String Global × Expr) (left : List (String Global × Expr)) (v : Value) → view v ≡ shown (eval w (expr_view e.1))
+    → is_unreadable (view v) ≡ false
     → after_fields fs (eval_parts w (parts_view (e ∷ left))) ≡ after_fields (append_fields fs (field (string_bytes e.0) (shown (eval w (expr_view e.1))) no_fields)) (eval_parts w (parts_view left))
-record-turn w fs e left v b told found readable =
-    fields-step fs (string_bytes e.0) (eval w (expr_view e.1)) (eval_parts w (parts_view left)) (ap is_unreadable (sym told) ∙ sym found ∙ readable)
+record-turn w fs e left v told readable =
+    fields-step fs (string_bytes e.0) (eval w (expr_view e.1)) (eval_parts w (parts_view left)) (ap is_unreadable (sym told) ∙ readable)
 
-pub record-spoilt : (w : World) (fs : Fields) (e : String Global × Expr) (left : List (String Global × Expr)) (v : Value) (b : Bool) → view v ≡ shown (eval w (expr_view e.1))
-    → b ≡ is_unreadable (view v) → b ≡ true → shown (after_fields fs (eval_parts w (parts_view (e ∷ left)))) ≡ opaque
-record-spoilt w fs e left v b told found spoilt = fields-spoilt fs (string_bytes e.0) (eval w (expr_view e.1)) _ (ap is_unreadable (sym told) ∙ sym found ∙ spoilt)
+pub record-spoilt : (w : World) (fs : Fields) (e : String Global × Expr) (left : List (String Global × Expr)) (v : Value) → view v ≡ shown (eval w (expr_view e.1))
+    → is_unreadable (view v) ≡ true → shown (after_fields fs (eval_parts w (parts_view (e ∷ left)))) ≡ opaque
+record-spoilt w fs e left v told spoilt = fields-spoilt fs (string_bytes e.0) (eval w (expr_view e.1)) _ (ap is_unreadable (sym told) ∙ spoilt)

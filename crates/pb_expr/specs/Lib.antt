@@ -6,3 +6,4 @@ pub mod Letters
 pub mod Trees
 pub mod Signs
 pub mod Forms
+pub mod Reads

@@ -20,8 +20,3 @@ Refuses NoMemory x = Unit {0}
 abbrev pub IsTree : Result Expr ExprFault → Option Expression → Type 0
 IsTree (Ok e) x = x ≡ Some (expr_view e)
 IsTree (Err f) x = Refuses f x
-
--- the same of a tree and the token behind it, in that text
-abbrev pub Reads : List ℕ → Result (Expr × Token) ExprFault → Option (Reading Expression) → Type 0
-Reads bs (Ok r) x = x ≡ Some (reading (expr_view r.0) (tokens_at bs r.1))
-Reads bs (Err f) x = Refuses f x

@@ -1,5 +1,6 @@
 // Equality of values, and what it is for one to be in another.
 ghost use Rattle.std.specs.Prelude.{◌≡◌, []};
+ghost use Rattle.pb_semantics.specs.Data.{null, boolean, int, text};
 ghost use Rattle.pb_semantics.specs.Equal.{data_eq, items_eq, fields_eq, is_item};
 ghost use Rattle.pb_language.specs.Evaluation.{holds_opaque as has_opaque, any_item_opaque, any_field_opaque};
 ghost use Rattle.pb_value.specs.View.{view, items_view, fields_view};
@@ -11,13 +12,55 @@ use pb_value::value::{Fields, Value};
 pub fn equal(left: &Value, right: &Value) -> bool
     ensures { result ≡ data_eq (view left.now) (view right.now) }
 {
-    match (left, right) {
-        (Value::Null, Value::Null) => true,
-        (Value::Bool(one), Value::Bool(other)) => *one == *other,
-        (Value::Int(one), Value::Int(other)) => *one == *other,
-        (Value::Text(one), Value::Text(other)) => one.as_str() == other.as_str(),
-        (Value::List(ones), Value::List(others)) => items_equal(ones, others),
-        (Value::Rec(ones), Value::Rec(others)) => fields_equal(ones, others),
+    match left {
+        Value::Null => is_null(right),
+        Value::Bool(one) => is_bool(right, *one),
+        Value::Int(one) => is_int(right, *one),
+        Value::Text(one) => is_text(right, one.as_str()),
+        Value::List(ones) => match right {
+            Value::List(others) => items_equal(ones, others),
+            _ => false,
+        },
+        Value::Rec(ones) => match right {
+            Value::Rec(others) => fields_equal(ones, others),
+            _ => false,
+        },
+        Value::Opaque => false,
+    }
+}
+
+fn is_null(value: &Value) -> bool
+    ensures { result ≡ data_eq null (view value.now) }
+{
+    match value {
+        Value::Null => true,
+        _ => false,
+    }
+}
+
+fn is_bool(value: &Value, one: bool) -> bool
+    ensures { result ≡ data_eq (boolean one) (view value.now) }
+{
+    match value {
+        Value::Bool(other) => one == *other,
+        _ => false,
+    }
+}
+
+fn is_int(value: &Value, one: i64) -> bool
+    ensures { result ≡ data_eq (int one) (view value.now) }
+{
+    match value {
+        Value::Int(other) => one == *other,
+        _ => false,
+    }
+}
+
+fn is_text(value: &Value, one: &str) -> bool
+    ensures { result ≡ data_eq (text one.now) (view value.now) }
+{
+    match value {
+        Value::Text(other) => one == other.as_str(),
         _ => false,
     }
 }

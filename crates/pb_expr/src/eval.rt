@@ -1,8 +1,11 @@
 // The value of an expression.
-ghost use Rattle.std.specs.Prelude.{◌≡◌, IfOk, OnOk, is_some, option_map, string_bytes};
-ghost use Rattle.pb_semantics.specs.Data.{list, field_value, put_field};
+ghost use Rattle.std.specs.Prelude.{◌≡◌, true, false, IfOk, MatchOption, OnOk, is_some, option_map, string_bytes};
+ghost use Rattle.pb_semantics.specs.Data.{boolean, list, field_value, put_field};
 ghost use Rattle.pb_semantics.specs.Equal.{is_part};
 ghost use Rattle.pb_language.specs.Evaluation.{
+  value,
+  stuck,
+  wrong_sort,
   then_go,
   value_below,
   found,
@@ -40,24 +43,24 @@ pub fn eval<V: Vars>(alloc: Global, expr: &Expr, vars: &V) -> Result<Value, Allo
         Expr::Path(path) => Ok(value_of_path(path, vars)?),
         Expr::Not(operand) => {
             let operand = eval(alloc, operand, vars)?;
-            Ok(negation_of(&operand))
+            Ok(negation_of(operand))
         }
         Expr::And(operands) => Ok(all_of(alloc, operands, vars)?),
         Expr::Or(operands) => Ok(any_of(alloc, operands, vars)?),
         Expr::Equal(left, right) => {
             let left = eval(alloc, left, vars)?;
             let right = eval(alloc, right, vars)?;
-            Ok(equality_of(&left, &right))
+            Ok(equality_of(left, right))
         }
         Expr::Unequal(left, right) => {
             let left = eval(alloc, left, vars)?;
             let right = eval(alloc, right, vars)?;
-            Ok(inequality_of(&left, &right))
+            Ok(inequality_of(left, right))
         }
         Expr::In(part, whole) => {
             let part = eval(alloc, part, vars)?;
             let whole = eval(alloc, whole, vars)?;
-            Ok(membership_of(&part, &whole))
+            Ok(membership_of(part, whole))
         }
         Expr::List(items) => Ok(list_of(alloc, items, vars)?),
         Expr::Record(fields) => Ok(record_of(alloc, fields, vars)?),
@@ -70,7 +73,7 @@ fn all_of<V: Vars>(alloc: Global, operands: &Vec<Expr>, vars: &V) -> Result<Valu
 {
     for operand in operands {
         let found = eval(alloc, operand, vars)?;
-        match truth_of(&found) {
+        match truth_of(found) {
             Some(true) => {}
             Some(false) => return Ok(Value::Bool(false)),
             None => return Ok(Value::Opaque),
@@ -85,7 +88,7 @@ fn any_of<V: Vars>(alloc: Global, operands: &Vec<Expr>, vars: &V) -> Result<Valu
 {
     for operand in operands {
         let found = eval(alloc, operand, vars)?;
-        match truth_of(&found) {
+        match truth_of(found) {
             Some(false) => {}
             Some(true) => return Ok(Value::Bool(true)),
             None => return Ok(Value::Opaque),
@@ -101,10 +104,10 @@ fn list_of<V: Vars>(alloc: Global, items: &Vec<Expr>, vars: &V) -> Result<Value,
     let mut values = Vec::new(alloc);
     for item in items {
         let found = eval(alloc, item, vars)?;
-        if is_opaque(&found) {
-            return Ok(Value::Opaque);
+        match readable(found) {
+            Some(found) => values.push(found)?,
+            None => return Ok(Value::Opaque),
         }
-        values.push(found)?;
     }
     Ok(Value::of_items(alloc, values)?)
 }
@@ -120,18 +123,18 @@ fn record_of<V: Vars>(
     let mut values = BTreeMap::new(alloc);
     for (name, field) in fields.iter() {
         let found = eval(alloc, field, vars)?;
-        if is_opaque(&found) {
-            return Ok(Value::Opaque);
+        match readable(found) {
+            Some(found) => put(&mut values, name, found)?,
+            None => return Ok(Value::Opaque),
         }
-        put(&mut values, name.clone()?, found)?;
     }
     Ok(Value::of_fields(alloc, values)?)
 }
 
-fn put(fields: &mut Fields, name: String, found: Value) -> Result<(), AllocError>
-    ensures { OnOk result (fields_view fields.new.entries ≡ put_field (string_bytes name) (view found) (fields_view fields.old.entries)) }
+fn put(fields: &mut Fields, name: &String, found: Value) -> Result<(), AllocError>
+    ensures { OnOk result (fields_view fields.new.entries ≡ put_field (string_bytes name.now) (view found) (fields_view fields.old.entries)) }
 {
-    fields.insert(name, found)?;
+    fields.insert(name.clone()?, found)?;
     Ok(())
 }
 
@@ -167,53 +170,74 @@ fn field_inside<'v>(outer: &'v Value, name: &str) -> Option<&'v Value>
     }
 }
 
-fn truth_of(found: &Value) -> Option<bool>
-    ensures { result ≡ truth (view found.now) }
+fn truth_of(found: Value) -> Option<bool>
+    ensures { result ≡ truth (view found) }
 {
     match found {
-        Value::Bool(holds) => Some(*holds),
+        Value::Bool(holds) => Some(holds),
         _ => None,
     }
 }
 
-fn is_opaque(found: &Value) -> bool
-    ensures { result ≡ is_unreadable (view found.now) }
+// A value that may be read.
+fn readable(found: Value) -> Option<Value>
+    ensures { MatchOption result
+        (is_unreadable (view found) ≡ true)
+        (λ v. (view v ≡ view found) × (is_unreadable (view v) ≡ false)) }
 {
     match found {
-        Value::Opaque => true,
-        _ => false,
+        Value::Opaque => None,
+        found => Some(found),
     }
 }
 
-fn negation_of(operand: &Value) -> Value
-    ensures { view result ≡ shown (negated (view operand.now)) }
+fn negation_of(operand: Value) -> Value
+    ensures { view result ≡ shown (negated (view operand)) }
 {
     match operand {
-        Value::Bool(holds) => Value::Bool(!*holds),
+        Value::Bool(holds) => Value::Bool(!holds),
         _ => Value::Opaque,
     }
 }
 
-fn equality_of(left: &Value, right: &Value) -> Value
-    ensures { view result ≡ shown (equal_values (view left.now) (view right.now)) }
+fn equality_of(left: Value, right: Value) -> Value
+    ensures { view result ≡ shown (equal_values (view left) (view right)) }
 {
-    if holds_opaque(left) || holds_opaque(right) {
-        return Value::Opaque;
+    match are_equal(&left, &right) {
+        Some(holds) => Value::Bool(holds),
+        None => Value::Opaque,
     }
-    Value::Bool(equal(left, right))
 }
 
-fn inequality_of(left: &Value, right: &Value) -> Value
-    ensures { view result ≡ shown (then_go (equal_values (view left.now) (view right.now)) negated) }
+fn inequality_of(left: Value, right: Value) -> Value
+    ensures { view result ≡ shown (then_go (equal_values (view left) (view right)) negated) }
+{
+    match are_equal(&left, &right) {
+        Some(holds) => Value::Bool(!holds),
+        None => Value::Opaque,
+    }
+}
+
+// Whether two values are equal, where both may be read.
+fn are_equal(left: &Value, right: &Value) -> Option<bool>
+    ensures { MatchOption result
+        (equal_values (view left.now) (view right.now) ≡ stuck wrong_sort)
+        (λ b. equal_values (view left.now) (view right.now) ≡ value (boolean b)) }
 {
     if holds_opaque(left) || holds_opaque(right) {
-        return Value::Opaque;
+        return None;
     }
-    Value::Bool(!equal(left, right))
+    Some(equal(left, right))
+}
+
+fn membership_of(part: Value, whole: Value) -> Value
+    ensures { view result ≡ shown (found_in (view part) (view whole)) }
+{
+    membership(&part, &whole)
 }
 
 // Whether the first value is in the second: an equal item, a part of the text or a field there.
-fn membership_of(part: &Value, whole: &Value) -> Value
+fn membership(part: &Value, whole: &Value) -> Value
     ensures { view result ≡ shown (found_in (view part.now) (view whole.now)) }
 {
     match (part, whole) {

@@ -2,6 +2,7 @@
 ghost use Rattle.std.specs.Prelude.{◌≡◌, ◌∷◌, ℕ, List, Bool, IfOk, OnOk, MatchResult, Some, None, not, true, option_map, string_bytes};
 ghost use Rattle.pb_semantics.specs.Kind.{Cases, never, booleans, lists, recs, results, spot, slot_at as spot_at, put_slot};
 ghost use Rattle.pb_semantics.specs.Data.{count_of};
+ghost use Rattle.pb_semantics.specs.Join.{join as least_above};
 ghost use Rattle.pb_semantics.specs.Fit.{holds_any as any_in, any_slot_holds, any_case_holds};
 ghost use Rattle.pb_language.specs.Expression.{equal, variable};
 ghost use Rattle.pb_language.specs.Scope.{spot_kind};
@@ -99,24 +100,24 @@ pub fn kind_of(alloc: Global, expr: &Expr, slots: &Slots) -> Result<Kind, KindFa
         Expr::Path(path) => path_kind(path, slots),
         Expr::Not(operand) => {
             let operand = kind_of(alloc, operand, slots)?;
-            negation_kind(&operand)
+            negation_kind(operand)
         }
         Expr::And(operands) => chain_kind(alloc, operands, slots),
         Expr::Or(operands) => chain_kind(alloc, operands, slots),
         Expr::Equal(left, right) => {
             let left = kind_of(alloc, left, slots)?;
             let right = kind_of(alloc, right, slots)?;
-            comparison_kind(&left, &right)
+            comparison_kind(left, right)
         }
         Expr::Unequal(left, right) => {
             let left = kind_of(alloc, left, slots)?;
             let right = kind_of(alloc, right, slots)?;
-            comparison_kind(&left, &right)
+            comparison_kind(left, right)
         }
         Expr::In(part, whole) => {
             let part = kind_of(alloc, part, slots)?;
             let whole = kind_of(alloc, whole, slots)?;
-            membership_kind(&part, &whole)
+            membership_kind(part, whole)
         }
         Expr::List(items) => list_kind(alloc, items, slots),
         Expr::Record(fields) => record_kind(alloc, fields, slots),
@@ -130,7 +131,7 @@ fn chain_kind(alloc: Global, operands: &Vec<Expr>, slots: &Slots) -> Result<Kind
     let mut are_bool = true;
     for operand in operands {
         let kind = kind_of(alloc, operand, slots)?;
-        are_bool = are_bool & is_bool(&kind);
+        are_bool = are_bool & is_bool(kind);
     }
     asked(are_bool)
 }
@@ -159,7 +160,7 @@ fn record_kind(
     let mut kinds = BTreeMap::new(alloc);
     for (name, field) in fields.iter() {
         let kind = part_kind(alloc, field, slots)?;
-        put(&mut kinds, name.clone()?, kind)?;
+        put(&mut kinds, name, kind)?;
     }
     Ok(Kind::Rec(Arc::new(alloc, kinds)?))
 }
@@ -170,10 +171,16 @@ fn part_kind(alloc: Global, expr: &Expr, slots: &Slots) -> Result<Kind, KindFaul
     ensures { Finds result (first (fault (own_scope (slots_view slots.now.entries)) (expr_view expr.now)) (asks wrong_kind (not (is_anything (kind_found (own_scope (slots_view slots.now.entries)) (expr_view expr.now)))))) (kind_found (own_scope (slots_view slots.now.entries)) (expr_view expr.now)) }
 {
     let kind = kind_of(alloc, expr, slots)?;
-    if is_any(&kind) {
-        return Err(KindFault::Unfit(Unfit::WrongKind));
+    not_any(kind)
+}
+
+fn not_any(kind: Kind) -> Result<Kind, KindFault>
+    ensures { Finds result (asks wrong_kind (not (is_anything (kind_view kind)))) (kind_view kind) }
+{
+    match kind {
+        Kind::Any => Err(KindFault::Unfit(Unfit::WrongKind)),
+        kind => Ok(kind),
     }
-    Ok(kind)
 }
 
 // The least kind above all of these, from the last to the first.
@@ -187,11 +194,11 @@ fn join_all(alloc: Global, kinds: &Vec<Kind>) -> Result<Kind, AllocError>
     Ok(joined)
 }
 
-fn put(kinds: &mut Slots, name: String, kind: Kind) -> Result<(), AllocError>
-    ensures { OnOk result (slots_view kinds.new.entries ≡ put_slot (string_bytes name) true (kind_view kind) (slots_view kinds.old.entries)) }
+fn put(kinds: &mut Slots, name: &String, kind: Kind) -> Result<(), AllocError>
+    ensures { OnOk result (slots_view kinds.new.entries ≡ put_slot (string_bytes name.now) true (kind_view kind) (slots_view kinds.old.entries)) }
 {
     kinds.insert(
-        name,
+        name.clone()?,
         Slot {
             presence: Presence::Always,
             kind,
@@ -284,39 +291,50 @@ fn asked(is_fit: bool) -> Result<Kind, KindFault>
     }
 }
 
-fn negation_kind(operand: &Kind) -> Result<Kind, KindFault>
-    ensures { Finds result (asks wrong_kind (is_boolean (kind_view operand.now))) booleans }
+fn negation_kind(operand: Kind) -> Result<Kind, KindFault>
+    ensures { Finds result (asks wrong_kind (is_boolean (kind_view operand))) booleans }
 {
     asked(is_bool(operand))
 }
 
 // What `==` and `!=` give between operands of these kinds.
-fn comparison_kind(left: &Kind, right: &Kind) -> Result<Kind, KindFault>
-    ensures { Finds result (asks wrong_kind (can_compare equal (kind_view left.now) (kind_view right.now))) booleans }
+fn comparison_kind(left: Kind, right: Kind) -> Result<Kind, KindFault>
+    ensures { Finds result
+        (asks wrong_kind (can_compare equal (kind_view left) (kind_view right))) booleans }
 {
-    if holds_any(left) || holds_any(right) {
-        return Err(KindFault::Unfit(Unfit::WrongKind));
-    }
-    Ok(Kind::Bool)
+    asked(are_comparable(&left, &right))
+}
+
+fn are_comparable(left: &Kind, right: &Kind) -> bool
+    ensures { result ≡ can_compare equal (kind_view left.now) (kind_view right.now) }
+{
+    !(holds_any(left) || holds_any(right))
 }
 
 // What `in` gives between operands of these kinds.
-fn membership_kind(part: &Kind, whole: &Kind) -> Result<Kind, KindFault>
-    ensures { Finds result (asks wrong_kind (can_find (kind_view part.now) (kind_view whole.now))) booleans }
+fn membership_kind(part: Kind, whole: Kind) -> Result<Kind, KindFault>
+    ensures { Finds result
+        (asks wrong_kind (can_find (kind_view part) (kind_view whole))) booleans }
+{
+    asked(may_hold(&whole, &part))
+}
+
+fn may_hold(whole: &Kind, part: &Kind) -> bool
+    ensures { result ≡ can_find (kind_view part.now) (kind_view whole.now) }
 {
     match whole {
-        Kind::Never => asked(!is_any(part)),
-        Kind::List(item, _) => comparison_kind(part, item),
-        Kind::Text => asked(is_text(part)),
-        Kind::Host(_) => asked(is_text(part)),
-        Kind::Rec(_) => asked(is_text(part)),
-        Kind::Result(_, _) => asked(is_text(part)),
-        _ => asked(false),
+        Kind::Never => !is_any(part),
+        Kind::List(item, _) => are_comparable(part, item),
+        Kind::Text => is_text(part),
+        Kind::Host(_) => is_text(part),
+        Kind::Rec(_) => is_text(part),
+        Kind::Result(_, _) => is_text(part),
+        _ => false,
     }
 }
 
-fn is_bool(kind: &Kind) -> bool
-    ensures { result ≡ is_boolean (kind_view kind.now) }
+fn is_bool(kind: Kind) -> bool
+    ensures { result ≡ is_boolean (kind_view kind) }
 {
     match kind {
         Kind::Bool | Kind::Never => true,
@@ -403,9 +421,15 @@ fn literal_items(alloc: Global, items: &Vec<Value>) -> Result<Kind, AllocError>
     let mut joined = Kind::Never;
     for index in (0..items.len()).rev() {
         let kind = literal_kind(alloc, &items[index])?;
-        joined = join(alloc, &kind, &joined)?;
+        joined = joined_kind(alloc, kind, joined)?;
     }
     Ok(Kind::List(Arc::new(alloc, joined)?, items.len()))
+}
+
+fn joined_kind(alloc: Global, kind: Kind, joined: Kind) -> Result<Kind, AllocError>
+    ensures { IfOk result (λ k. kind_view k ≡ least_above (kind_view kind) (kind_view joined)) }
+{
+    Ok(join(alloc, &kind, &joined)?)
 }
 
 #[cycle(literal_kind)]
@@ -415,7 +439,7 @@ fn literal_fields(alloc: Global, fields: &Fields) -> Result<Kind, AllocError>
     let mut kinds = BTreeMap::new(alloc);
     for (name, field) in fields.iter() {
         let kind = literal_kind(alloc, field)?;
-        put(&mut kinds, name.clone()?, kind)?;
+        put(&mut kinds, name, kind)?;
     }
     Ok(Kind::Rec(Arc::new(alloc, kinds)?))
 }

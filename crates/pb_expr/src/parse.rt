@@ -3,12 +3,13 @@ ghost use Rattle.std.specs.Prelude.{vec_len, ◌≡◌, ◌+◌, ◌<◌, ◌≤
 ghost use Rattle.pb_semantics.specs.Keeps.{is_among};
 ghost use Rattle.pb_language.specs.Simple.{is_simple, shared_names};
 ghost use Rattle.pb_expr.specs.ExprView.{expr_view, names_of};
-ghost use Rattle.pb_expr.specs.Letters.{IsLettered, letters_at, tokens_at};
+ghost use Rattle.pb_expr.specs.Letters.{letters_at, tokens_at};
+ghost use Rattle.pb_expr.specs.Reads.{IsRead, IsRefused, IsToken, joined_by, read_on};
 ghost use Rattle.pb_expr.specs.Place.{place_of, least_width};
-ghost use Rattle.pb_expr.specs.Trees.{IsTree, Reads, Refuses};
-ghost use Rattle.pb_expr.specs.Forms.{first_literal, opening_at, related_by, with_bytes};
-ghost use Rattle.pb_language.specs.Expression.{literal};
-ghost use Rattle.pb_language.specs.Grammar.{closed, conjunction_of, cut, cut_in, deeper, disjunction_of, expression_of, is_mark, negation_of, operand_at as bare_operand, operand_of, path_of, reading, relation_of, steps_of, template_of};
+ghost use Rattle.pb_expr.specs.Trees.{IsTree, Refuses};
+ghost use Rattle.pb_expr.specs.Forms.{first_literal, opening_at, with_bytes};
+ghost use Rattle.pb_language.specs.Expression.{Expression, literal};
+ghost use Rattle.pb_language.specs.Grammar.{Deeper, closed, conjunction_of, cut, cut_in, deeper, disjunction_of, expression_of, is_mark, literal_before, negation_of, operand_at as bare_operand, operand_of, path_of, reading, related as related_tree, relation_of, steps_of, template_of};
 ghost use Rattle.pb_language.specs.Rules.{are_name_bytes};
 ghost use Rattle.pb_language.specs.Tokens.{is_quote as is_quote_byte, tokens_of};
 ghost use Rattle.pb_value.specs.View.{view};
@@ -152,16 +153,11 @@ fn expr_from(alloc: Global, text: &[u8], from: usize) -> Result<Expr, ExprFault>
 #[cycle(parser)]
 fn or_at(alloc: Global, text: &[u8], token: Token, depth: usize) -> Result<(Expr, Token), ExprFault>
     requires bounded { depth ≤ 32 }
-    requires wide { token.start + least_width token.sort ≤ token.end }
-    requires within { token.end ≤ length text.now }
-    requires lettered { IsLettered text.now token }
-    ensures begins { IfOk result (λ r. token.start < r.1.start) }
-    ensures ends { IfOk result (λ r. r.1.end ≤ length text.now) }
-    ensures wide { IfOk result (λ r. r.1.start + least_width r.1.sort ≤ r.1.end) }
-    ensures place { IfErr result (λ e. place_of e ≤ length text.now) }
-    ensures simple { IfOk result (λ r. is_simple (expr_view r.0) ≡ true) }
-    ensures lettered { IfOk result (λ r. IsLettered text.now r.1) }
-    ensures tree { Reads text.now result (disjunction_of (deeper depth) (tokens_at text.now token)) }
+    requires token { IsToken text.now token }
+    ensures read { IfOk result (λ r. IsRead text.now token r
+        (disjunction_of (deeper depth) (tokens_at text.now token))) }
+    ensures refused { IfErr result (λ e. IsRefused _ text.now e
+        (disjunction_of (deeper depth) (tokens_at text.now token))) }
 {
     let (first, mut after) = and_at(alloc, text, token, depth)?;
     if after.sort != Sort::Or {
@@ -186,16 +182,11 @@ fn and_at(
     depth: usize,
 ) -> Result<(Expr, Token), ExprFault>
     requires bounded { depth ≤ 32 }
-    requires wide { token.start + least_width token.sort ≤ token.end }
-    requires within { token.end ≤ length text.now }
-    requires lettered { IsLettered text.now token }
-    ensures begins { IfOk result (λ r. token.start < r.1.start) }
-    ensures ends { IfOk result (λ r. r.1.end ≤ length text.now) }
-    ensures wide { IfOk result (λ r. r.1.start + least_width r.1.sort ≤ r.1.end) }
-    ensures place { IfErr result (λ e. place_of e ≤ length text.now) }
-    ensures simple { IfOk result (λ r. is_simple (expr_view r.0) ≡ true) }
-    ensures lettered { IfOk result (λ r. IsLettered text.now r.1) }
-    ensures tree { Reads text.now result (conjunction_of (deeper depth) (tokens_at text.now token)) }
+    requires token { IsToken text.now token }
+    ensures read { IfOk result (λ r. IsRead text.now token r
+        (conjunction_of (deeper depth) (tokens_at text.now token))) }
+    ensures refused { IfErr result (λ e. IsRefused _ text.now e
+        (conjunction_of (deeper depth) (tokens_at text.now token))) }
 {
     let (first, mut after) = not_at(alloc, text, token, depth)?;
     if after.sort != Sort::And {
@@ -220,16 +211,11 @@ fn not_at(
     depth: usize,
 ) -> Result<(Expr, Token), ExprFault>
     requires bounded { depth ≤ 32 }
-    requires wide { token.start + least_width token.sort ≤ token.end }
-    requires within { token.end ≤ length text.now }
-    requires lettered { IsLettered text.now token }
-    ensures begins { IfOk result (λ r. token.start < r.1.start) }
-    ensures ends { IfOk result (λ r. r.1.end ≤ length text.now) }
-    ensures wide { IfOk result (λ r. r.1.start + least_width r.1.sort ≤ r.1.end) }
-    ensures place { IfErr result (λ e. place_of e ≤ length text.now) }
-    ensures simple { IfOk result (λ r. is_simple (expr_view r.0) ≡ true) }
-    ensures lettered { IfOk result (λ r. IsLettered text.now r.1) }
-    ensures tree { Reads text.now result (negation_of (deeper depth) (tokens_at text.now token)) }
+    requires token { IsToken text.now token }
+    ensures read { IfOk result (λ r. IsRead text.now token r
+        (negation_of (deeper depth) (tokens_at text.now token))) }
+    ensures refused { IfErr result (λ e. IsRefused _ text.now e
+        (negation_of (deeper depth) (tokens_at text.now token))) }
 {
     if token.sort != Sort::Not {
         return relation_at(alloc, text, token, depth);
@@ -250,34 +236,43 @@ fn relation_at(
     depth: usize,
 ) -> Result<(Expr, Token), ExprFault>
     requires bounded { depth ≤ 32 }
-    requires wide { token.start + least_width token.sort ≤ token.end }
-    requires within { token.end ≤ length text.now }
-    requires lettered { IsLettered text.now token }
-    ensures begins { IfOk result (λ r. token.start < r.1.start) }
-    ensures ends { IfOk result (λ r. r.1.end ≤ length text.now) }
-    ensures wide { IfOk result (λ r. r.1.start + least_width r.1.sort ≤ r.1.end) }
-    ensures place { IfErr result (λ e. place_of e ≤ length text.now) }
-    ensures simple { IfOk result (λ r. is_simple (expr_view r.0) ≡ true) }
-    ensures lettered { IfOk result (λ r. IsLettered text.now r.1) }
-    ensures tree { Reads text.now result (relation_of (deeper depth) (tokens_at text.now token)) }
+    requires token { IsToken text.now token }
+    ensures read { IfOk result (λ r. IsRead text.now token r
+        (relation_of (deeper depth) (tokens_at text.now token))) }
+    ensures refused { IfErr result (λ e. IsRefused _ text.now e
+        (relation_of (deeper depth) (tokens_at text.now token))) }
 {
     let (left, sign) = operand_at(alloc, text, token, depth)?;
+    let Some((relation, first)) = relation_behind(text, sign)? else {
+        return Ok((left, sign));
+    };
+    let (right, after) = operand_at(alloc, text, first, depth)?;
+    Ok((related(alloc, relation, left, right)?, after))
+}
+
+// The sign that the token begins, where it relates two operands, and the token behind the sign.
+fn relation_behind(text: &[u8], sign: Token) -> Result<Option<(Sort, Token)>, ExprFault>
+    requires token { IsToken text.now sign }
+    ensures next { IfOk result (λ r. IfSome r (λ s.
+        (sign.start ≤ s.1.start) × IsToken text.now s.1)) }
+    ensures read { IfOk result (λ r. (a : Expression) (d : Deeper) →
+        related_tree a (tokens_at text.now sign) (operand_of d) ≡ read_on text.now sign r a (operand_of d)) }
+    ensures refused { IfErr result (λ e. (a : Expression) (d : Deeper) → IsRefused _ text.now e
+        (related_tree a (tokens_at text.now sign) (operand_of d))) }
+{
     match sign.sort {
         Sort::Equal | Sort::Unequal | Sort::In => {
-            let (right, after) = operand_at(alloc, text, token_at(text, sign.end)?, depth)?;
-            Ok((related(alloc, sign.sort, left, right)?, after))
+            Ok(Some((sign.sort, token_at(text, sign.end)?)))
         }
         Sort::Not => {
             let word = token_at(text, sign.end)?;
             if word.sort != Sort::In {
                 return Err(ExprFault::Unreadable { at: word.start });
             }
-            let (right, after) = operand_at(alloc, text, token_at(text, word.end)?, depth)?;
-            let found = related(alloc, word.sort, left, right)?;
-            Ok((Expr::Not(Box::new(alloc, found)?), after))
+            Ok(Some((sign.sort, token_at(text, word.end)?)))
         }
         Sort::Order | Sort::Is => Err(ExprFault::NotBuilt),
-        _ => Ok((left, sign)),
+        _ => Ok(None),
     }
 }
 
@@ -285,13 +280,15 @@ fn related(alloc: Global, sort: Sort, left: Expr, right: Expr) -> Result<Expr, A
     requires left { is_simple (expr_view left) ≡ true }
     requires right { is_simple (expr_view right) ≡ true }
     ensures simple { IfOk result (λ e. is_simple (expr_view e) ≡ true) }
-    ensures tree { IfOk result (λ e. expr_view e ≡ related_by sort (expr_view left) (expr_view right)) }
+    ensures tree { IfOk result (λ e.
+        expr_view e ≡ joined_by sort (expr_view left) (expr_view right)) }
 {
     let left = Box::new(alloc, left)?;
     let right = Box::new(alloc, right)?;
     match sort {
         Sort::Equal => Ok(Expr::Equal(left, right)),
         Sort::Unequal => Ok(Expr::Unequal(left, right)),
+        Sort::Not => Ok(Expr::Not(Box::new(alloc, Expr::In(left, right))?)),
         _ => Ok(Expr::In(left, right)),
     }
 }
@@ -305,18 +302,22 @@ fn operand_at(
     depth: usize,
 ) -> Result<(Expr, Token), ExprFault>
     requires bounded { depth ≤ 32 }
-    requires wide { token.start + least_width token.sort ≤ token.end }
-    requires within { token.end ≤ length text.now }
-    requires lettered { IsLettered text.now token }
-    ensures begins { IfOk result (λ r. token.start < r.1.start) }
-    ensures ends { IfOk result (λ r. r.1.end ≤ length text.now) }
-    ensures wide { IfOk result (λ r. r.1.start + least_width r.1.sort ≤ r.1.end) }
-    ensures place { IfErr result (λ e. place_of e ≤ length text.now) }
-    ensures simple { IfOk result (λ r. is_simple (expr_view r.0) ≡ true) }
-    ensures lettered { IfOk result (λ r. IsLettered text.now r.1) }
-    ensures tree { Reads text.now result (operand_of (deeper depth) (tokens_at text.now token)) }
+    requires token { IsToken text.now token }
+    ensures read { IfOk result (λ r. IsRead text.now token r
+        (operand_of (deeper depth) (tokens_at text.now token))) }
+    ensures refused { IfErr result (λ e. IsRefused _ text.now e
+        (operand_of (deeper depth) (tokens_at text.now token))) }
 {
     let (operand, after) = bare_operand_at(alloc, text, token, depth)?;
+    unfiltered(operand, after)
+}
+
+// An operand behind which no filter stands.
+fn unfiltered(operand: Expr, after: Token) -> Result<(Expr, Token), ExprFault>
+    ensures same { IfOk result (λ r. r ≡ (operand, after)) }
+    ensures alone { IfOk result (λ _. after.sort ≡ Sort.Pipe → ⊥) }
+    ensures filtered { IfErr result (λ e. (e ≡ ExprFault.NotBuilt) × (after.sort ≡ Sort.Pipe)) }
+{
     if after.sort == Sort::Pipe {
         return Err(ExprFault::NotBuilt);
     }
@@ -332,24 +333,16 @@ fn bare_operand_at(
     depth: usize,
 ) -> Result<(Expr, Token), ExprFault>
     requires bounded { depth ≤ 32 }
-    requires wide { token.start + least_width token.sort ≤ token.end }
-    requires within { token.end ≤ length text.now }
-    requires lettered { IsLettered text.now token }
-    ensures begins { IfOk result (λ r. token.start < r.1.start) }
-    ensures ends { IfOk result (λ r. r.1.end ≤ length text.now) }
-    ensures wide { IfOk result (λ r. r.1.start + least_width r.1.sort ≤ r.1.end) }
-    ensures place { IfErr result (λ e. place_of e ≤ length text.now) }
-    ensures simple { IfOk result (λ r. is_simple (expr_view r.0) ≡ true) }
-    ensures lettered { IfOk result (λ r. IsLettered text.now r.1) }
-    ensures tree { Reads text.now result (bare_operand (deeper depth) (tokens_at text.now token)) }
+    requires token { IsToken text.now token }
+    ensures read { IfOk result (λ r. IsRead text.now token r
+        (bare_operand (deeper depth) (tokens_at text.now token))) }
+    ensures refused { IfErr result (λ e. IsRefused _ text.now e
+        (bare_operand (deeper depth) (tokens_at text.now token))) }
 {
     match token.sort {
         Sort::Open => inside(alloc, text, token, depth),
         Sort::Name => path_at(alloc, text, token),
-        _ => {
-            let literal = literal_of(alloc, text, token)?;
-            Ok((Expr::Literal(literal), token_at(text, token.end)?))
-        }
+        _ => literal_at(alloc, text, token),
     }
 }
 
@@ -362,25 +355,47 @@ fn inside(
     depth: usize,
 ) -> Result<(Expr, Token), ExprFault>
     requires bounded { depth ≤ 32 }
-    requires wide { token.start < token.end }
-    requires within { token.end ≤ length text.now }
-    ensures begins { IfOk result (λ r. token.start < r.1.start) }
-    ensures ends { IfOk result (λ r. r.1.end ≤ length text.now) }
-    ensures wide { IfOk result (λ r. r.1.start + least_width r.1.sort ≤ r.1.end) }
-    ensures place { IfErr result (λ e. place_of e ≤ length text.now) }
-    ensures simple { IfOk result (λ r. is_simple (expr_view r.0) ≡ true) }
-    ensures lettered { IfOk result (λ r. IsLettered text.now r.1) }
-    ensures tree { Reads text.now result
-        (closed ((deeper depth).whole (tokens_of (drop token.end text.now)))) }
+    requires token { IsToken text.now token }
+    ensures read { IfOk result (λ r. IsRead text.now token r
+        (closed ((deeper depth).whole (tokens_of (drop token.end text.now))))) }
+    ensures refused { IfErr result (λ e. IsRefused _ text.now e
+        (closed ((deeper depth).whole (tokens_of (drop token.end text.now))))) }
 {
     if depth == 0 {
         return Err(ExprFault::TooDeep);
     }
     let (expr, close) = or_at(alloc, text, token_at(text, token.end)?, depth - 1)?;
+    Ok((expr, behind_closing(text, close)?))
+}
+
+// The token behind a `)`.
+fn behind_closing(text: &[u8], close: Token) -> Result<Token, ExprFault>
+    requires token { IsToken text.now close }
+    ensures next { IfOk result (λ t. (close.start ≤ t.start) × IsToken text.now t) }
+    ensures read { IfOk result (λ t. (e : Expression) →
+        closed (Some (reading e (tokens_at text.now close))) ≡ Some (reading e (tokens_at text.now t))) }
+    ensures refused { IfErr result (λ f. (e : Expression) → IsRefused _ text.now f
+        (closed (Some (reading e (tokens_at text.now close))))) }
+{
     if close.sort != Sort::Close {
         return Err(ExprFault::Unreadable { at: close.start });
     }
-    Ok((expr, token_at(text, close.end)?))
+    token_at(text, close.end)
+}
+
+// The literal that the token spells, and the token after it.
+fn literal_at(alloc: Global, text: &[u8], token: Token) -> Result<(Expr, Token), ExprFault>
+    requires token { IsToken text.now token }
+    ensures read { IfOk result (λ r. IsRead text.now token r
+        (literal_before (first_literal (tokens_at text.now token))
+        (tokens_of (drop token.end text.now)))) }
+    ensures refused { IfErr result (λ e. IsRefused _ text.now e
+        (literal_before (first_literal (tokens_at text.now token))
+        (tokens_of (drop token.end text.now)))) }
+{
+    let literal = literal_of(alloc, text, token)?;
+    let after = token_at(text, token.end)?;
+    Ok((Expr::Literal(literal), after))
 }
 
 // The value that a token spells.
@@ -407,14 +422,10 @@ fn path_at(alloc: Global, text: &[u8], token: Token) -> Result<(Expr, Token), Ex
     requires wide { token.start < token.end }
     requires within { token.end ≤ length text.now }
     requires lettered { are_name_bytes (letters_at text.now token) ≡ true }
-    ensures begins { IfOk result (λ r. token.start < r.1.start) }
-    ensures ends { IfOk result (λ r. r.1.end ≤ length text.now) }
-    ensures wide { IfOk result (λ r. r.1.start + least_width r.1.sort ≤ r.1.end) }
-    ensures place { IfErr result (λ e. place_of e ≤ length text.now) }
-    ensures lettered { IfOk result (λ r. IsLettered text.now r.1) }
-    ensures tree { Reads text.now result
-        (path_of (letters_at text.now token) (tokens_of (drop token.end text.now))) }
-    ensures simple { IfOk result (λ r. is_simple (expr_view r.0) ≡ true) }
+    ensures read { IfOk result (λ r. IsRead text.now token r
+        (path_of (letters_at text.now token) (tokens_of (drop token.end text.now)))) }
+    ensures refused { IfErr result (λ e. IsRefused _ text.now e
+        (path_of (letters_at text.now token) (tokens_of (drop token.end text.now)))) }
 {
     if is_special(&text[token.start..token.end]) {
         return Err(ExprFault::NotBuilt);
@@ -438,18 +449,13 @@ fn is_special(root: &[u8]) -> bool
 
 // The steps from the token on, and the token after them.
 fn steps_at(alloc: Global, text: &[u8], token: Token) -> Result<(Vec<String>, Token), ExprFault>
-    requires wide { token.start + least_width token.sort ≤ token.end }
-    requires within { token.end ≤ length text.now }
-    requires lettered { IsLettered text.now token }
+    requires token { IsToken text.now token }
     ensures short { IfOk result (λ r. vec_len r.0 ≤ 16) }
-    ensures begins { IfOk result (λ r. token.start ≤ r.1.start) }
-    ensures ends { IfOk result (λ r. r.1.end ≤ length text.now) }
-    ensures wide { IfOk result (λ r. r.1.start + least_width r.1.sort ≤ r.1.end) }
-    ensures lettered { IfOk result (λ r. IsLettered text.now r.1) }
+    ensures next { IfOk result (λ r. (token.start ≤ r.1.start) × IsToken text.now r.1) }
     ensures read { IfOk result (λ r. steps_of 16 (tokens_at text.now token)
         ≡ Some (reading (names_of r.0.items) (tokens_at text.now r.1))) }
-    ensures refused { IfErr result (λ e. Refuses e (steps_of 16 (tokens_at text.now token))) }
-    ensures place { IfErr result (λ e. place_of e ≤ length text.now) }
+    ensures refused { IfErr result (λ e.
+        IsRefused _ text.now e (steps_of 16 (tokens_at text.now token))) }
 {
     let mut steps = Vec::new(alloc);
     let mut after = token;

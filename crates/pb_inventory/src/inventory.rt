@@ -1,6 +1,28 @@
 // The hosts of a run in their order, and the groups that they stand in.
-ghost use Rattle.std.specs.Prelude.{◌≡◌, ◌<◌, ◌≤◌, IfOk, Some, true, length, map, option_map, slice_get, string_bytes};
-ghost use Rattle.indexmap.specs.IndexMap.{index_map_len};
+ghost use Rattle.std.specs.Prelude.{
+  ◌≡◌,
+  ◌<◌,
+  ◌≤◌,
+  ℕ,
+  [],
+  ◌∷◌,
+  IfOk,
+  OnOk,
+  Some,
+  String,
+  Vec,
+  true,
+  codes,
+  length,
+  map,
+  option_map,
+  slice_get,
+  string_bytes,
+};
+ghost use Rattle.std.specs.declared.alloc.Global.{Global};
+ghost use Rattle.std.specs.Str.{bytes_eq};
+ghost use Rattle.indexmap.specs.IndexMap.{index_map_len, insert_entry};
+ghost use Rattle.pb_semantics.specs.Data.{no_fields};
 ghost use Rattle.pb_value.specs.View.{fields_view};
 ghost use Rattle.pb_inventory.specs.Hosts.{is_lone, one_host};
 ghost use Rattle.pb_inventory.specs.Views.{host_view, group_view};
@@ -92,16 +114,48 @@ impl Inventory {
     pub(crate) fn of_one(alloc: Global, name: String) -> Result<Inventory, AllocError>
         ensures { IfOk result (λ i. inventory_view i ≡ one_host (string_bytes name)) }
     {
-        let ungrouped = Arc::new(alloc, String::from_str(alloc, "ungrouped")?)?;
-        let known = Host {
-            groups: vec![in alloc; ungrouped]?,
-            vars: Fields::new(alloc),
-        };
+        let known = ungrouped_host(alloc)?;
         let mut hosts = IndexMap::new(alloc);
         drop(hosts.insert(name, known)?);
-        let mut groups = IndexMap::new(alloc);
-        drop(groups.insert(String::from_str(alloc, "all")?, vec![in alloc; 0]?)?);
-        drop(groups.insert(String::from_str(alloc, "ungrouped")?, vec![in alloc; 0]?)?);
+        let groups = first_groups(alloc)?;
         Ok(Inventory { hosts, groups })
     }
+}
+
+fn ungrouped_host(alloc: Global) -> Result<Host, AllocError>
+    ensures groups { IfOk result (λ h. map (λ n. string_bytes n.value) h.groups.items
+        ≡ codes "ungrouped" ∷ []) }
+    ensures vars { IfOk result (λ h. fields_view h.vars.entries ≡ no_fields) }
+{
+    let ungrouped = Arc::new(alloc, String::from_str(alloc, "ungrouped")?)?;
+    Ok(Host {
+        groups: vec![in alloc; ungrouped]?,
+        vars: Fields::new(alloc),
+    })
+}
+
+/// The groups that the only host stands in.
+fn first_groups(alloc: Global) -> Result<IndexMap<String, Vec<usize>>, AllocError>
+    ensures { IfOk result (λ m. map group_view m.entries ≡ (one_host []).groups) }
+{
+    let mut groups = IndexMap::new(alloc);
+    put_first(alloc, &mut groups, "all")?;
+    put_first(alloc, &mut groups, "ungrouped")?;
+    Ok(groups)
+}
+
+/// Puts a group of the first host.
+fn put_first(
+    alloc: Global,
+    groups: &mut IndexMap<String, Vec<usize>>,
+    name: &str,
+) -> Result<(), AllocError>
+    ensures { OnOk result ((key : String Global) × (places : Vec ℕ Global)
+        × (group_view (key, places) ≡ record { name = name.now; members = 0 ∷ [] })
+        × (groups.new.entries ≡ insert_entry (λ a b. bytes_eq (string_bytes a) (string_bytes b))
+        groups.old.entries key places)) }
+{
+    let key = String::from_str(alloc, name)?;
+    drop(groups.insert(key, vec![in alloc; 0]?)?);
+    Ok(())
 }

@@ -2,10 +2,13 @@
 ghost use Rattle.std.specs.Prelude.{◌≡◌, IfOk, Some, option_map, codes};
 ghost use Rattle.pb_semantics.specs.Data.{boolean, field_value, put_field, rec};
 ghost use Rattle.pb_value.specs.View.{view, fields_view};
+ghost use Rattle.pb_value.specs.KindView.{kind_view};
 ghost use Rattle.pb_semantics.specs.Admission.{admission, changed_fields, ended, failed_of};
+ghost use Rattle.pb_semantics.specs.Project.{projected};
 ghost use Rattle.pb_sig.specs.AdmissionView.{admission_view};
 
 use crate::signature::Module;
+use pb_value::kind::Kind;
 use pb_value::project::project;
 use pb_value::value::{Fields, Value, field_of};
 use std::alloc::{AllocError, Global};
@@ -33,18 +36,25 @@ pub fn admit<M: Module>(alloc: Global, source: &M, answer: &Value) -> Result<Adm
         return Ok(Admission::Breach);
     };
     match failed_in(fields) {
-        Some(true) => ended_as(
-            alloc,
-            true,
-            project(alloc, &with_changed(alloc, fields)?, source.fail_shape())?,
-        ),
-        Some(false) => ended_as(
-            alloc,
-            false,
-            project(alloc, &with_changed(alloc, fields)?, source.ok_shape())?,
-        ),
+        Some(true) => ended_in(alloc, true, fields, source.fail_shape()),
+        Some(false) => ended_in(alloc, false, fields, source.ok_shape()),
         None => Ok(Admission::Breach),
     }
+}
+
+/// The answer of these fields with what that shape keeps of it.
+fn ended_in(
+    alloc: Global,
+    failed: bool,
+    fields: &Arc<Fields>,
+    shape: &Kind,
+) -> Result<Admission, AllocError>
+    ensures { IfOk result (λ a. admission_view a ≡ ended failed
+        (projected (rec (changed_fields (fields_view fields.now.value.entries)))
+        (kind_view shape.now))) }
+{
+    let whole = with_changed(alloc, fields)?;
+    ended_as(alloc, failed, project(alloc, &whole, shape)?)
 }
 
 /// The field `failed`, false where it is absent; none where it is no truth value.

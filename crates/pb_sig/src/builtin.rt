@@ -1,10 +1,12 @@
 // The modules that are there in every run.
-ghost use Rattle.std.specs.Prelude.{◌≡◌, true, IfOk, string_bytes};
+ghost use Rattle.std.specs.Prelude.{◌≡◌, true, IfOk, map, string_bytes};
 ghost use Rattle.pb_value.specs.KindView.{kind_view};
 ghost use Rattle.pb_semantics.specs.Signature.{is_shape, is_failure_shape};
+ghost use Rattle.pb_sig.specs.Table.{ping, command};
+ghost use Rattle.pb_sig.specs.Views.{parameter_view};
 
 use crate::rows::{lines, may, must, parameters_of, shape_of};
-use crate::signature::{Module, Parameter};
+use crate::signature::{Module, Parameter, shared_name};
 use pb_value::kind::Kind;
 use std::alloc::{AllocError, Global};
 use std::sync::Arc;
@@ -44,7 +46,6 @@ impl Module for Builtin {
 
 impl Builtin {
     ghost use Rattle.pb_sig.specs.ModuleView.{builtin_view};
-    ghost use Rattle.pb_sig.specs.Table.{ping, command};
 
     /// The name, in a block that its copies share.
     pub fn shared_name(&self) -> &Arc<String>
@@ -57,49 +58,112 @@ impl Builtin {
     pub fn ping(alloc: Global) -> Result<Builtin, AllocError>
         ensures { IfOk result (λ m. builtin_view m ≡ ping) }
     {
-        let parameters = [may("data", Kind::Text)];
-        let ok = [must("changed", Kind::Bool), must("ping", Kind::Text)];
-        let failure = [must("changed", Kind::Bool), must("msg", Kind::Text)];
-        Ok(Builtin {
-            name: Arc::new(alloc, String::from_str(alloc, "ping")?)?,
-            parameters: parameters_of(alloc, &parameters)?,
-            ok: shape_of(alloc, &ok)?,
-            failure: shape_of(alloc, &failure)?,
-        })
+        let parameters = ping_parameters(alloc)?;
+        let ok = ping_shape(alloc)?;
+        let failure = ping_failure_shape(alloc)?;
+        Builtin::named(alloc, "ping", parameters, ok, failure)
     }
 
     /// Runs a program.
     pub fn command(alloc: Global) -> Result<Builtin, AllocError>
         ensures { IfOk result (λ m. builtin_view m ≡ command) }
     {
-        let parameters = [
-            must("cmd", Kind::Text),
-            may("chdir", Kind::Text),
-            may("creates", Kind::Text),
-            may("removes", Kind::Text),
-        ];
-        let ok = [
-            must("changed", Kind::Bool),
-            must("rc", Kind::Int),
-            must("stdout", Kind::Text),
-            must("stderr", Kind::Text),
-            must("stdout_lines", lines(alloc)?),
-            must("stderr_lines", lines(alloc)?),
-        ];
-        let failure = [
-            must("changed", Kind::Bool),
-            must("msg", Kind::Text),
-            must("rc", Kind::Int),
-            must("stdout", Kind::Text),
-            must("stderr", Kind::Text),
-            must("stdout_lines", lines(alloc)?),
-            must("stderr_lines", lines(alloc)?),
-        ];
+        let parameters = command_parameters(alloc)?;
+        let ok = command_shape(alloc)?;
+        let failure = command_failure_shape(alloc)?;
+        Builtin::named(alloc, "command", parameters, ok, failure)
+    }
+
+    fn named(
+        alloc: Global,
+        name: &str,
+        parameters: Vec<Parameter>,
+        ok: Kind,
+        failure: Kind,
+    ) -> Result<Builtin, AllocError>
+        requires ok { is_shape (kind_view ok) ≡ true }
+        requires failure { is_failure_shape (kind_view failure) ≡ true }
+        ensures { IfOk result (λ m. builtin_view m ≡ record {
+          name = name.now;
+          params = map parameter_view parameters.items;
+          ok = kind_view ok;
+          failure = kind_view failure;
+        }) }
+    {
         Ok(Builtin {
-            name: Arc::new(alloc, String::from_str(alloc, "command")?)?,
-            parameters: parameters_of(alloc, &parameters)?,
-            ok: shape_of(alloc, &ok)?,
-            failure: shape_of(alloc, &failure)?,
+            name: shared_name(alloc, name)?,
+            parameters,
+            ok,
+            failure,
         })
     }
+}
+
+fn ping_parameters(alloc: Global) -> Result<Vec<Parameter>, AllocError>
+    ensures { IfOk result (λ ps. map parameter_view ps.items ≡ ping.params) }
+{
+    parameters_of(alloc, &[may("data", Kind::Text)])
+}
+
+fn ping_shape(alloc: Global) -> Result<Kind, AllocError>
+    ensures { IfOk result (λ k. kind_view k ≡ ping.ok) }
+{
+    shape_of(
+        alloc,
+        &[must("changed", Kind::Bool), must("ping", Kind::Text)],
+    )
+}
+
+fn ping_failure_shape(alloc: Global) -> Result<Kind, AllocError>
+    ensures { IfOk result (λ k. kind_view k ≡ ping.failure) }
+{
+    shape_of(
+        alloc,
+        &[must("changed", Kind::Bool), must("msg", Kind::Text)],
+    )
+}
+
+fn command_parameters(alloc: Global) -> Result<Vec<Parameter>, AllocError>
+    ensures { IfOk result (λ ps. map parameter_view ps.items ≡ command.params) }
+{
+    let rows = [
+        must("cmd", Kind::Text),
+        may("chdir", Kind::Text),
+        may("creates", Kind::Text),
+        may("removes", Kind::Text),
+    ];
+    parameters_of(alloc, &rows)
+}
+
+fn command_shape(alloc: Global) -> Result<Kind, AllocError>
+    ensures { IfOk result (λ k. kind_view k ≡ command.ok) }
+{
+    let stdout_lines = lines(alloc)?;
+    let stderr_lines = lines(alloc)?;
+    let rows = [
+        must("changed", Kind::Bool),
+        must("rc", Kind::Int),
+        must("stdout", Kind::Text),
+        must("stderr", Kind::Text),
+        must("stdout_lines", stdout_lines),
+        must("stderr_lines", stderr_lines),
+    ];
+    shape_of(alloc, &rows)
+}
+
+fn command_failure_shape(alloc: Global) -> Result<Kind, AllocError>
+    ensures { IfOk result (λ k. kind_view k ≡ command.failure) }
+{
+    let stdout_lines = lines(alloc)?;
+    let stderr_lines = lines(alloc)?;
+    let rows = [
+        must("changed", Kind::Bool),
+        must("msg", Kind::Text),
+        must("rc", Kind::Int),
+        must("stdout", Kind::Text),
+        must("stderr", Kind::Text),
+        must("stdout_lines", stdout_lines),
+        must("stderr_lines", stderr_lines),
+    ];
+    shape_of(alloc, &rows)
 }

@@ -1,12 +1,24 @@
 // The kinds of what a task of a module or an action registers.
-ghost use Rattle.std.specs.Prelude.{◌≡◌, true, false, IfOk, string_bytes, codes};
-ghost use Rattle.pb_semantics.specs.Kind.{booleans, is_listed, put_slot, recs};
-ghost use Rattle.pb_language.specs.Cases.{failure_case, skipped_slots};
+ghost use Rattle.std.specs.Prelude.{◌≡◌, [], ◌∷◌, true, false, IfOk, string_bytes, codes};
+ghost use Rattle.pb_semantics.specs.Join.{join};
+ghost use Rattle.pb_semantics.specs.Kind.{
+  booleans,
+  is_listed,
+  no_cases,
+  ok_shape,
+  one,
+  put_slot,
+  recs,
+  results,
+  skipped_shape,
+};
+ghost use Rattle.pb_language.specs.Cases.{ended_kind, failure_case, skipped_slots};
 ghost use Rattle.pb_language.specs.Narrow.{results_of};
-ghost use Rattle.pb_value.specs.KindView.{kind_view, slots_view};
+ghost use Rattle.pb_value.specs.KindView.{cases_view, kind_view, shape_view, slots_view};
 ghost use Rattle.pb_sig.specs.Results.{result_cases, result_kind};
 
 use crate::rows::{must, shape_of};
+use crate::signature::shared_name;
 use pb_value::join::join;
 use pb_value::kind::{Case, Kind, Presence, Shape, Slot, Slots};
 use std::alloc::{AllocError, Global};
@@ -30,18 +42,13 @@ impl Results {
         ensures skipped { IfOk result (λ r. result_kind r true
             ≡ results_of (result_cases true action.now (slots_view ok.now.entries))) }
     {
-        let action = Arc::new(alloc, String::from_str(alloc, action)?)?;
-        let ended = Kind::Rec(Arc::new(alloc, ended_slots(alloc, ok)?)?);
-        let skipped = skipped_record(alloc)?;
-        let known = join(alloc, &skipped, &ended)?;
-        let always = vec![in alloc; case_of(&action, Shape::Ok, &ended)?]?;
-        let either = vec![in alloc;
-            case_of(&action, Shape::Skipped, &skipped)?,
-            case_of(&action, Shape::Ok, &ended)?,
-        ]?;
+        let action = shared_name(alloc, action)?;
+        let ended = ended_record(alloc, ok)?;
+        let ran = ran_kind(alloc, &action, &ended)?;
+        let perhaps_skipped = perhaps_skipped_kind(alloc, &action, &ended)?;
         Ok(Results {
-            ran: Kind::Result(Arc::new(alloc, always)?, Arc::new(alloc, ended)?),
-            perhaps_skipped: Kind::Result(Arc::new(alloc, either)?, Arc::new(alloc, known)?),
+            ran,
+            perhaps_skipped,
         })
     }
 
@@ -64,27 +71,97 @@ pub fn failed_kind(alloc: Global, action: &str, failure: &Slots) -> Result<Kind,
     ensures { IfOk result (λ k. kind_view k
         ≡ results_of (failure_case action.now (slots_view failure.now.entries))) }
 {
-    let ended = Kind::Rec(Arc::new(alloc, ended_slots(alloc, failure)?)?);
-    let failed = Case {
-        action: Arc::new(alloc, String::from_str(alloc, action)?)?,
-        shape: Shape::Failure,
-        failed: true,
-        fields: ended.clone()?,
-    };
-    let cases = vec![in alloc; failed]?;
-    Ok(Kind::Result(Arc::new(alloc, cases)?, Arc::new(alloc, ended)?))
+    let action = shared_name(alloc, action)?;
+    let ended = ended_record(alloc, failure)?;
+    let failed = case_of(&action, Shape::Failure, true, &ended)?;
+    result_of_case(alloc, failed)
 }
 
-fn case_of(action: &Arc<String>, shape: Shape, fields: &Kind) -> Result<Case<Kind>, AllocError>
-    ensures { IfOk result (λ c. (string_bytes c.action.value ≡ string_bytes action.now.value) × (c.shape ≡ shape)
-        × (c.failed ≡ false) × (kind_view c.fields ≡ kind_view fields.now)) }
+/// The result of a task that always runs and ends with that record.
+fn ran_kind(alloc: Global, action: &Arc<String>, ended: &Kind) -> Result<Kind, AllocError>
+    ensures { IfOk result (λ k. kind_view k
+        ≡ results (one (string_bytes action.now.value) ok_shape false (kind_view ended.now)
+        no_cases) (kind_view ended.now)) }
+{
+    let ran = case_of(action, Shape::Ok, false, ended)?;
+    result_of_case(alloc, ran)
+}
+
+/// The result of a task that is skipped, or ends with that record.
+fn perhaps_skipped_kind(
+    alloc: Global,
+    action: &Arc<String>,
+    ended: &Kind,
+) -> Result<Kind, AllocError>
+    ensures { IfOk result (λ k. kind_view k
+        ≡ results (one (string_bytes action.now.value) skipped_shape false (recs skipped_slots)
+        (one (string_bytes action.now.value) ok_shape false (kind_view ended.now) no_cases))
+        (join (recs skipped_slots) (kind_view ended.now))) }
+{
+    let skipped = skipped_case(alloc, action)?;
+    let known = join(alloc, &skipped.fields, ended)?;
+    let ran = case_of(action, Shape::Ok, false, ended)?;
+    let cases = vec![in alloc; skipped, ran]?;
+    result_of(alloc, cases, known)
+}
+
+fn skipped_case(alloc: Global, action: &Arc<String>) -> Result<Case<Kind>, AllocError>
+    ensures case { IfOk result (λ c. cases_view (c ∷ [])
+        ≡ one (string_bytes action.now.value) skipped_shape false (recs skipped_slots) no_cases) }
+    ensures fields { IfOk result (λ c. kind_view c.fields ≡ recs skipped_slots) }
+{
+    let fields = skipped_record(alloc)?;
+    Ok(Case {
+        action: action.clone()?,
+        shape: Shape::Skipped,
+        failed: false,
+        fields,
+    })
+}
+
+fn result_of_case(alloc: Global, case: Case<Kind>) -> Result<Kind, AllocError>
+    ensures { IfOk result (λ k. kind_view k
+        ≡ results (cases_view (case ∷ [])) (kind_view case.fields)) }
+{
+    let known = case.fields.clone()?;
+    let cases = vec![in alloc; case]?;
+    result_of(alloc, cases, known)
+}
+
+fn result_of(alloc: Global, cases: Vec<Case<Kind>>, known: Kind) -> Result<Kind, AllocError>
+    ensures { IfOk result (λ k. kind_view k ≡ results (cases_view cases.items) (kind_view known)) }
+{
+    let cases = Arc::new(alloc, cases)?;
+    let known = Arc::new(alloc, known)?;
+    Ok(Kind::Result(cases, known))
+}
+
+fn case_of(
+    action: &Arc<String>,
+    shape: Shape,
+    failed: bool,
+    fields: &Kind,
+) -> Result<Case<Kind>, AllocError>
+    ensures case { IfOk result (λ c. cases_view (c ∷ [])
+        ≡ one (string_bytes action.now.value) (shape_view shape) failed (kind_view fields.now)
+        no_cases) }
+    ensures fields { IfOk result (λ c. kind_view c.fields ≡ kind_view fields.now) }
 {
     Ok(Case {
         action: action.clone()?,
         shape,
-        failed: false,
+        failed,
         fields: fields.clone()?,
     })
+}
+
+/// The record of a shape's fields with the final status.
+fn ended_record(alloc: Global, shape: &Slots) -> Result<Kind, AllocError>
+    requires { is_listed (codes "failed") (slots_view shape.now.entries) ≡ false }
+    ensures { IfOk result (λ k. kind_view k ≡ ended_kind (slots_view shape.now.entries)) }
+{
+    let slots = Arc::new(alloc, ended_slots(alloc, shape)?)?;
+    Ok(Kind::Rec(slots))
 }
 
 // The fields of a shape with the final status.

@@ -1,9 +1,11 @@
 // What is known of a module before it is called.
-ghost use Rattle.std.specs.Prelude.{◌≡◌, true, map};
+ghost use Rattle.std.specs.Prelude.{◌≡◌, true, IfOk, map, string_bytes};
 ghost use Rattle.pb_value.specs.KindView.{kind_view};
 ghost use Rattle.pb_semantics.specs.Signature.{ModuleData, is_shape, is_failure_shape};
 
 use pb_value::kind::Kind;
+use std::alloc::{AllocError, Global};
+use std::sync::Arc;
 
 /// A parameter of a module.
 #[derive(Drop)]
@@ -37,4 +39,11 @@ pub trait Module {
     fn fail_shape(&self) -> &Kind
         ensures gives { kind_view result.now ≡ (meaning self.now).failure }
         ensures lawful { is_failure_shape (kind_view result.now) ≡ true };
+}
+
+/// The name, in a block that its copies share.
+pub(crate) fn shared_name(alloc: Global, name: &str) -> Result<Arc<String>, AllocError>
+    ensures { IfOk result (λ s. string_bytes s.value ≡ name.now) }
+{
+    Ok(Arc::new(alloc, String::from_str(alloc, name)?)?)
 }

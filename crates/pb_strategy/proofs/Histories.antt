@@ -59,6 +59,13 @@ longer n es e within = omega (arith, within, length_push es e)
 pub is_over-same : (r s : RunState) → r.checked ≡ s.checked → r.history ≡ s.history → is_over r ≡ is_over s
 is_over-same r s book same = rw (book, same) refl
 
+-- a Stop leaves the book and the forks
+pub stop_keeps : (r s : RunState) → (is_over r ≡ false → s ≡ after r Stop) → (is_over r ≡ true → s ≡ r) → (s.checked ≡ r.checked) × (s.forks ≡ r.forks)
+stop_keeps r s going over = by (is_over r) refl where
+  by : (b : Bool) → is_over r ≡ b → (s.checked ≡ r.checked) × (s.forks ≡ r.forks)
+  by false e = rw (going e) (refl, refl)
+  by true e = rw (over e) (refl, refl)
+
 -- a run as its callers see it, by what may have changed
 pub same_state : (a : Accepted) (forks : ℕ) (es fs : List Event) (rs ss : List Recap) (m n : ℕ) → es ≡ fs → rs ≡ ss → m ≡ n
     → ◌≡◌ {A = RunState} (record { checked = a; forks = forks; history = es; recaps = rs; handed = m }) (record { checked = a; forks = forks; history = fs; recaps = ss; handed = n })

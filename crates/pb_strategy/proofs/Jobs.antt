@@ -1,10 +1,11 @@
 -- Jobs along a history.
-use Rattle.std.proofs.Common.{◌≡◌, ◌<◌, ℕ, ◌+◌, List, [], ◌∷◌, ◌++◌, Option, Some, None, is_some, suc, count_by, cond, length, get_or, set, replicate, refl, sym, ap, ◌∙◌, add-zero, inl, inr, arith, ◌==◌}
+use Rattle.std.proofs.Common.{◌≡◌, ◌<◌, ℕ, ◌+◌, List, [], ◌∷◌, ◌++◌, Option, Some, None, is_some, suc, count_by, cond, length, get_or, option_map, set, slice_get, replicate, refl, sym, ap, ◌∙◌, add-zero, inl, inr, arith, ◌==◌}
 use Rattle.std.proofs.lemmas.Bool.{cases_lt}
 use Rattle.std.proofs.lemmas.Bool.Decides.{eqb_tells}
 use Rattle.std.proofs.Math.Seq.{map-set_same}
 use Rattle.std.proofs.lemmas.List.{map-set, get_or-set_same, get_or-set_other, get_or-replicate, get_or_past, length-replicate}
 use Rattle.std.proofs.lemmas.List.Sums.{sum_by-cons}
+use Rattle.std.proofs.lemmas.Option.{get_or_from_slice_get, slice_get-map}
 use Rattle.pb_strategy.specs.Jobs.{out_after, out_from, ticket_out, ticket_in}
 use Rattle.pb_strategy.specs.Inside.{tickets_of}
 use Rattle.pb_strategy.specs.declared.event.Event.{Event}
@@ -49,6 +50,10 @@ none_out n k = elim (cases_lt k n) [
 
 abbrev ticket_of : HostState → Option ℕ
 ticket_of h = ticket_in h.stage
+
+-- the job that the host at a place has out
+pub ticket_at : (hs : List HostState) (k : ℕ) (s : HostState) → slice_get hs k ≡ Some s → get_or (tickets_of hs) k None ≡ ticket_in s.stage
+ticket_at hs k s e = get_or_from_slice_get (tickets_of hs) k (ticket_in s.stage) None (slice_get-map ticket_of hs k ∙ ap (option_map ticket_of) e)
 
 -- a host's state gives way to one with the same job out
 pub tickets_kept : (hs : List HostState) (i : ℕ) (x y : HostState) → x ≡ get_or hs i x → ticket_in y.stage ≡ ticket_in x.stage → tickets_of (set hs i y) ≡ tickets_of hs

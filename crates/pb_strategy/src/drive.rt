@@ -39,13 +39,15 @@ pub fn drive<R: Runner>(run: &mut Run, runner: &mut R) -> Result<(), AllocError>
 {
     for _turn in 0..u64::MAX {
         match run.take() {
-            Ok(Taken::Job(job)) => {
+            Ok(taken) => {
+                let Taken::Job(job) = taken else {
+                    return Ok(());
+                };
                 if let Err(refused) = step(run, runner, job) {
                     run.stop();
                     return Err(refused);
                 }
             }
-            Ok(Taken::Idle) | Ok(Taken::Finished) | Ok(Taken::Stopped) => return Ok(()),
             Err(refused) => {
                 run.stop();
                 return Err(refused);
@@ -64,10 +66,7 @@ fn step<R: Runner>(run: &mut Run, runner: &mut R, job: Job) -> Result<(), AllocE
     ensures book { (run.new.checked ≡ run.old.checked) × (run.new.forks ≡ run.old.forks) }
     ensures given { OnOk result ((answers : Vec Answer) × (run.new.history ≡ run.old.history ++ Event.Give job.host answers ∷ [])) }
 {
-    let mut answers = Vec::with_capacity(*job.calls.allocator(), job.calls.len())?;
-    for call in &job.calls {
-        answers.push(runner.call(call))?;
-    }
+    let answers = answered(runner, &job.calls)?;
     match run.give(job, answers) {
         Ok(_) => Ok(()),
         Err((_, job, answers)) => {
@@ -76,4 +75,16 @@ fn step<R: Runner>(run: &mut Run, runner: &mut R, job: Job) -> Result<(), AllocE
             Err(AllocError)
         }
     }
+}
+
+// Makes the calls, each once.
+fn answered<R: Runner>(runner: &mut R, calls: &Vec<Call>) -> Result<Vec<Answer>, AllocError>
+    requires { R.calls runner.old + length calls.now.items < 2 ^ 64 }
+    ensures { OnOk result (R.calls runner.new ≡ R.calls runner.old + length calls.now.items) }
+{
+    let mut answers = Vec::with_capacity(*calls.allocator(), calls.len())?;
+    for call in calls {
+        answers.push(runner.call(call))?;
+    }
+    Ok(answers)
 }

@@ -46,25 +46,32 @@ impl FixedResults {
         ensures skipped { IfOk result (λ f. view f.skipped ≡ rec skip_fields) }
         ensures unchanged { IfOk result (λ f. view f.unchanged ≡ rec action_fields) }
     {
-        let mut unchanged = Fields::new(alloc);
-        put(alloc, &mut unchanged, "changed", Value::Bool(false))?;
-        put(alloc, &mut unchanged, "failed", Value::Bool(false))?;
-        let mut skipped = Fields::new(alloc);
-        put(alloc, &mut skipped, "changed", Value::Bool(false))?;
-        put(alloc, &mut skipped, "failed", Value::Bool(false))?;
-        put(alloc, &mut skipped, "skipped", Value::Bool(true))?;
-        let reason = String::from_str(alloc, "Conditional result was False")?;
-        put(
-            alloc,
-            &mut skipped,
-            "skip_reason",
-            Value::of_text(alloc, reason)?,
-        )?;
         Ok(FixedResults {
-            skipped: Value::of_fields(alloc, skipped)?,
-            unchanged: Value::of_fields(alloc, unchanged)?,
+            skipped: Value::of_fields(alloc, skipped_fields(alloc)?)?,
+            unchanged: Value::of_fields(alloc, unchanged_fields(alloc)?)?,
         })
     }
+}
+
+// Neither changed nor failed.
+fn unchanged_fields(alloc: Global) -> Result<Fields, AllocError>
+    ensures { IfOk result (λ fs. fields_view fs.entries ≡ action_fields) }
+{
+    let mut fields = Fields::new(alloc);
+    put(alloc, &mut fields, "changed", Value::Bool(false))?;
+    put(alloc, &mut fields, "failed", Value::Bool(false))?;
+    Ok(fields)
+}
+
+fn skipped_fields(alloc: Global) -> Result<Fields, AllocError>
+    ensures { IfOk result (λ fs. fields_view fs.entries ≡ skip_fields) }
+{
+    let mut fields = unchanged_fields(alloc)?;
+    put(alloc, &mut fields, "skipped", Value::Bool(true))?;
+    let reason = String::from_str(alloc, "Conditional result was False")?;
+    let reason = Value::of_text(alloc, reason)?;
+    put(alloc, &mut fields, "skip_reason", reason)?;
+    Ok(fields)
 }
 
 fn put(alloc: Global, fields: &mut Fields, name: &str, value: Value) -> Result<(), AllocError>

@@ -1,5 +1,5 @@
 // The run: where each host stands, and the history that brought it there.
-ghost use Rattle.std.specs.Prelude.{◌≡◌, ◌==◌, ◌<◌, ◌≤◌, ◌+◌, ◌^◌, ◌++◌, ◌∷◌, ◌&&◌, [], cond, length, map, nat_lt, replicate, set, ℕ, IfOk, IfErr, IfSome, IsErr, OnErr, OnOk, Some, None, count_by, get_or, is_some, option_map, slice_get, true, false};
+ghost use Rattle.std.specs.Prelude.{◌≡◌, ◌==◌, ◌<◌, ◌≤◌, ◌+◌, ◌^◌, ◌++◌, ◌∷◌, ◌&&◌, [], cond, length, map, nat_lt, replicate, set, ℕ, IfOk, IfErr, IfSome, IsErr, OnErr, OnOk, Some, None, count_by, get_or, is_some, option_map, slice_get, true, false, vec_capacity};
 ghost use Rattle.pb_semantics.specs.Data.{rec};
 ghost use Rattle.pb_language.specs.Book.{Registry as Modules};
 ghost use Rattle.pb_language.specs.Give.{skip_fields};
@@ -95,7 +95,7 @@ impl Run {
         let run = Run {
             checked: checked.clone()?,
             forks,
-            history: Vec::with_capacity(alloc, 1)?,
+            history: opening_history(alloc)?,
             hosts: opening_hosts(alloc, checked)?,
             fixed: FixedResults::new(alloc)?,
             phase: opening_phase(checked),
@@ -200,28 +200,63 @@ impl Run {
             → is_job_out job.host job.ticket self.old.history ≡ false) }
     {
         self.known();
-        if let Phase::Stopped = self.phase {
+        if self.is_stopped() {
             return Err((GiveError::Stopped, job, answers));
         }
-        let found = match self.hosts.get(job.host) {
-            Some(state) if state.is_running(job.ticket) => {
-                outcome_of(&self.checked, &self.fixed, state, &answers)
-            }
-            _ => return Err((GiveError::Stranger, job, answers)),
+        if !self.is_out(job.host, job.ticket) {
+            return Err((GiveError::Stranger, job, answers));
+        }
+        let ended = self.end_job(job.host, answers);
+        self.known();
+        match ended {
+            Ok(()) => Ok(Given::Done),
+            Err(answers) => Err((GiveError::NoMemory, job, answers)),
+        }
+    }
+
+    fn is_stopped(&self) -> bool
+        ensures { result ≡ is_stopped self.now.history }
+    {
+        matches!(self.phase, Phase::Stopped)
+    }
+
+    // Whether the host's job of that ticket is out.
+    fn is_out(&self, host: usize, ticket: usize) -> bool
+        ensures { result ≡ is_job_out host ticket self.now.history }
+    {
+        match self.hosts.get(host) {
+            Some(state) => state.is_running(ticket),
+            None => false,
+        }
+    }
+
+    // Ends the job that the host has out, by its answers, which come back for want of memory.
+    fn end_job(&mut self, host: usize, answers: Vec<Answer>) -> Result<(), Vec<Answer>>
+        requires live { is_stopped self.old.history ≡ false }
+        requires out { is_some (ticket_out host self.old.history) ≡ true }
+        ensures done { OnOk result
+            (self.new.history ≡ self.old.history ++ Event.Give host answers ∷ []) }
+        ensures counted { OnOk result (IsOneMore host self.old.recaps self.new.recaps) }
+        ensures book { (self.new.checked ≡ self.old.checked) × (self.new.forks ≡ self.old.forks) }
+        ensures handed { self.new.handed ≡ self.old.handed }
+        ensures err { OnErr result (self.new ≡ self.old) }
+        ensures back { IfErr result (λ e. e ≡ answers) }
+    {
+        let Some(state) = self.hosts.get(host) else {
+            unreachable!()
         };
-        let Ok(found) = found else {
-            return Err((GiveError::NoMemory, job, answers));
+        let Ok(found) = outcome_of(&self.checked, &self.fixed, state, &answers) else {
+            return Err(answers);
         };
         if self.history.reserve(2).is_err() {
-            return Err((GiveError::NoMemory, job, answers));
+            return Err(answers);
         }
-        if room_for(&mut self.hosts, job.host, &found).is_err() {
-            return Err((GiveError::NoMemory, job, answers));
+        if room_for(&mut self.hosts, host, &found).is_err() {
+            return Err(answers);
         }
-        self.history.push_reserved(Event::Give(job.host, answers));
-        settle(&mut self.hosts, job.host, found);
-        self.known();
-        Ok(Given::Done)
+        self.history.push_reserved(Event::Give(host, answers));
+        settle(&mut self.hosts, host, found);
+        Ok(())
     }
 
     /// Stops the run; nothing where it is stopped or has ended. There is always room for this event.
@@ -272,10 +307,16 @@ impl Run {
         ensures none { gives_of host self.now.history ≡ 0 → result ≡ nothing }
     {
         self.known();
-        match self.hosts.get(host) {
-            Some(state) => state.recap,
-            None => Recap::new(),
-        }
+        recap_at(&self.hosts, host)
+    }
+}
+
+fn recap_at(hosts: &[HostState], host: usize) -> Recap
+    ensures { result ≡ recap_of (recaps_of hosts.now) host }
+{
+    match hosts.get(host) {
+        Some(state) => state.recap,
+        None => Recap::new(),
     }
 }
 
@@ -292,6 +333,14 @@ fn opening_phase(checked: &Checked) -> Phase
         [] => Phase::Ended,
         _ => Phase::Going,
     }
+}
+
+// With room for one Stop.
+fn opening_history(alloc: Global) -> Result<Vec<Event>, AllocError>
+    ensures none { IfOk result (λ es. es.items ≡ []) }
+    ensures room { IfOk result (λ es. 0 < vec_capacity es) }
+{
+    Vec::with_capacity(alloc, 1)
 }
 
 fn opening_hosts(alloc: Global, checked: &Checked) -> Result<Vec<HostState>, AllocError>

@@ -1,5 +1,5 @@
 // Answers from a file, in place of modules.
-ghost use Rattle.std.specs.Prelude.{◌≡◌, ◌+◌, ◌^◌, ◌<◌, Err, IfOk, None, codes, length, option_map, string_bytes, true};
+ghost use Rattle.std.specs.Prelude.{◌≡◌, ◌↔◌, ◌+◌, ◌^◌, ◌<◌, Err, IfOk, IsTrue, None, codes, length, option_map, string_bytes, true};
 ghost use Rattle.pb_value.specs.FromJson.{json_data};
 ghost use Rattle.pb_semantics.specs.Data.{field_value};
 ghost use Rattle.pb_semantics.specs.Keeps.{flag_is};
@@ -75,7 +75,7 @@ impl ScriptRunner {
         ensures limit { result ≡ Err ScriptFault.Limit → 67108864 < length bytes.now }
         ensures made { IfOk result (λ r. r.made ≡ 0) }
     {
-        if bytes.len() > SCRIPT_LIMIT {
+        if is_too_long(bytes) {
             return Err(ScriptFault::Limit);
         }
         match read_json(alloc, bytes)? {
@@ -88,6 +88,12 @@ impl ScriptRunner {
             _ => Err(ScriptFault::Shape),
         }
     }
+}
+
+fn is_too_long(bytes: &[u8]) -> bool
+    ensures { IsTrue result ↔ 67108864 < length bytes.now }
+{
+    bytes.len() > SCRIPT_LIMIT
 }
 
 fn are_lists_of_objects(answers: &Fields) -> bool

@@ -24,73 +24,76 @@ fn is_breach(alloc: Global, name: &str, answer: &str) -> Result<bool, Fail> {
     Ok(matches!(&judged(alloc, name, answer)?, Admission::Breach))
 }
 
-fn has_flag(fields: &Fields, name: &str, flag: bool) -> bool {
+fn flag_of(fields: &Fields, name: &str) -> Option<bool> {
     match fields.get(name) {
-        Some(Value::Bool(found)) => *found == flag,
-        _ => false,
+        Some(Value::Bool(flag)) => Some(*flag),
+        _ => None,
+    }
+}
+
+// Whether the task failed, how many fields its result has, and the fields `changed` and `failed`; none for a breach.
+fn told(admitted: &Admission) -> Option<(bool, usize, Option<bool>, Option<bool>)> {
+    let (has_failed, value) = match admitted {
+        Admission::Ok(value) => (false, value),
+        Admission::Failed(value) => (true, value),
+        Admission::Breach => return None,
+    };
+    match value {
+        Value::Rec(fields) => Some((
+            has_failed,
+            fields.len(),
+            flag_of(fields, "changed"),
+            flag_of(fields, "failed"),
+        )),
+        _ => None,
     }
 }
 
 #[test]
 fn finds_by_name(rt: HostRuntime) -> Result<(), Fail> {
     let registry = Registry::builtin(rt.alloc())?;
-    let command = registry.find("command").ok_or("no command")?;
-    assert_eq!(rt; command.name(), "command");
-    assert_eq!(rt; command.shared_name().as_str(), "command");
-    assert_eq!(rt; command.params().len(), 4);
-    let ping = registry.find("ping").ok_or("no ping")?;
-    assert_eq!(rt; ping.params().len(), 1);
-    assert!(rt; registry.find("pin").is_none());
-    assert!(rt; registry.find("").is_none());
+    for (name, parameters) in [("command", 4), ("ping", 1)] {
+        let found = registry.find(name).ok_or("no such module")?;
+        assert_eq!(rt; (found.name(), found.params().len()), (name, parameters));
+        assert_eq!(rt; found.shared_name().as_str(), name);
+    }
+    assert!(rt; registry.find("pin").is_none() && registry.find("").is_none());
     Ok(())
 }
 
 #[test]
 fn admits_what_keeps_the_shape(rt: HostRuntime) -> Result<(), Fail> {
-    match &judged(rt.alloc(), "command", DONE)? {
-        Admission::Ok(Value::Rec(fields)) => {
-            assert_eq!(rt; fields.len(), 7);
-            assert!(rt; has_flag(fields, "changed", true));
-            assert!(rt; has_flag(fields, "failed", false));
-        }
-        _ => assert!(rt; false, "no ok"),
-    }
-    match &judged(rt.alloc(), "command", FAILED)? {
-        Admission::Failed(Value::Rec(fields)) => {
-            assert_eq!(rt; fields.len(), 8);
-            assert!(rt; has_flag(fields, "failed", true));
-        }
-        _ => assert!(rt; false, "not failed"),
-    }
+    let done = judged(rt.alloc(), "command", DONE)?;
+    assert_eq!(rt; told(&done), Some((false, 7, Some(true), Some(false))));
+    let failed = judged(rt.alloc(), "command", FAILED)?;
+    assert_eq!(rt; told(&failed), Some((true, 8, Some(false), Some(true))));
     Ok(())
 }
 
 #[test]
 fn drops_and_completes(rt: HostRuntime) -> Result<(), Fail> {
-    match &judged(rt.alloc(), "ping", r#"{"ping":"pong","x":[1.5]}"#)? {
-        Admission::Ok(Value::Rec(fields)) => {
-            assert_eq!(rt; fields.len(), 3);
-            assert!(rt; has_flag(fields, "changed", false));
-            assert!(rt; has_flag(fields, "failed", false));
-        }
-        _ => assert!(rt; false, "no ok"),
-    }
-    match &judged(rt.alloc(), "ping", r#"{"failed":true,"msg":"alone"}"#)? {
-        Admission::Failed(Value::Rec(fields)) => assert_eq!(rt; fields.len(), 3),
-        _ => assert!(rt; false, "not failed"),
-    }
+    let done = judged(rt.alloc(), "ping", r#"{"ping":"pong","x":[1.5]}"#)?;
+    assert_eq!(rt; told(&done), Some((false, 3, Some(false), Some(false))));
+    let failed = judged(rt.alloc(), "ping", r#"{"failed":true,"msg":"alone"}"#)?;
+    assert_eq!(rt; told(&failed), Some((true, 3, Some(false), Some(true))));
     Ok(())
 }
 
 #[test]
 fn refuses_what_does_not(rt: HostRuntime) -> Result<(), Fail> {
-    let number =
-        r#"{"changed":true,"rc":0,"stdout":7,"stderr":"","stdout_lines":[],"stderr_lines":[]}"#;
-    assert!(rt; is_breach(rt.alloc(), "command", number)?);
-    assert!(rt; is_breach(rt.alloc(), "ping", "[]")?);
-    assert!(rt; is_breach(rt.alloc(), "ping", "{}")?);
-    assert!(rt; is_breach(rt.alloc(), "ping", r#"{"ping":"pong","failed":1}"#)?);
-    assert!(rt; is_breach(rt.alloc(), "ping", r#"{"ping":"pong","changed":1}"#)?);
-    assert!(rt; is_breach(rt.alloc(), "ping", r#"{"ping":"pong","failed":true}"#)?);
+    let rows = [
+        (
+            "command",
+            r#"{"changed":true,"rc":0,"stdout":7,"stderr":"","stdout_lines":[],"stderr_lines":[]}"#,
+        ),
+        ("ping", "[]"),
+        ("ping", "{}"),
+        ("ping", r#"{"ping":"pong","failed":1}"#),
+        ("ping", r#"{"ping":"pong","changed":1}"#),
+        ("ping", r#"{"ping":"pong","failed":true}"#),
+    ];
+    for (name, answer) in rows {
+        assert!(rt; is_breach(rt.alloc(), name, answer)?, "{answer}");
+    }
     Ok(())
 }

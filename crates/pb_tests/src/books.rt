@@ -1,5 +1,5 @@
 // Texts that are a book, and texts that aren't.
-use pb_book::book::{Book, Task, Work};
+use pb_book::book::{Book, Play, Task, Work};
 use pb_book::fault::BookFault;
 use pb_expr::expr::Expr;
 use pb_sig::registry::Registry;
@@ -24,12 +24,9 @@ fn refuses(alloc: Global, task: &str) -> Result<bool, Fail> {
 }
 
 fn only_task(book: &Book) -> Result<&Task, Fail> {
-    match book.plays() {
-        [play] => match play.tasks.as_slice() {
-            [task] => Ok(task),
-            _ => Err(Fail::from("not one task")),
-        },
-        _ => Err(Fail::from("not one play")),
+    match only_play(book)?.tasks.as_slice() {
+        [task] => Ok(task),
+        _ => Err(Fail::from("not one task")),
     }
 }
 
@@ -40,29 +37,54 @@ fn empty_book(rt: HostRuntime) -> Result<(), Fail> {
     Ok(())
 }
 
+const FOUR_TASKS: &str =
+    r#"[{"command":"x","register":"out"},{"ping":null,"when":true,"name":"n"},{"debug":{"msg":[1,"a"]}},{"set_fact":{"b":1,"a":2}}]"#;
+
+fn only_play(book: &Book) -> Result<&Play, Fail> {
+    match book.plays() {
+        [play] => Ok(play),
+        _ => Err(Fail::from("not one play")),
+    }
+}
+
+fn is_of_module(task: &Task, module: &str) -> bool {
+    matches!(&task.work, Work::Module(name) if name.as_str() == module)
+}
+
 #[test]
-fn lines_and_works(rt: HostRuntime) -> Result<(), Fail> {
-    let tasks =
-        r#"[{"command":"x","register":"out"},{"ping":null,"when":true,"name":"n"},{"debug":{"msg":[1,"a"]}},{"set_fact":{"b":1,"a":2}}]"#;
-    let book = book_of(rt.alloc(), tasks)?;
-    assert_eq!(rt; book.plays().len(), 1);
-    let play = &book.plays()[0];
-    assert_eq!(rt; play.line, 1);
-    assert_eq!(rt; play.tasks.len(), 4);
+fn lines(rt: HostRuntime) -> Result<(), Fail> {
+    let book = book_of(rt.alloc(), FOUR_TASKS)?;
+    let play = only_play(&book)?;
+    assert_eq!(rt; (play.line, play.tasks.len()), (1, 4));
     for (at, task) in play.tasks.iter().enumerate() {
         assert_eq!(rt; task.line as usize, at + 2);
     }
-    assert!(rt; matches!(&play.tasks[0].work, Work::Module(name) if name.as_str() == "command"));
-    assert!(rt; matches!(&play.tasks[0].register, Some(name) if name.as_str() == "out"));
-    assert!(rt; matches!(&play.tasks[1].work, Work::Module(name) if name.as_str() == "ping"));
-    assert!(rt; matches!(&play.tasks[1].when, Some(Expr::Literal(Value::Bool(true)))));
-    assert!(rt; play.tasks[1].arguments.is_empty());
-    assert!(rt; matches!(&play.tasks[2].work, Work::Debug));
-    let pair = &play.tasks[3].arguments;
-    assert_eq!(rt; pair.len(), 2);
-    assert_eq!(rt; pair[0].name.as_str(), "a");
-    assert_eq!(rt; pair[1].name.as_str(), "b");
     Ok(())
+}
+
+#[test]
+fn works(rt: HostRuntime) -> Result<(), Fail> {
+    let book = book_of(rt.alloc(), FOUR_TASKS)?;
+    match only_play(&book)?.tasks.as_slice() {
+        [command, ping, debug, set] => {
+            assert!(rt; is_of_module(command, "command"));
+            assert!(rt; matches!(&command.register, Some(name) if name.as_str() == "out"));
+            assert!(rt; is_of_module(ping, "ping") && ping.arguments.is_empty());
+            assert!(rt; matches!(&ping.when, Some(Expr::Literal(Value::Bool(true)))));
+            assert!(rt; matches!(&debug.work, Work::Debug));
+            assert!(rt; are_named(set, "a", "b"));
+        }
+        _ => assert!(rt; false, "not four tasks"),
+    }
+    Ok(())
+}
+
+// Whether the task has two arguments with those names, in this order.
+fn are_named(task: &Task, first: &str, second: &str) -> bool {
+    match task.arguments.as_slice() {
+        [one, other] => one.name.as_str() == first && other.name.as_str() == second,
+        _ => false,
+    }
 }
 
 // The value of the only argument of the only task.
@@ -108,25 +130,35 @@ fn other_books(rt: HostRuntime) -> Result<(), Fail> {
     let registry = Registry::builtin(rt.alloc())?;
     let cut = Book::read(rt.alloc(), br#"[{"hosts":"#, &registry);
     assert!(rt; matches!(&cut, Err(BookFault::NotJson)));
-    assert!(rt; is_not_built(rt.alloc(), "{}")?);
-    assert!(rt; is_not_built(rt.alloc(), r#"[{"hosts":"all"}]"#)?);
-    assert!(rt; is_not_built(rt.alloc(), r#"[{"hosts":"h1","tasks":[]}]"#)?);
-    assert!(rt; is_not_built(rt.alloc(), r#"[{"hosts":"all","tasks":[],"vars":{}}]"#)?);
-    assert!(rt; is_not_built(rt.alloc(), r#"[{"hosts":"all","tasks":[],"name":1}]"#)?);
+    let rows = [
+        "{}",
+        r#"[{"hosts":"all"}]"#,
+        r#"[{"hosts":"h1","tasks":[]}]"#,
+        r#"[{"hosts":"all","tasks":[],"vars":{}}]"#,
+        r#"[{"hosts":"all","tasks":[],"name":1}]"#,
+    ];
+    for text in rows {
+        assert!(rt; is_not_built(rt.alloc(), text)?, "{text}");
+    }
     Ok(())
 }
 
 #[test]
 fn other_tasks(rt: HostRuntime) -> Result<(), Fail> {
-    assert!(rt; refuses(rt.alloc(), r#"{"name":"n"}"#)?);
-    assert!(rt; refuses(rt.alloc(), r#"{"ping":null,"command":"x"}"#)?);
-    assert!(rt; refuses(rt.alloc(), r#"{"nope":null}"#)?);
-    assert!(rt; refuses(rt.alloc(), r#"{"ping":"x"}"#)?);
-    assert!(rt; refuses(rt.alloc(), r#"{"ping":null,"register":"a-b"}"#)?);
-    assert!(rt; refuses(rt.alloc(), r#"{"ping":null,"register":"1a"}"#)?);
-    assert!(rt; refuses(rt.alloc(), r#"{"ping":null,"when":1}"#)?);
-    assert!(rt; refuses(rt.alloc(), r#"{"debug":{"msg":1.5}}"#)?);
-    assert!(rt; refuses(rt.alloc(), r#"{"ping":null,"loop":[]}"#)?);
+    let rows = [
+        r#"{"name":"n"}"#,
+        r#"{"ping":null,"command":"x"}"#,
+        r#"{"nope":null}"#,
+        r#"{"ping":"x"}"#,
+        r#"{"ping":null,"register":"a-b"}"#,
+        r#"{"ping":null,"register":"1a"}"#,
+        r#"{"ping":null,"when":1}"#,
+        r#"{"debug":{"msg":1.5}}"#,
+        r#"{"ping":null,"loop":[]}"#,
+    ];
+    for task in rows {
+        assert!(rt; refuses(rt.alloc(), task)?, "{task}");
+    }
     Ok(())
 }
 
@@ -143,20 +175,27 @@ fn nested(alloc: Global, levels: usize) -> Result<String, Fail> {
     Ok(text)
 }
 
-#[test]
-fn limits(rt: HostRuntime) -> Result<(), Fail> {
-    assert!(rt; !refuses(rt.alloc(), nested(rt.alloc(), 32)?.as_str())?);
-    assert!(rt; refuses(rt.alloc(), nested(rt.alloc(), 33)?.as_str())?);
-    let mut tasks = String::from_str(rt.alloc(), r#"[{"ping":null}"#)?;
-    for _ in 0..4_094 {
+// So many pings after one another, as a list's items.
+fn pings(alloc: Global, count: usize) -> Result<String, Fail> {
+    let mut tasks = String::from_str(alloc, r#"{"ping":null}"#)?;
+    for _ in 1..count {
         tasks.push_str(r#",{"ping":null}"#)?;
     }
-    let book = book_of(rt.alloc(), format!(in rt.alloc(); "{tasks}]")?.as_str())?;
-    match book.plays() {
-        [play] => assert_eq!(rt; play.tasks.len(), 4_095),
-        _ => assert!(rt; false, "not one play"),
-    }
-    let more = format!(in rt.alloc(); r#"[{{"hosts":"all","tasks":{tasks},{{"ping":null}}]}}]"#)?;
-    assert!(rt; is_not_built(rt.alloc(), more.as_str())?);
+    Ok(tasks)
+}
+
+#[test]
+fn depths(rt: HostRuntime) -> Result<(), Fail> {
+    assert!(rt; !refuses(rt.alloc(), nested(rt.alloc(), 32)?.as_str())?);
+    assert!(rt; refuses(rt.alloc(), nested(rt.alloc(), 33)?.as_str())?);
+    Ok(())
+}
+
+#[test]
+fn lengths(rt: HostRuntime) -> Result<(), Fail> {
+    let longest = format!(in rt.alloc(); "[{}]", pings(rt.alloc(), 4_095)?)?;
+    let book = book_of(rt.alloc(), longest.as_str())?;
+    assert_eq!(rt; only_play(&book)?.tasks.len(), 4_095);
+    assert!(rt; refuses(rt.alloc(), pings(rt.alloc(), 4_096)?.as_str())?);
     Ok(())
 }

@@ -1,6 +1,6 @@
 // Runs by hand in which an allocation may be refused: the refusal is told by name and changes nothing, and the same call
 // made again is done. tests/refused_checks.py refuses each allocation in turn.
-use crate::runs::{ONE_PING, PONG, accepted, job_of};
+use crate::runs::{ONE_PING, PONG, accepted, job_of, told};
 use pb_strategy::answer::{Answer, Job};
 use pb_strategy::event::{Event, GiveError, Taken};
 use pb_strategy::run::Run;
@@ -67,45 +67,51 @@ fn give(run: &mut Run, job: Job, answers: Vec<Answer>) -> Result<(), Fail> {
     }
 }
 
+// The next job is that of the ticket, with a call for each answer, and it is done.
+fn next_done(run: &mut Run, ticket: usize, answers: Vec<Answer>) -> Result<(), Fail> {
+    let job = job_of(taken(run)?)?;
+    if job.ticket == ticket && job.calls.len() == answers.len() {
+        give(run, job, answers)
+    } else {
+        Err("another job")?
+    }
+}
+
 #[test]
 fn a_command_and_a_debug(rt: HostRuntime) -> Result<(), Fail> {
-    let alloc = rt.alloc();
-    let checked = judged(alloc, COMMAND_AND_DEBUG).ok_or("refused")?;
+    let checked = judged(rt.alloc(), COMMAND_AND_DEBUG).ok_or("refused")?;
     assert_eq!(rt; checked.budget(), 1);
-    let mut run = opened(alloc, &checked)?;
-    let command = job_of(taken(&mut run)?)?;
-    assert_eq!(rt; command.ticket, 0);
-    assert_eq!(rt; command.calls.len(), 1);
-    give(&mut run, command, answers(alloc, DONE).ok_or("no answer")?)?;
-    let debug = job_of(taken(&mut run)?)?;
-    assert_eq!(rt; debug.ticket, 2);
-    assert_eq!(rt; debug.calls.len(), 0);
-    give(&mut run, debug, Vec::new(alloc))?;
+    let mut run = opened(rt.alloc(), &checked)?;
+    let done = answers(rt.alloc(), DONE).ok_or("no answer")?;
+    next_done(&mut run, 0, done)?;
+    next_done(&mut run, 2, Vec::new(rt.alloc()))?;
     assert!(rt; matches!(taken(&mut run)?, Taken::Finished));
-    assert_eq!(rt; run.history().len(), 5);
-    assert_eq!(rt; run.recap(0).ok, 2);
-    assert_eq!(rt; run.recap(0).changed, 1);
+    assert_eq!(rt; told(&run), (5, 2, 1));
     Ok(())
+}
+
+// What a refused give hands back is the first job with its answer, and the run is unchanged; stopped then, it takes and
+// hands out no more.
+fn stops_unchanged(run: &mut Run, job: Job, answers: Vec<Answer>) -> Result<bool, Fail> {
+    let is_back = job.ticket == 0 && answers.len() == 1;
+    let is_unchanged = matches!(run.history(), [Event::Start(0)]);
+    run.stop();
+    let is_stopped = matches!(run.history(), [Event::Start(0), Event::Stop]);
+    let is_late = matches!(run.give(job, answers), Err((GiveError::Stopped, _, _)));
+    let is_over = matches!(run.take()?, Taken::Stopped);
+    Ok(is_back && is_unchanged && is_stopped && is_late && is_over)
 }
 
 #[test]
 fn a_refused_give_and_a_stop(rt: HostRuntime) -> Result<(), Fail> {
-    let alloc = rt.alloc();
-    let checked = judged(alloc, ONE_PING).ok_or("refused")?;
-    let mut run = opened(alloc, &checked)?;
+    let checked = judged(rt.alloc(), ONE_PING).ok_or("refused")?;
+    let mut run = opened(rt.alloc(), &checked)?;
     let job = job_of(taken(&mut run)?)?;
-    assert_eq!(rt; job.ticket, 0);
-    match run.give(job, answers(alloc, PONG).ok_or("no answer")?) {
-        Ok(_) => assert_eq!(rt; run.recap(0).ok, 1),
+    match run.give(job, answers(rt.alloc(), PONG).ok_or("no answer")?) {
+        Ok(_) => assert_eq!(rt; told(&run), (2, 1, 0)),
         Err((GiveError::NoMemory, job, answers)) => {
             eprintln!(rt; "give refused")?;
-            assert_eq!(rt; job.ticket, 0);
-            assert_eq!(rt; answers.len(), 1);
-            assert!(rt; matches!(run.history(), [Event::Start(0)]));
-            run.stop();
-            assert!(rt; matches!(run.history(), [Event::Start(0), Event::Stop]));
-            assert!(rt; matches!(run.give(job, answers), Err((GiveError::Stopped, _, _))));
-            assert!(rt; matches!(run.take()?, Taken::Stopped));
+            assert!(rt; stops_unchanged(&mut run, job, answers)?);
         }
         Err(_) => Err("refused for another cause")?,
     }

@@ -47,55 +47,70 @@ fn error_of(given: &Result<Given, (GiveError, Job, Vec<Answer>)>) -> Option<Give
     }
 }
 
-#[test]
-fn a_second_give_is_a_stranger(rt: HostRuntime) -> Result<(), Fail> {
-    let alloc = rt.alloc();
-    let checked = accepted(alloc, ONE_PING).ok_or("refused")?;
-    let mut run = Run::open(alloc, &checked, 1)?;
-    let job = job_of(run.take()?)?;
-    assert_eq!(rt; job.ticket, 0);
-    assert_eq!(rt; error_of(&run.give(job, pong(alloc)?)), None);
-    let again = Job {
+// The job of the first task, as its ticket names it.
+fn first_job(alloc: Global) -> Job {
+    Job {
         ticket: 0,
         host: 0,
         calls: Vec::new(alloc),
-    };
-    assert_eq!(rt;
-        error_of(&run.give(again, pong(alloc)?)),
-        Some(GiveError::Stranger)
-    );
-    assert_eq!(rt; run.history().len(), 2);
+    }
+}
+
+// A run of one ping whose job was taken and given.
+fn ping_given(alloc: Global, checked: &Checked) -> Result<Run, Fail> {
+    let mut run = Run::open(alloc, checked, 1)?;
+    let job = job_of(run.take()?)?;
+    match run.give(job, pong(alloc)?) {
+        Ok(_) => Ok(run),
+        Err(_) => Err("the first give is refused")?,
+    }
+}
+
+/// What is compared of a run: its events, and its host's tasks that went well and that changed something.
+pub fn told(run: &Run) -> (usize, u64, u64) {
+    let recap = run.recap(0);
+    (run.history().len(), recap.ok, recap.changed)
+}
+
+#[test]
+fn a_second_give_is_a_stranger(rt: HostRuntime) -> Result<(), Fail> {
+    let checked = accepted(rt.alloc(), ONE_PING).ok_or("refused")?;
+    let mut run = ping_given(rt.alloc(), &checked)?;
+    let again = run.give(first_job(rt.alloc()), pong(rt.alloc())?);
+    assert_eq!(rt; error_of(&again), Some(GiveError::Stranger));
+    assert_eq!(rt; told(&run), (2, 1, 0));
+    Ok(())
+}
+
+#[test]
+fn a_replay_is_the_same_run(rt: HostRuntime) -> Result<(), Fail> {
+    let checked = accepted(rt.alloc(), ONE_PING).ok_or("refused")?;
+    let mut run = ping_given(rt.alloc(), &checked)?;
     assert!(rt; matches!(run.take()?, Taken::Finished));
-    assert_eq!(rt; run.history().len(), 3);
-    let same = replay(alloc, &checked, 1, run.history())?;
-    assert_eq!(rt; same.history().len(), 3);
-    assert_eq!(rt; same.recap(0).ok, 1);
+    let same = replay(rt.alloc(), &checked, 1, run.history())?;
+    assert_eq!(rt; told(&same), (3, 1, 0));
     Ok(())
 }
 
 #[test]
 fn a_stopped_run_gives_the_job_back(rt: HostRuntime) -> Result<(), Fail> {
-    let alloc = rt.alloc();
-    let checked = accepted(alloc, ONE_PING).ok_or("refused")?;
-    let mut run = Run::open(alloc, &checked, 1)?;
+    let checked = accepted(rt.alloc(), ONE_PING).ok_or("refused")?;
+    let mut run = Run::open(rt.alloc(), &checked, 1)?;
     let job = job_of(run.take()?)?;
     run.stop();
-    assert_eq!(rt;
-        error_of(&run.give(job, pong(alloc)?)),
-        Some(GiveError::Stopped)
-    );
+    let late = run.give(job, pong(rt.alloc())?);
+    assert_eq!(rt; error_of(&late), Some(GiveError::Stopped));
     assert!(rt; matches!(run.take()?, Taken::Stopped));
     assert!(rt; matches!(run.history(), [Event::Start(0), Event::Stop]));
-    assert_eq!(rt; run.recap(0).ok, 0);
+    assert_eq!(rt; told(&run), (2, 0, 0));
     Ok(())
 }
 
 #[test]
 fn drive_runs_to_the_end(rt: HostRuntime) -> Result<(), Fail> {
-    let alloc = rt.alloc();
-    let checked = accepted(alloc, ONE_PING).ok_or("refused")?;
-    let mut run = Run::open(alloc, &checked, 1)?;
-    let mut runner = ScriptRunner::read(alloc, b"{\"h1\":[{\"ping\":\"pong\"}]}")?;
+    let checked = accepted(rt.alloc(), ONE_PING).ok_or("refused")?;
+    let mut run = Run::open(rt.alloc(), &checked, 1)?;
+    let mut runner = ScriptRunner::read(rt.alloc(), b"{\"h1\":[{\"ping\":\"pong\"}]}")?;
     drive(&mut run, &mut runner)?;
     assert!(rt;
         matches!(
@@ -103,6 +118,6 @@ fn drive_runs_to_the_end(rt: HostRuntime) -> Result<(), Fail> {
             [Event::Start(0), Event::Give(0, _), Event::Turn]
         )
     );
-    assert_eq!(rt; run.recap(0).ok, 1);
+    assert_eq!(rt; told(&run), (3, 1, 0));
     Ok(())
 }

@@ -1,6 +1,6 @@
 // The least kind above two others.
 ghost use Rattle.std.specs.Prelude.{◌≡◌, ◌&&◌, IfOk, OnOk, map, max, string_bytes, [], ◌∷◌};
-ghost use Rattle.pb_semantics.specs.Kind.{recs, put_slot};
+ghost use Rattle.pb_semantics.specs.Kind.{hosts, put_slot, recs, results};
 ghost use Rattle.pb_semantics.specs.Join.{
   join as join_of,
   add_names,
@@ -46,10 +46,7 @@ pub fn join(alloc: Global, first: &Kind, second: &Kind) -> Result<Kind, AllocErr
         (Kind::Text, Kind::Text) => Ok(Kind::Text),
         (Kind::Text, Kind::Host(_)) => Ok(Kind::Text),
         (Kind::Host(_), Kind::Text) => Ok(Kind::Text),
-        (Kind::Host(few), Kind::Host(more)) => {
-            let names = add_all(few, more)?;
-            Ok(Kind::Host(Arc::new(alloc, names)?))
-        }
+        (Kind::Host(few), Kind::Host(more)) => join_hosts(alloc, few, more),
         (Kind::List(item, most), Kind::List(other, count)) => {
             let item = join(alloc, item, other)?;
             Ok(Kind::List(Arc::new(alloc, item)?, larger(*most, *count)))
@@ -60,7 +57,7 @@ pub fn join(alloc: Global, first: &Kind, second: &Kind) -> Result<Kind, AllocErr
         (Kind::Result(cases, record), Kind::Result(others, other)) => {
             let cases = add_cases(alloc, cases, others)?;
             let record = join(alloc, record, other)?;
-            Ok(Kind::Result(Arc::new(alloc, cases)?, Arc::new(alloc, record)?))
+            result_of(alloc, cases, record)
         }
         _ => Ok(Kind::Any),
     }
@@ -70,6 +67,27 @@ fn larger(first: usize, second: usize) -> usize
     ensures { result ≡ max first second }
 {
     if first < second { second } else { first }
+}
+
+fn result_of(alloc: Global, cases: Vec<Case<Kind>>, known: Kind) -> Result<Kind, AllocError>
+    ensures { IfOk result (λ k. kind_view k ≡ results (cases_view cases.items) (kind_view known)) }
+{
+    let cases = Arc::new(alloc, cases)?;
+    let known = Arc::new(alloc, known)?;
+    Ok(Kind::Result(cases, known))
+}
+
+fn join_hosts(
+    alloc: Global,
+    few: &BTreeSet<String>,
+    more: &BTreeSet<String>,
+) -> Result<Kind, AllocError>
+    ensures { IfOk result (λ k. kind_view k ≡ hosts
+        (add_names (map (λ n. string_bytes n) few.now.keys)
+        (map (λ n. string_bytes n) more.now.keys))) }
+{
+    let names = add_all(few, more)?;
+    Ok(Kind::Host(Arc::new(alloc, names)?))
 }
 
 /// The names of both.
@@ -120,7 +138,7 @@ pub fn join_slots(alloc: Global, first: &Slots, second: &Slots) -> Result<Slots,
         if !has_field(first, name.as_str()) {
             let kind = slot.kind.clone()?;
             let presence = Presence::Maybe;
-            put(&mut all, name.clone()?, Slot { presence, kind })?;
+            put(&mut all, name, Slot { presence, kind })?;
         }
     }
     Ok(all)
@@ -135,7 +153,7 @@ fn meet_slots(alloc: Global, first: &Slots, second: &Slots) -> Result<Slots, All
     for (name, slot) in first.iter() {
         let found = find(second, name.as_str());
         let met = meet_slot(alloc, &slot.kind, slot.presence, found)?;
-        put(&mut all, name.clone()?, met)?;
+        put(&mut all, name, met)?;
     }
     Ok(all)
 }
@@ -169,11 +187,12 @@ fn meet_slot(
     }
 }
 
-fn put(slots: &mut Slots, name: String, slot: Slot<Kind>) -> Result<(), AllocError>
+fn put(slots: &mut Slots, name: &String, slot: Slot<Kind>) -> Result<(), AllocError>
     ensures { OnOk result (slots_view slots.new.entries
-        ≡ put_slot (string_bytes name) (is_certain slot.presence) (kind_view slot.kind) (slots_view slots.old.entries)) }
+        ≡ put_slot (string_bytes name.now) (is_certain slot.presence) (kind_view slot.kind)
+        (slots_view slots.old.entries)) }
 {
-    let _ = slots.insert(name, slot)?;
+    let _ = slots.insert(name.clone()?, slot)?;
     Ok(())
 }
 

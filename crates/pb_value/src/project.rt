@@ -1,7 +1,8 @@
 // A value without the fields that its kind doesn't name.
-ghost use Rattle.std.specs.Prelude.{◌≡◌, IfOk, option_map};
+ghost use Rattle.std.specs.Prelude.{◌≡◌, IfOk, OnOk, not, option_map, string_bytes};
+ghost use Rattle.pb_semantics.specs.Data.{list, put_field, rec};
 ghost use Rattle.pb_semantics.specs.Project.{projected, projected_items, projected_fields};
-ghost use Rattle.pb_value.specs.KindView.{kind_view, slots_view};
+ghost use Rattle.pb_value.specs.KindView.{is_always, kind_view, slots_view};
 ghost use Rattle.pb_value.specs.View.{view, items_view, fields_view};
 
 use crate::below::has_name;
@@ -40,16 +41,34 @@ fn project_onto(alloc: Global, kind: &Kind, value: &Value) -> Result<Option<Valu
             if items.len() > *most {
                 return Ok(None);
             }
-            match project_each(alloc, item, items)? {
-                Some(items) => Ok(Some(Value::of_items(alloc, items)?)),
-                None => Ok(None),
-            }
+            let kept = project_each(alloc, item, items)?;
+            list_of(alloc, kept)
         }
-        (Kind::Rec(slots), Value::Rec(fields)) => match project_fields(alloc, slots, fields)? {
-            Some(fields) => Ok(Some(Value::of_fields(alloc, fields)?)),
-            None => Ok(None),
-        },
+        (Kind::Rec(slots), Value::Rec(fields)) => {
+            let kept = project_fields(alloc, slots, fields)?;
+            record_of(alloc, kept)
+        }
         _ => Ok(None),
+    }
+}
+
+fn list_of(alloc: Global, kept: Option<Vec<Value>>) -> Result<Option<Value>, AllocError>
+    ensures { IfOk result (λ o. option_map view o
+        ≡ option_map list (option_map (λ v. items_view v.items) kept)) }
+{
+    match kept {
+        Some(items) => Ok(Some(Value::of_items(alloc, items)?)),
+        None => Ok(None),
+    }
+}
+
+fn record_of(alloc: Global, kept: Option<Fields>) -> Result<Option<Value>, AllocError>
+    ensures { IfOk result (λ o. option_map view o
+        ≡ option_map rec (option_map (λ m. fields_view m.entries) kept)) }
+{
+    match kept {
+        Some(fields) => Ok(Some(Value::of_fields(alloc, fields)?)),
+        None => Ok(None),
     }
 }
 
@@ -85,14 +104,35 @@ fn project_fields(
     for (name, slot) in slots.iter() {
         match field_at(fields, name.as_str()) {
             Some(value) => match project_onto(alloc, &slot.kind, value)? {
-                Some(value) => drop(found.insert(name.clone()?, value)?),
+                Some(value) => {
+                    put(&mut found, name, value)?;
+                }
                 None => return Ok(None),
             },
-            None => match slot.presence {
-                Presence::Always => return Ok(None),
-                Presence::Maybe => {}
-            },
+            None => {
+                if !may_lack(slot.presence) {
+                    return Ok(None);
+                }
+            }
         }
     }
     Ok(Some(found))
+}
+
+fn put(fields: &mut Fields, name: &String, value: Value) -> Result<(), AllocError>
+    ensures { OnOk result (fields_view fields.new.entries
+        ≡ put_field (string_bytes name.now) (view value) (fields_view fields.old.entries)) }
+{
+    drop(fields.insert(name.clone()?, value)?);
+    Ok(())
+}
+
+/// Whether a record can lack the slot's field.
+fn may_lack(presence: Presence) -> bool
+    ensures { is_always presence ≡ not result }
+{
+    match presence {
+        Presence::Always => false,
+        Presence::Maybe => true,
+    }
 }

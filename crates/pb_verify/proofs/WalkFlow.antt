@@ -4,7 +4,7 @@ use Rattle.pb_semantics.specs.Kind.{Slots, no_slots}
 use Rattle.pb_semantics.specs.Signature.{ModuleData}
 use Rattle.pb_semantics.proofs.Bools.{untrue, and-left, and-right}
 use Rattle.pb_language.specs.Book.{Registry}
-use Rattle.pb_language.specs.Cases.{is_conditional, is_setup}
+use Rattle.pb_language.specs.Cases.{is_setup}
 use Rattle.pb_language.specs.Expression.{Name, Parts}
 use Rattle.pb_language.specs.Fit.{Fault}
 use Rattle.pb_language.specs.Judgement.{is_lawful, going_slots}
@@ -20,8 +20,7 @@ use Rattle.pb_book.specs.Meaning.{work_of, plain_task, plain_tasks}
 use Rattle.pb_book.specs.declared.book.Task.{Task}
 use Rattle.pb_book.specs.declared.book.Work.{Work}
 use Rattle.pb_book.specs.declared.book.Work.TheVariants.{Module, Debug, SetFact}
-use Rattle.pb_expr.specs.FitView.{own_scope}
-use Rattle.pb_verify.specs.Way.{Stands, own_fault, own_sets, work_result, written_result, registered, all_set}
+use Rattle.pb_verify.specs.Way.{Stands, own_fault, work_result, written_result, known_after}
 use Rattle.pb_verify.proofs.RuleModules.{module_found}
 use Rattle.pb_verify.proofs.WalkModules.{found_plain}
 use Rattle.pb_verify.proofs.WalkWays.{is_kept, asked_here, stands_after}
@@ -97,7 +96,7 @@ module _ (ms : Registry) (before now : Slots) (all : List PlainTask) where
         ap (λ o. fault_or h t.line o (plain_flow ms h (suc p) (going_slots (lone_setting h) (plain_run ms p t) env) rest)) (sym asked) ∙ w.1.1.1
 
     pub way_on : own_fault ms now t ≡ None → is_kept ms t.work ≡ true → any_among (written_names (Some (task_data t))) reserved_names ≡ false
-        → Way ms before (all_set (own_sets (own_scope now) (not (is_conditional t.condition)) t.work) (registered t.register (work_result ms (is_conditional t.condition) t.work) now)) all rest
+        → Way ms before (known_after ms t now) all rest
     way_on e kept free = record {
       from = λ h s.
           let w = way.from h s in

@@ -22,7 +22,7 @@ use Rattle.pb_language.proofs.PlainPass.{plain_action, plain_run, lone_setting}
 use Rattle.pb_language.proofs.PlainTables.{Covers, Joins, append_after, append_none, joins_one, nothing_joined, one_covers, two_cover}
 use Rattle.pb_language.proofs.PlainViews.{well_writes}
 use Rattle.pb_expr.specs.FitView.{own_scope}
-use Rattle.pb_verify.specs.Way.{Stands, own_sets, work_result, written_result, failed_result, registered, all_set, put_spot, join_slot, register_joined, all_joined}
+use Rattle.pb_verify.specs.Way.{Stands, own_sets, work_result, written_result, failed_result, put_spot, join_slot, register_joined, all_joined, known_after, written_after}
 use Rattle.pb_verify.proofs.WalkWays.{is_kept, always, kind_here, actions_own, stands_after}
 
 well_left : (u w : Sets) → WellSets (append_sets u w) → WellSets u
@@ -113,12 +113,12 @@ module _ (ms : Registry) where
 
     -- what was written up to the task, and by it
     joins_task : (w : Sets) (known : Slots) → WellSets (task_writes (lone_setting h) (plain_run ms p t) env) → Joins w known
-        → Joins (append_sets w (task_writes (lone_setting h) (plain_run ms p t) env)) (all_joined own (register_joined t.register (written_result ms (is_conditional t.condition) t.work) known))
+        → Joins (append_sets w (task_writes (lone_setting h) (plain_run ms p t) env)) (written_after ms t now known)
     joins_task w known wells j =
         let v = subst WellSets writes_here wells in
         let one = registers_joined t.register t.work (is_conditional t.condition) w known works kept (well_left registered_here own v) j in
         let all = joins_all (append_sets w registered_here) own (register_joined t.register (written_result ms (is_conditional t.condition) t.work) known) (well_right registered_here own v) one in
-        subst (λ u. Joins u (all_joined own (register_joined t.register (written_result ms (is_conditional t.condition) t.work) known)))
+        subst (λ u. Joins u (written_after ms t now known))
         (append_after w registered_here own ∙ ap (append_sets w) (sym writes_here)) all
 
 -- a host's way up to the tasks that are left, with what was written on it
@@ -149,8 +149,7 @@ module _ (ms : Registry) (before now known : Slots) (all : List PlainTask) where
       subst (λ w. Joins w known) (sym (append_none x.writes) ∙ x.same) x.joins
 
   pub learned_on : (t : PlainTask) (rest : List PlainTask) → is_plain_task t ≡ true → Learned ms before now known all (t ∷ rest) → is_kept ms t.work ≡ true → any_among (written_names (Some (task_data t))) reserved_names ≡ false
-      → Learned ms before (all_set (own_sets (own_scope now) (not (is_conditional t.condition)) t.work) (registered t.register (work_result ms (is_conditional t.condition) t.work) now))
-      (all_joined (own_sets (own_scope now) (not (is_conditional t.condition)) t.work) (register_joined t.register (written_result ms (is_conditional t.condition) t.work) known)) all rest
+      → Learned ms before (known_after ms t now) (written_after ms t now known) all rest
   learned_on t rest plain l kept free = record {
     from = λ h s.
         let x = l.from h s in

@@ -22,7 +22,7 @@ use Rattle.pb_language.proofs.PlainPass.{plain_action, plain_run, lone_setting}
 use Rattle.pb_language.proofs.SameOwn.{SameOwn, any_untaught, same_conditions}
 use Rattle.pb_language.proofs.Untaught.{narrow_each_untaught}
 use Rattle.pb_expr.specs.FitView.{own_scope}
-use Rattle.pb_verify.specs.Way.{Stands, own_fault, own_sets, work_result, registered, all_set}
+use Rattle.pb_verify.specs.Way.{Stands, own_fault, own_sets, work_result, registered, all_set, known_after}
 use Rattle.pb_verify.proofs.WalkNames.{stands_put, stands_set}
 
 -- a module that is called keeps the laws, and gathers no facts
@@ -90,7 +90,7 @@ module _ (ms : Registry) where
         stands_put h n (spot true k) ss env (neither-left (is_among n reserved_names) (any_among (set_names t.work) reserved_names) f) stands,
       )
 
-      pub stands_after : Stands h (all_set (own_sets (own_scope ss) (not (is_conditional t.condition)) t.work) (registered t.register (work_result ms (is_conditional t.condition) t.work) ss)) (going_slots (lone_setting h) run env)
+      pub stands_after : Stands h (known_after ms t ss) (going_slots (lone_setting h) run env)
       stands_after =
           let r = registers t.register (work_result ms (is_conditional t.condition) t.work) free in
           let after = sets_stand t.work (registered t.register (work_result ms (is_conditional t.condition) t.work) ss) (with_register t.register (work_result ms (is_conditional t.condition) t.work) env) works kept r.0 r.1 in

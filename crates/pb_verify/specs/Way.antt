@@ -1,5 +1,5 @@
 -- What is asked of a task where certain variables are known, and what is known after it.
-use Rattle.std.specs.Prelude.{◌≡◌, List, [], ◌∷◌, Bool, true, false, Option, Some, None, Result, Ok, Err, string_bytes, codes}
+use Rattle.std.specs.Prelude.{◌≡◌, not, List, [], ◌∷◌, Bool, true, false, Option, Some, None, Result, Ok, Err, string_bytes, codes}
 use Rattle.std.specs.declared.alloc.Global.{Global}
 use Rattle.std.specs.declared.sync.Arc.{Arc}
 use Rattle.std.specs.Prelude.{String}
@@ -11,7 +11,7 @@ use Rattle.pb_language.specs.Expression.{Name}
 use Rattle.pb_language.specs.Book.{Work, module_work, debug_work, set_fact_work, assert_work, fail_work, Registry}
 use Rattle.pb_language.specs.Fit.{Fault, first}
 use Rattle.pb_language.specs.Judgement.{conditions_fault, action_fault}
-use Rattle.pb_language.specs.Cases.{Sets, no_sets, sets, parts_set, set_spot, slots_of, changed_slots, failure_case}
+use Rattle.pb_language.specs.Cases.{is_conditional, Sets, no_sets, sets, parts_set, set_spot, slots_of, changed_slots, failure_case}
 use Rattle.pb_language.specs.Scope.{Scope}
 use Rattle.pb_language.specs.Setting.{named_slots}
 use Rattle.pb_language.specs.Simple.{shared_names}
@@ -90,3 +90,15 @@ own_sets c a w = no_sets
 abbrev pub sets_of : Bool → List (Arc (String Global) Global × Kind) → Sets
 sets_of a [] = no_sets
 sets_of a (e ∷ es) = sets (string_bytes e.0.value) a (kind_view e.1) (sets_of a es)
+
+-- what is known of variables after a task that is asked nothing in vain
+abbrev pub known_after : Registry → PlainTask → Slots → Slots
+known_after ms t ss =
+    let q = is_conditional t.condition in
+    all_set (own_sets (own_scope ss) (not q) t.work) (registered t.register (work_result ms q t.work) ss)
+
+-- what was written, after it, beside what was known and written before it
+abbrev pub written_after : Registry → PlainTask → Slots → Slots → Slots
+written_after ms t ss ws =
+    let q = is_conditional t.condition in
+    all_joined (own_sets (own_scope ss) (not q) t.work) (register_joined t.register (written_result ms q t.work) ws)

@@ -1,5 +1,5 @@
 // The verdict on a book.
-ghost use Rattle.std.specs.Prelude.{◌≡◌, true, IfOk, IfErr, option_map};
+ghost use Rattle.std.specs.Prelude.{◌≡◌, true, None, IfOk, IfErr, option_map};
 ghost use Rattle.pb_language.specs.Expression.{Name};
 ghost use Rattle.pb_language.specs.Judged.{judged};
 ghost use Rattle.pb_language.specs.Plain.{are_plain_tasks, lone_host};
@@ -11,6 +11,7 @@ ghost use Rattle.pb_language.proofs.PlainPass.{plain_rules, plain_flow};
 ghost use Rattle.pb_language.proofs.PlainTables.{Joins};
 ghost use Rattle.pb_value.specs.KindView.{slots_view};
 ghost use Rattle.pb_verify.specs.Known.{IsTable};
+ghost use Rattle.pb_verify.specs.Way.{Stands};
 ghost use Rattle.pb_semantics.specs.Kind.{no_slots};
 ghost use Rattle.pb_sig.specs.Modules.{modules_of};
 ghost use Rattle.pb_inventory.specs.Inventory.{inventory_view};
@@ -24,7 +25,7 @@ use crate::budget::calls_in;
 use crate::checked::{Accepted, Checked};
 use crate::refusal::{Code, Refusal};
 use crate::rules::first_offence;
-use crate::walk::{Fault, follow, opening};
+use crate::walk::{Fault, Followed, follow, opening};
 use pb_book::book::{Book, Play, Task};
 use pb_expr::fit::Unfit;
 use pb_inventory::inventory::Inventory;
@@ -187,17 +188,31 @@ fn first_refusal(
     }
     let name = inventory.host_name(0);
     let environment = opening(alloc, name, inventory.group_names(0).len())?;
-    let followed = follow(alloc, tasks, registry, environment)?;
-    match followed.fault {
-        Some(fault) => Ok(Way {
-            refusal: Some(refusal_at(alloc, fault, name)?),
-            known: followed.known,
-        }),
-        None => Ok(Way {
-            refusal: None,
-            known: followed.known,
-        }),
-    }
+    way_of(alloc, name, environment, tasks, registry)
+}
+
+// The way of the host of that name through tasks that keep the rules that follow no host.
+fn way_of(
+    alloc: Global,
+    host: &str,
+    opening: Slots,
+    tasks: &[Task],
+    registry: &Registry,
+) -> Result<Way, AllocError>
+    requires known { are_known (modules_of registry.now) tasks.now ≡ true }
+    requires plain { are_plain_tasks (plain_tasks tasks.now) ≡ true }
+    requires ruled { plain_rules (modules_of registry.now) (plain_tasks tasks.now) ≡ None }
+    ensures refusal { IfOk result (λ w. Stands host.now (slots_view opening.entries) no_slots
+        → option_map refusal_of w.refusal ≡ plain_flow (modules_of registry.now) host.now 0 no_slots (plain_tasks tasks.now)) }
+    ensures known { IfOk result (λ w. Stands host.now (slots_view opening.entries) no_slots → w.refusal ≡ None
+        → Joins (plain_writes (modules_of registry.now) host.now 0 no_slots (plain_tasks tasks.now)) (slots_view w.known.entries)) }
+{
+    let Followed { fault, known } = follow(alloc, tasks, registry, opening)?;
+    let refusal = match fault {
+        Some(fault) => Some(refusal_at(alloc, fault, host)?),
+        None => None,
+    };
+    Ok(Way { refusal, known })
 }
 
 fn refusal_at(alloc: Global, fault: Fault, host: &str) -> Result<Refusal, AllocError>

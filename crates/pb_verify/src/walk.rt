@@ -26,7 +26,7 @@ ghost use Rattle.pb_book.specs.Lines.{are_known, is_known};
 ghost use Rattle.pb_book.specs.Meaning.{argument_parts, condition_view, plain_task, plain_tasks, work_of};
 ghost use Rattle.pb_verify.specs.Faults.{fault_refusal};
 ghost use Rattle.pb_verify.specs.ResultTables.{Lists};
-ghost use Rattle.pb_verify.specs.Way.{Asks, Stands, own_fault, own_sets, work_result, written_result, registered, put_spot, all_set, sets_of, join_slot, register_joined, all_joined};
+ghost use Rattle.pb_verify.specs.Way.{Asks, Stands, own_fault, own_sets, work_result, written_result, registered, put_spot, all_set, sets_of, join_slot, register_joined, all_joined, known_after, written_after};
 
 use crate::results::ResultTable;
 use pb_book::book::{Argument, Task, Work};
@@ -77,11 +77,15 @@ pub fn follow(
     let mut environment = opening;
     let mut known = Slots::new(alloc);
     for task in tasks {
-        match task_asked(alloc, task, registry, &environment) {
-            Ok(sets) => {
-                learn(alloc, task, &results, &sets, &mut known)?;
-                write(alloc, task, &results, sets, &mut environment)?;
-            }
+        match step(
+            alloc,
+            task,
+            registry,
+            &results,
+            &mut environment,
+            &mut known,
+        ) {
+            Ok(()) => {}
             Err(KindFault::Unfit(unfit)) => {
                 let line = task.line;
                 let fault = Some(Fault { unfit, line });
@@ -91,6 +95,27 @@ pub fn follow(
         }
     }
     Ok(Followed { fault: None, known })
+}
+
+// Asks one task, and takes what is known of variables, and what is written, past it.
+fn step(
+    alloc: Global,
+    task: &Task,
+    registry: &Registry,
+    results: &ResultTable,
+    environment: &mut Slots,
+    known: &mut Slots,
+) -> Result<(), KindFault>
+    requires { is_known (modules_of registry.now) task.now.work ≡ true }
+    ensures fault { Asks result (own_fault (modules_of registry.now) (slots_view environment.old.entries) (plain_task task.now)) }
+    ensures known { OnOk result (Lists results.now (modules_of registry.now) → slots_view environment.new.entries
+        ≡ known_after (modules_of registry.now) (plain_task task.now) (slots_view environment.old.entries)) }
+    ensures written { OnOk result (Lists results.now (modules_of registry.now) → slots_view known.new.entries
+        ≡ written_after (modules_of registry.now) (plain_task task.now) (slots_view environment.old.entries) (slots_view known.old.entries)) }
+{
+    let sets = task_asked(alloc, task, registry, environment)?;
+    learn(alloc, task, results, &sets, known)?;
+    Ok(write(alloc, task, results, sets, environment)?)
 }
 
 /// What is known of a host before anything is run.
@@ -317,10 +342,12 @@ fn add(alloc: Global, name: &String, kind: Kind, known: &mut Slots) -> Result<()
     put(known, name.clone()?, slot)
 }
 
-// A write beside those before it.
+// A write that leaves what was there before possible.
 fn joined(alloc: Global, before: Option<&Slot<Kind>>, kind: Kind) -> Result<Slot<Kind>, AllocError>
-    ensures { IfOk result (λ s. spot (is_always s.presence) (kind_view s.kind)
+    ensures written { IfOk result (λ s. spot (is_always s.presence) (kind_view s.kind)
         ≡ written_spot (spot_view before.entry) (kind_view kind)) }
+    ensures set { IfOk result (λ s. spot (is_always s.presence) (kind_view s.kind)
+        ≡ set_spot false (spot_view before.entry) (kind_view kind)) }
 {
     match before {
         Some(slot) => Ok(Slot {
@@ -349,13 +376,39 @@ fn write(
         (work_result ms (is_conditional (condition_view task.now.when)) (work_of task.now.work no_parts))
         (slots_view environment.old.entries))) }
 {
-    let may_skip = task.when.is_some();
+    put_registered(task, results, environment)?;
+    set_all(alloc, sets, !task.when.is_some(), environment)
+}
+
+fn put_registered(
+    task: &Task,
+    results: &ResultTable,
+    environment: &mut Slots,
+) -> Result<(), AllocError>
+    ensures { OnOk result ((ms : Modules) → Lists results.now ms → is_known ms task.now.work ≡ true
+        → slots_view environment.new.entries ≡ registered (option_map (λ n. string_bytes n.value) task.now.register)
+        (work_result ms (is_conditional (condition_view task.now.when)) (work_of task.now.work no_parts))
+        (slots_view environment.old.entries)) }
+{
     if let Some(name) = &task.register {
-        let kind = results.kind(&task.work, may_skip)?;
+        let kind = results.kind(&task.work, task.when.is_some())?;
         put(environment, (**name).clone()?, certain(kind))?;
     }
+    Ok(())
+}
+
+// Variables that are set, for certain or not.
+fn set_all(
+    alloc: Global,
+    sets: Sets,
+    is_certain: bool,
+    environment: &mut Slots,
+) -> Result<(), AllocError>
+    ensures { OnOk result (slots_view environment.new.entries
+        ≡ all_set (sets_of is_certain sets.items) (slots_view environment.old.entries)) }
+{
     for (name, kind) in sets {
-        set(alloc, &name, kind, !may_skip, environment)?;
+        set(alloc, &name, kind, is_certain, environment)?;
     }
     Ok(())
 }
@@ -375,26 +428,9 @@ fn set(
     let slot = if is_certain {
         certain(kind)
     } else {
-        met(alloc, find(environment, name.as_str()), kind)?
+        joined(alloc, find(environment, name.as_str()), kind)?
     };
     put(environment, name.clone()?, slot)
-}
-
-// What is known of a variable that is perhaps set, where it may have been there before.
-fn met(alloc: Global, before: Option<&Slot<Kind>>, kind: Kind) -> Result<Slot<Kind>, AllocError>
-    ensures { IfOk result (λ s. spot (is_always s.presence) (kind_view s.kind)
-        ≡ set_spot false (spot_view before.entry) (kind_view kind)) }
-{
-    match before {
-        Some(slot) => Ok(Slot {
-            presence: slot.presence,
-            kind: join(alloc, &slot.kind, &kind)?,
-        }),
-        None => Ok(Slot {
-            presence: Presence::Maybe,
-            kind,
-        }),
-    }
 }
 
 fn certain(kind: Kind) -> Slot<Kind>

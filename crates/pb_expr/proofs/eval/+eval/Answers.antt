@@ -75,22 +75,22 @@ eval-returns-in_ok-whole-in-In g t c =
     (c.in_ok-part-in-In.ensures ∙ ap (λ e. shown (eval w (expr_view e))) c.deref-in-In.ensures)
     (c.in_ok-whole-in-In.ensures ∙ ap (λ e. shown (eval w (expr_view e))) c.deref-in-In-2.ensures))
 
-pub list_of-returns-then-is_opaque : goal.list_of-returns-then-is_opaque
-list_of-returns-then-is_opaque g t c =
+pub list_of-returns-in-None : goal.list_of-returns-in-None
+list_of-returns-in-None g t c =
     let w = g.V.Vars.world c.args.vars.now in
     view-Opaque
     ∙ sym (ap (λ xs. shown (eval_items w (exprs_view xs))) (sym c.deref-item-items.ensures.value) ∙ ap shown c.loop-item.invariant
-    ∙ list-spoilt w c.deref-item-items.result.now c.loop-item.values.items c.loop-item.item-index c.item-item.result c.in_ok-found.found c.is_opaque.result
-    c.loop-item-test.true c.item-item.is c.in_ok-found.ensures c.is_opaque.ensures c.if-is_opaque.true)
+    ∙ list-spoilt w c.deref-item-items.result.now c.loop-item.values.items c.loop-item.item-index c.item-item.result c.in_ok-found.found
+    c.loop-item-test.true c.item-item.is c.in_ok-found.ensures c.in-None.ensures)
 
 pub list_of-loop-item-preserved : goal.list_of-loop-item-preserved
 list_of-loop-item-preserved g t c =
     let w = g.V.Vars.world c.args.vars.now in
     let items = c.deref-item-items.result.now in
     c.loop-item.invariant
-    ∙ list-turn w items c.loop-item.values.items c.loop-item.item-index c.item-item.result c.in_ok-found.found c.is_opaque.result
-    c.loop-item-test.true c.item-item.is c.in_ok-found.ensures c.is_opaque.ensures c.if-is_opaque.false
-    ∙ ap (λ vs. after_items (items_view vs) (eval_items w (exprs_view (drop (c.loop-item.item-index + 1) items)))) (sym c.in_ok-push.ensures.items)
+    ∙ list-turn w items c.loop-item.values.items c.loop-item.item-index c.item-item.result c.in-Some.found
+    c.loop-item-test.true c.item-item.is (c.in-Some.ensures.0 ∙ c.in_ok-found.ensures) c.in-Some.ensures.1
+    ∙ ap (λ vs. after_items (items_view vs) (eval_items w (exprs_view (drop (c.loop-item.item-index + 1) items)))) (sym c.in_ok-push-in-Some.ensures.items)
 
 pub list_of-returns : goal.list_of-returns
 list_of-returns g t c =
@@ -99,14 +99,14 @@ list_of-returns g t c =
     ∙ sym (ap (λ xs. shown (eval_items w (exprs_view xs))) (sym c.deref-item-items.ensures.value) ∙ ap shown c.loop-item.invariant
     ∙ list-done w c.deref-item-items.result.now c.loop-item.values.items c.loop-item.item-index c.loop-item-test.false)
 
-pub record_of-returns-then-is_opaque : goal.record_of-returns-then-is_opaque
-record_of-returns-then-is_opaque g t c =
+pub record_of-returns-in-None-readable : goal.record_of-returns-in-None-readable
+record_of-returns-in-None-readable g t c =
     let w = g.V.Vars.world c.args.vars.now in
     let e : String Global × Expr = (c.in-Some.name.now, c.in-Some.field.now) in
     let fs = fields_view c.loop-name.values.entries in
     view-Opaque
     ∙ sym (ap shown (c.loop-name.invariant.3 ∙ ap (λ xs. after_fields fs (eval_parts w (parts_view xs))) c.in-Some.ensures.steps)
-    ∙ record-spoilt w fs e c.next.new.self c.in_ok-found.found c.is_opaque.result c.in_ok-found.ensures c.is_opaque.ensures c.if-is_opaque.true)
+    ∙ record-spoilt w fs e c.next.new.self c.in_ok-found.found c.in_ok-found.ensures c.in-None-readable.ensures)
 
 pub record_of-loop-name-preserved : goal.record_of-loop-name-preserved
 record_of-loop-name-preserved g t c =
@@ -118,14 +118,14 @@ record_of-loop-name-preserved g t c =
     let fs = fields_view c.loop-name.values.entries in
     let all : c.args.fields.now.entries ≡ done ++ e ∷ left = inv.1 ∙ ap (λ es. done ++ es) c.in-Some.ensures.steps in
     let last = put_last (λ x. shown (eval w (expr_view x))) done e left (subst (λ es. IsStrictlySortedBy string_cmp (keys_of es)) all c.iter-name-items.ensures.ordered) in
-    let named : string_bytes c.in_ok-clone.field-0 ≡ string_bytes e.0 = c.in_ok-clone.ensures.cases in
+    let told : view c.in-Some-readable.found ≡ shown (eval w (expr_view e.1)) = c.in-Some-readable.ensures.0 ∙ c.in_ok-found.ensures in
     let stored : fields_view c.put.new.fields.entries ≡ fields_of (map (λ m. (m.0, shown (eval w (expr_view m.1)))) (done ++ e ∷ [])) =
-    c.in_ok-put.ensures ∙ rw (named, c.in_ok-found.ensures, inv.2) last in (
+    c.in_ok-put-in-Some-readable.ensures ∙ rw (told, inv.2) last in (
       done ++ e ∷ [],
       all ∙ sym (append_assoc done (e ∷ []) left),
       stored,
       inv.3 ∙ ap (λ xs. after_fields fs (eval_parts w (parts_view xs))) c.in-Some.ensures.steps
-          ∙ record-turn w fs e left c.in_ok-found.found c.is_opaque.result c.in_ok-found.ensures c.is_opaque.ensures c.if-is_opaque.false
+          ∙ record-turn w fs e left c.in-Some-readable.found told c.in-Some-readable.ensures.1
           ∙ ap (λ x. after_fields x (eval_parts w (parts_view left)))
           (ap (λ x. append_fields x (field (string_bytes e.0) (shown (eval w (expr_view e.1))) no_fields)) inv.2 ∙ fields-last (λ x. shown (eval w (expr_view x))) done e ∙ sym stored),
     )

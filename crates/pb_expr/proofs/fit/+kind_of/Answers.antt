@@ -73,11 +73,10 @@ record_kind-loop-name-preserved t c =
     let kinds = slots_view c.loop-name.kinds.entries in
     let f = λ (x : Expr). kind_of s (expr_view x) in
     let all : c.args.fields.now.entries ≡ done ++ e ∷ left = inv.1 ∙ ap (λ es. done ++ es) c.in-Some.ensures.steps in
-    let last = put_slot-last f done e left (subst (λ es. Ascending es) all c.iter-name-items.ensures.ordered) in
-    let named : string_bytes c.in_ok-clone.field-0 ≡ string_bytes e.0 = c.in_ok-clone.ensures.cases in (
+    let last = put_slot-last f done e left (subst (λ es. Ascending es) all c.iter-name-items.ensures.ordered) in (
       done ++ e ∷ [],
       all ∙ sym (append_assoc done (e ∷ []) left),
-      c.in_ok-put.ensures ∙ ap (λ n. put_slot n true (kind_view c.in_ok-kind.kind) kinds) named
+      c.in_ok-put.ensures
           ∙ ap (λ k. put_slot (string_bytes e.0) true k kinds) c.in_ok-kind.ensures.1 ∙ ap (put_slot (string_bytes e.0) true (f e.1)) inv.2 ∙ last,
       inv.3 ∙ ap (λ es. fields_fault s (parts_view es)) c.in-Some.ensures.steps ∙ ap (λ x. first x (fields_fault s (parts_view left))) c.in_ok-kind.ensures.0,
     )

@@ -1,4 +1,4 @@
-use Rattle.std.proofs.Common.{◌≡◌, [], ◌∷◌, ◌++◌, drop, String, Global, string_bytes, sym, ap, ◌∙◌, subst, append_assoc, arith}
+use Rattle.std.proofs.Common.{◌≡◌, [], ◌∷◌, ◌++◌, drop, String, Global, sym, ap, ◌∙◌, subst, append_assoc, arith}
 use Rattle.std.proofs.lemmas.List.{append-nil}
 use Rattle.pb_semantics.specs.Data.{count_of}
 use Rattle.pb_semantics.specs.Kind.{lists, recs}
@@ -19,11 +19,10 @@ literal_fields-loop-name-preserved t c =
     let e : String Global × Value = (c.in-Some.name.now, c.in-Some.field.now) in
     let left = c.next.new.self in
     let all : c.args.fields.now.entries ≡ done ++ e ∷ left = inv.1 ∙ ap (λ es. done ++ es) c.in-Some.ensures.steps in
-    let last = put_slot-last (λ v. known_kind (view v)) done e left (subst (λ es. Ascending es) all c.iter-name-items.ensures.ordered) in
-    let named : string_bytes c.in_ok-clone.field-0 ≡ string_bytes e.0 = c.in_ok-clone.ensures.cases in (
+    let last = put_slot-last (λ v. known_kind (view v)) done e left (subst (λ es. Ascending es) all c.iter-name-items.ensures.ordered) in (
       done ++ e ∷ [],
       all ∙ sym (append_assoc done (e ∷ []) left),
-      c.in_ok-put.ensures ∙ rw (named, c.in_ok-kind.ensures, inv.2) last,
+      c.in_ok-put.ensures ∙ rw (c.in_ok-kind.ensures, inv.2) last,
     )
 
 pub literal_fields-returns : goal.literal_fields-returns

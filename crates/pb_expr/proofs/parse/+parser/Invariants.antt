@@ -1,6 +1,6 @@
-use Rattle.pb_expr.specs.Place.{least_width}
 use Rattle.pb_expr.specs.ExprView.{exprs_view}
-use Rattle.pb_expr.specs.Letters.{IsLettered, tokens_at}
+use Rattle.pb_expr.specs.Letters.{tokens_at}
+use Rattle.pb_expr.specs.Reads.{IsToken}
 use Rattle.pb_expr.specs.declared.lexer.Sort.TheVariants as sort
 use Rattle.pb_language.specs.Grammar.{conjunction_of, deeper, negation_of}
 use Rattle.pb_language.specs.Tokens.{and_word, or_word}
@@ -31,13 +31,13 @@ abbrev pub decreases-or_at : goal.decreases-or_at
 decreases-or_at l = 8 * l.depth + 7
 
 abbrev pub invariant-and_at-operands : goal.invariant-and_at-operands
-invariant-and_at-operands l = record { simple : are_simple (exprs_view l.operands.items) ≡ true; begins : l.fn.token.start < l.after.start; ends : l.after.end ≤ length l.text; wide : l.after.start + least_width l.after.sort ≤ l.after.end; lettered : IsLettered l.text l.after; one : 1 ≤ length l.operands.items; many : (l.after.sort ≡ sort.And → ⊥) → 2 ≤ length l.operands.items; chain : Begun and_word (negation_of (deeper l.depth)) (tokens_at l.text l.fn.token) (exprs_view l.operands.items) (tokens_at l.text l.after) }
+invariant-and_at-operands l = record { simple : are_simple (exprs_view l.operands.items) ≡ true; begins : l.fn.token.start < l.after.start; next : IsToken l.text l.after; one : 1 ≤ length l.operands.items; many : (l.after.sort ≡ sort.And → ⊥) → 2 ≤ length l.operands.items; chain : Begun and_word (negation_of (deeper l.depth)) (tokens_at l.text l.fn.token) (exprs_view l.operands.items) (tokens_at l.text l.after) }
 
 abbrev pub decreases-and_at-operands : goal.decreases-and_at-operands
 decreases-and_at-operands l = length l.text - l.after.start
 
 abbrev pub invariant-or_at-operands : goal.invariant-or_at-operands
-invariant-or_at-operands l = record { simple : are_simple (exprs_view l.operands.items) ≡ true; begins : l.fn.token.start < l.after.start; ends : l.after.end ≤ length l.text; wide : l.after.start + least_width l.after.sort ≤ l.after.end; lettered : IsLettered l.text l.after; one : 1 ≤ length l.operands.items; many : (l.after.sort ≡ sort.Or → ⊥) → 2 ≤ length l.operands.items; chain : Begun or_word (conjunction_of (deeper l.depth)) (tokens_at l.text l.fn.token) (exprs_view l.operands.items) (tokens_at l.text l.after) }
+invariant-or_at-operands l = record { simple : are_simple (exprs_view l.operands.items) ≡ true; begins : l.fn.token.start < l.after.start; next : IsToken l.text l.after; one : 1 ≤ length l.operands.items; many : (l.after.sort ≡ sort.Or → ⊥) → 2 ≤ length l.operands.items; chain : Begun or_word (conjunction_of (deeper l.depth)) (tokens_at l.text l.fn.token) (exprs_view l.operands.items) (tokens_at l.text l.after) }
 
 abbrev pub decreases-or_at-operands : goal.decreases-or_at-operands
 decreases-or_at-operands l = length l.text - l.after.start

@@ -1,4 +1,4 @@
-use Rattle.std.proofs.Common.{Some, refl, sym, ap, ◌∙◌, subst}
+use Rattle.std.proofs.Common.{Some, length, refl, sym, ap, ◌∙◌, subst, arith}
 use Rattle.pb_semantics.specs.Data.{text}
 use Rattle.pb_language.specs.Expression.{literal}
 use Rattle.pb_language.specs.Grammar.{template_of}
@@ -22,6 +22,9 @@ pub returns-in_default-closing_of-clause-tree : goal.returns-in_default-closing_
 returns-in_default-closing_of-clause-tree c =
     ap template_of (sym c.as_bytes-bytes.ensures.value)
     ∙ template-unclosed c.as_bytes-bytes.result.now c.in-Some.at (sym c.in-Some.ensures.place) c.if-bytes-at-ne123.false (c.in_default-closing_of.ensures.none refl)
+
+pub returns-in_default-closing_of-clause-place : goal.returns-in_default-closing_of-clause-place
+returns-in_default-closing_of-clause-place c = omega (arith, ap length c.as_bytes-bytes.ensures.value)
 
 pub returns-then-at-ne0-clause-tree : goal.returns-then-at-ne0-clause-tree
 returns-then-at-ne0-clause-tree c =

@@ -2,36 +2,41 @@ use Rattle.std.proofs.Common.{◌-◌, sym, ap, ◌∙◌, rules, arith, vec_len
 use Rattle.pb_language.specs.Grammar.{steps_of}
 use Rattle.pb_expr.specs.ExprView.{names_of}
 use Rattle.pb_expr.specs.Letters.{tokens_at}
-use Rattle.pb_expr.proofs.Refusals.{refuses-none, passed-on}
+use Rattle.pb_expr.proofs.Refusals.{refuses-none, passed-refused}
 use Rattle.pb_expr.proofs.Steps.{with_steps, steps-unread, steps-stray, steps-many, steps-next, steps-cut, steps-done}
 use Rattle.pb_expr.proofs.parse.steps_at.Goals as goal
 
 pub returns-in_err-name-clause-refused : goal.returns-in_err-name-clause-refused
 returns-in_err-name-clause-refused c =
-    passed-on _ c.in_err-name.field-0.0 _ c.from_residual.ensures.1
-    (refuses-none _ _ (steps-unread c.args.text.now _ (names_of c.steps.steps.items) (16 - vec_len c.steps.steps) c.steps.after c.steps.invariant.left (search rules) c.in_err-name.ensures.refused))
+    passed-refused c.args.text.now _ c.in_err-name.field-0.0 _ c.from_residual.ensures.1
+    (record { place = c.in_err-name.ensures.place; refused = refuses-none _ _ (steps-unread c.args.text.now _ (names_of c.steps.steps.items) (16 - vec_len c.steps.steps) c.steps.after c.steps.invariant.left (search rules) c.in_err-name.ensures.refused) })
 
 pub returns-then-not-is_step-clause-refused : goal.returns-then-not-is_step-clause-refused
-returns-then-not-is_step-clause-refused c =
-    steps-stray c.args.text.now _ (names_of c.steps.steps.items) (16 - vec_len c.steps.steps) c.steps.after c.in_ok-name.name c.steps.invariant.left (search rules) c.in_ok-name.ensures.read (sym c.if-not-is_step.ensures)
+returns-then-not-is_step-clause-refused c = record {
+  place = search rules;
+  refused = steps-stray c.args.text.now _ (names_of c.steps.steps.items) (16 - vec_len c.steps.steps) c.steps.after c.in_ok-name.name c.steps.invariant.left (search rules) c.in_ok-name.ensures.read (sym c.if-not-is_step.ensures);
+}
 
 pub returns-then-len-ge-STEPS-clause-refused : goal.returns-then-len-ge-STEPS-clause-refused
-returns-then-len-ge-STEPS-clause-refused c =
-    steps-many c.args.text.now _ (names_of c.steps.steps.items) (16 - vec_len c.steps.steps) c.steps.after c.steps.invariant.left (search rules) (omega (arith, c.len.ensures, c.if-len-ge-STEPS.true))
+returns-then-len-ge-STEPS-clause-refused c = record {
+  place = search rules;
+  refused = steps-many c.args.text.now _ (names_of c.steps.steps.items) (16 - vec_len c.steps.steps) c.steps.after c.steps.invariant.left (search rules) (omega (arith, c.len.ensures, c.if-len-ge-STEPS.true));
+}
 
 pub returns-in_err-after-clause-refused : goal.returns-in_err-after-clause-refused
 returns-in_err-after-clause-refused c =
-    passed-on _ c.in_err-after.field-0.0 _ c.from_residual-in_err-after.ensures.1
-    (refuses-none _ _ (steps-cut c.args.text.now _ (names_of c.steps.steps.items) (16 - vec_len c.steps.steps) (15 - vec_len c.steps.steps) c.steps.after c.in_ok-name.name c.steps.invariant.left (search rules)
-    (omega (arith, c.len.ensures, c.if-len-ge-STEPS.false)) c.in_ok-name.ensures.read (sym c.if-not-is_step.ensures) c.in_err-after.ensures.refused))
+    passed-refused c.args.text.now _ c.in_err-after.field-0.0 _ c.from_residual-in_err-after.ensures.1
+    (record {
+      place = c.in_err-after.ensures.place;
+      refused = refuses-none _ _ (steps-cut c.args.text.now _ (names_of c.steps.steps.items) (16 - vec_len c.steps.steps) (15 - vec_len c.steps.steps) c.steps.after c.in_ok-name.name c.steps.invariant.left (search rules)
+          (omega (arith, c.len.ensures, c.if-len-ge-STEPS.false)) c.in_ok-name.ensures.read (sym c.if-not-is_step.ensures) c.in_err-after.ensures.refused);
+    })
 
 pub steps-preserved : goal.steps-preserved
 steps-preserved c = record {
   short = search rules;
   begins = search rules;
-  ends = search rules;
-  wide = search rules;
-  lettered = c.in_ok-after.ensures.lettered;
+  next = record { wide = c.in_ok-after.ensures.wide; within = c.in_ok-after.ensures.ends; lettered = c.in_ok-after.ensures.lettered };
   left =
       steps-next c.args.text.now _ c.steps.steps.items (16 - vec_len c.steps.steps) (16 - vec_len c.push.new.self) c.steps.after c.in_ok-name.name c.in_ok-after.after c.in_ok-name_of.field-0
       c.steps.invariant.left (search rules) (omega (arith, c.len.ensures, c.if-len-ge-STEPS.false, c.in_ok-push.ensures.len)) c.in_ok-name.ensures.read (sym c.if-not-is_step.ensures) c.in_ok-name_of.ensures.named c.in_ok-after.ensures.read

@@ -30,7 +30,7 @@ returns-then-is_opaque c =
     view-Opaque
     ∙ sym (ap (λ ps. shown (eval_parts w ps)) (sym (parts_of-arguments c.args.arguments.now.items)) ∙ ap (λ es. shown (eval_parts w (parts_view es))) (sym all)
     ∙ ap shown (c.loop-argument.invariant.3 ∙ ap (λ es. after_fields fs (eval_parts w (parts_view es))) here)
-    ∙ record-spoilt w fs e left c.in_ok-value.value c.is_opaque.result c.in_ok-value.ensures c.is_opaque.ensures c.if-is_opaque.true)
+    ∙ record-spoilt w fs e left c.in_ok-value.value c.in_ok-value.ensures (sym c.is_opaque.ensures ∙ c.if-is_opaque.true))
 
 pub loop-argument-preserved : goal.loop-argument-preserved
 loop-argument-preserved c =
@@ -53,7 +53,7 @@ loop-argument-preserved c =
       all ∙ sym (append_assoc done (e ∷ []) left),
       stored,
       inv.3 ∙ ap (λ es. after_fields fs (eval_parts w (parts_view es))) here
-          ∙ record-turn w fs e left c.in_ok-value.value c.is_opaque.result c.in_ok-value.ensures c.is_opaque.ensures c.if-is_opaque.false
+          ∙ record-turn w fs e left c.in_ok-value.value c.in_ok-value.ensures (sym c.is_opaque.ensures ∙ c.if-is_opaque.false)
           ∙ ap (λ x. after_fields x (eval_parts w (parts_view left)))
           (ap (λ x. append_fields x (field (string_bytes e.0) (shown (eval w (expr_view e.1))) no_fields)) inv.2 ∙ fields-last (λ x. shown (eval w (expr_view x))) done e ∙ sym stored),
     )

@@ -1,37 +1,38 @@
-use Rattle.std.proofs.Common.{◌≡◌, List, [], BTreeMap, BTreeSet, Vec, String, Global, map, string_bytes, refl, sym, ap, ap₂, ◌∙◌}
-use Rattle.pb_semantics.specs.Kind.{hosts, recs, results}
-use Rattle.pb_value.specs.KindView.{kind_view, slots_view, cases_view}
+use Rattle.std.proofs.Common.{◌≡◌, List, [], BTreeMap, String, Global, sym, ap, ◌∙◌}
+use Rattle.pb_semantics.specs.Kind.{recs}
+use Rattle.pb_value.specs.KindView.{slots_view}
 use Rattle.pb_value.specs.declared.kind.Kind.{Kind}
 use Rattle.pb_value.specs.declared.kind.Slot.{Slot}
-use Rattle.pb_value.specs.declared.kind.Case.{Case}
 use Rattle.pb_value.proofs.Views.{kind_view-Rec, kind_view-Result}
 use Rattle.pb_value.proofs.KindLemmas.{SlotEntry, kind_view-Host, kind_view-Never}
 use Rattle.pb_value.proofs.JoinLemmas.{built, built_joined}
 use Rattle.pb_value.proofs.join.+join.Goals as goal
 
-pub join-returns-in_ok-new-in-Host-Host : goal.join-returns-in_ok-new-in-Host-Host
-join-returns-in_ok-new-in-Host-Host t c =
+pub join-returns-in-Host-Host : goal.join-returns-in-Host-Host
+join-returns-in-Host-Host t c =
     let p = c.in-Host-Host in
-    kind_view-Host c.in_ok-new-in-Host-Host.field-0
-    ∙ ap (λ (s : BTreeSet (String Global)). hosts (map (λ n. string_bytes n) s.keys)) c.in_ok-new-in-Host-Host.ensures.ok
-    ∙ ap hosts c.in_ok-names-in-Host-Host.ensures
-    ∙ rw (p.is-0, p.is-1, kind_view-Host p.few, kind_view-Host p.more, c.deref.ensures, c.deref-in-Host-Host.ensures) refl
+    rw (p.is-0, p.is-1, kind_view-Host p.few, kind_view-Host p.more, ← c.deref.ensures, ← c.deref-in-Host-Host.ensures) c.join_hosts.ensures
 
 pub join-returns-in-Rec-Rec : goal.join-returns-in-Rec-Rec
 join-returns-in-Rec-Rec t c =
     let p = c.in-Rec-Rec in
     rw (p.is-0, p.is-1, kind_view-Rec p.slots, kind_view-Rec p.others, ← c.deref-in-Rec-Rec.ensures, ← c.deref-in-Rec-Rec-2.ensures) c.join_records.ensures
 
-pub join-returns-in_ok-new-in-Result-Result-2 : goal.join-returns-in_ok-new-in-Result-Result-2
-join-returns-in_ok-new-in-Result-Result-2 t c =
+pub join-returns-in_ok-record-in-Result-Result : goal.join-returns-in_ok-record-in-Result-Result
+join-returns-in_ok-record-in-Result-Result t c =
     let p = c.in-Result-Result in
-    let cases = c.in_ok-new-in-Result-Result.field-0 in
-    let record_ = c.in_ok-new-in-Result-Result-2.field-0 in
-    kind_view-Result cases record_
-    ∙ ap (λ (v : Vec (Case Kind) Global). results (cases_view v.items) (kind_view record_.value)) c.in_ok-new-in-Result-Result.ensures.ok
-    ∙ ap (λ (k : Kind). results (cases_view c.in_ok-cases-in-Result-Result.cases.items) (kind_view k)) c.in_ok-new-in-Result-Result-2.ensures.ok
-    ∙ ap₂ results c.in_ok-cases-in-Result-Result.ensures c.in_ok-record-in-Result-Result.ensures
-    ∙ rw (p.is-0, p.is-1, kind_view-Result p.cases p.record, kind_view-Result p.others p.other, c.deref-in-Result-Result.ensures, c.deref-in-Result-Result-2.ensures, c.deref-in-Result-Result-3.ensures, c.deref-in-Result-Result-4.ensures) refl
+    rw (
+      p.is-0,
+      p.is-1,
+      kind_view-Result p.cases p.record,
+      kind_view-Result p.others p.other,
+      ← c.deref-in-Result-Result.ensures,
+      ← c.deref-in-Result-Result-2.ensures,
+      ← c.deref-in-Result-Result-3.ensures,
+      ← c.deref-in-Result-Result-4.ensures,
+      ← c.in_ok-cases-in-Result-Result.ensures,
+      ← c.in_ok-record-in-Result-Result.ensures,
+    ) c.result_of.ensures
 
 pub join_records-returns : goal.join_records-returns
 join_records-returns t c =

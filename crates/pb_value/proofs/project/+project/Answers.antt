@@ -1,4 +1,4 @@
-use Rattle.std.proofs.Common.{◌≡◌, ◌≤◌, ◌<◌, [], ◌∷◌, ◌++◌, ◌+◌, length, drop, map, true, false, Some, None, string_bytes, refl, sym, ap, ◌∙◌, subst, append_assoc, arith}
+use Rattle.std.proofs.Common.{not, ◌≡◌, ◌≤◌, ◌<◌, [], ◌∷◌, ◌++◌, ◌+◌, length, drop, map, true, false, Some, None, string_bytes, refl, sym, ap, ◌∙◌, subst, append_assoc, arith}
 use Rattle.std.proofs.lemmas.Grind.{common_steps}
 use Rattle.std.specs.List.Sorted.{IsStrictlySortedBy}
 use Rattle.std.specs.Map.{keys_of}
@@ -8,7 +8,6 @@ use Rattle.pb_semantics.specs.Keeps.{is_among}
 use Rattle.pb_semantics.specs.Project.{projected, projected_items, projected_fields, with_field}
 use Rattle.pb_value.specs.KindView.{kind_view, slots_view, is_always}
 use Rattle.pb_value.specs.View.{view, items_view, fields_view}
-use Rattle.pb_value.proofs.Fields.{fields_view-insert_entry}
 use Rattle.pb_value.proofs.KindLemmas.{SlotEntry}
 use Rattle.pb_value.proofs.Views.{view-List, view-Rec, view-Text, kind_view-List, kind_view-Rec}
 use Rattle.pb_value.proofs.KindLemmas.{kind_view-Host}
@@ -21,8 +20,8 @@ project_fields-loop-name-init t c =
     let same : c.into_iter-name-iterator.result ≡ c.args.slots.now.entries = c.into_iter-name-iterator.ensures.into_iter_gives ∙ c.iter-name-items.ensures.rest in
     ([], sym same, (λ e more h. rw c.new-found.ensures.empty tt), rw (c.new-found.ensures.empty, same) (sym (and_fields-nothing _)))
 
-pub project_fields-loop-name-preserved-in-Some-2 : goal.project_fields-loop-name-preserved-in-Some-2
-project_fields-loop-name-preserved-in-Some-2 t c =
+pub project_fields-loop-name-preserved-in-Continue-branch-3 : goal.project_fields-loop-name-preserved-in-Continue-branch-3
+project_fields-loop-name-preserved-in-Continue-branch-3 t c =
     let l = c.loop-name.invariant in
     let done = l.0 in
     let fs = fields_view c.args.fields.now.entries in
@@ -36,9 +35,7 @@ project_fields-loop-name-preserved-in-Some-2 t c =
     let above : IsAbove n so_far = l.2 e left step in
     let there = rw c.as_str.ensures.value at c.in-Some-field_at.ensures in
     let fit = rw c.in-Some-2.is at c.in_ok-value-in-Some-field_at.ensures in
-    let named : string_bytes c.in_ok-clone-in-Some-2.field-0 ≡ n = c.in_ok-clone-in-Some-2.ensures.cases in
-    let put : fields_view c.insert.new.self.entries ≡ append_fields so_far (field n v no_fields) =
-    ap fields_view c.in_ok-insert-in-Some-2.ensures.entries ∙ fields_view-insert_entry c.loop-name.found.entries c.in_ok-clone-in-Some-2.field-0 c.in-Some-2.value ∙ rw named (put_field-above n v so_far above) in
+    let put : fields_view c.put.new.fields.entries ≡ append_fields so_far (field n v no_fields) = c.in_ok-put-in-Some-2.ensures ∙ put_field-above n v so_far above in
     let rest = projected_fields fs (slots_view left) in (
       done ++ e ∷ [],
       all ∙ sym (append_assoc done (e ∷ []) left),
@@ -68,7 +65,7 @@ project_fields-loop-name-preserved t c =
       (λ f more h. IsAbove-further (string_bytes f.0) n so_far (neighbours done e f more
           (subst (λ es. IsStrictlySortedBy string_cmp (keys_of es)) (all ∙ ap (λ es. done ++ e ∷ es) h) c.iter-name-items.ensures.ordered)) above),
       l.3 ∙ ap (λ es. and_fields so_far (projected_fields fs (slots_view es))) step ∙ ap (and_fields so_far) (projected_fields-missing fs e left (sym lacks))
-          ∙ ap (λ p. and_fields so_far (with_field n (is_always p) None rest)) c.in-Maybe.is,
+          ∙ ap (λ b. and_fields so_far (with_field n b None rest)) (c.may_lack.ensures ∙ ap not c.if-not-may_lack.false),
     )
 
 pub project_fields-returns : goal.project_fields-returns
@@ -106,25 +103,19 @@ project_onto-returns-then-len-most t c =
     let above : p.most < length p.items.value.items = omega (arith, size, c.if-len-most.true) in
     sym (rw (p.is-0, p.is-1, view-List, kind_view-List, projected-long p.items.value.items (kind_view p.item.value) p.most above) refl)
 
-pub project_onto-returns-in_ok-of_items-in-Some : goal.project_onto-returns-in_ok-of_items-in-Some
-project_onto-returns-in_ok-of_items-in-Some t c =
+pub project_onto-returns-in_ok-kept-in-List-List : goal.project_onto-returns-in_ok-kept-in-List-List
+project_onto-returns-in_ok-kept-in-List-List t c =
     let p = c.in-List-List in
     let size : c.len.result ≡ length p.items.value.items = omega (arith, ap length (ap (λ v. v.items) c.deref-in-List-List.ensures), c.len.ensures) in
     let at_most : length p.items.value.items ≤ p.most = omega (arith, size, c.if-len-most.false) in
-    let each = rw (c.in-Some.is, c.deref-in-List-List-2.ensures, c.deref-in-List-List-3.ensures) at c.in_ok-items-in-List-List.ensures in
-    sym (rw (p.is-0, p.is-1, view-List, kind_view-List, projected-short p.items.value.items (kind_view p.item.value) p.most at_most, ← each, c.in_ok-of_items-in-Some.ensures) refl)
+    let each = rw (c.deref-in-List-List-2.ensures, c.deref-in-List-List-3.ensures) at c.in_ok-kept-in-List-List.ensures in
+    rw (p.is-0, p.is-1, view-List, kind_view-List, projected-short p.items.value.items (kind_view p.item.value) p.most at_most, ← each) c.list_of.ensures
 
-pub project_onto-returns-in_ok-of_fields-in-Some-2 : goal.project_onto-returns-in_ok-of_fields-in-Some-2
-project_onto-returns-in_ok-of_fields-in-Some-2 t c =
+pub project_onto-returns-in_ok-kept-in-Rec-Rec : goal.project_onto-returns-in_ok-kept-in-Rec-Rec
+project_onto-returns-in_ok-kept-in-Rec-Rec t c =
     let p = c.in-Rec-Rec in
-    let all = rw (c.in-Some-2.is, c.deref-in-Rec-Rec.ensures, c.deref-in-Rec-Rec-2.ensures) at c.in_ok-fields-in-Rec-Rec.ensures in
-    sym (rw (p.is-0, p.is-1, view-Rec, kind_view-Rec, ← all, c.in_ok-of_fields-in-Some-2.ensures) refl)
-
-pub project_onto-returns-in-None-2 : goal.project_onto-returns-in-None-2
-project_onto-returns-in-None-2 t c =
-    let p = c.in-Rec-Rec in
-    let all = rw (c.in-None-2.is, c.deref-in-Rec-Rec.ensures, c.deref-in-Rec-Rec-2.ensures) at c.in_ok-fields-in-Rec-Rec.ensures in
-    sym (rw (p.is-0, p.is-1, view-Rec, kind_view-Rec, ← all) refl)
+    let all = rw (c.deref-in-Rec-Rec.ensures, c.deref-in-Rec-Rec-2.ensures) at c.in_ok-kept-in-Rec-Rec.ensures in
+    rw (p.is-0, p.is-1, view-Rec, kind_view-Rec, ← all) c.record_of.ensures
 
 pub project_onto-returns-in_ok-clone-in-Host-Text : goal.project_onto-returns-in_ok-clone-in-Host-Text
 project_onto-returns-in_ok-clone-in-Host-Text t c =

@@ -1,16 +1,35 @@
-use Rattle.std.proofs.Common.{subst, string_bytes}
+use Rattle.std.proofs.Common.{◌≡◌, ap, ◌∙◌, subst, option_map, string_bytes}
+use Rattle.std.proofs.lemmas.Result.{IfOk-weaker}
+use Rattle.pb_language.proofs.PlainFlow.{plain_writes}
+use Rattle.pb_language.proofs.PlainPass.{plain_rules, plain_flow}
+use Rattle.pb_language.proofs.PlainTables.{Joins}
 use Rattle.pb_semantics.specs.Kind.{no_slots}
 use Rattle.pb_value.specs.KindView.{slots_view}
+use Rattle.pb_sig.specs.Modules.{modules_of}
 use Rattle.pb_inventory.specs.Inventory.{inventory_view}
-use Rattle.pb_verify.specs.Way.{Stands}
+use Rattle.pb_book.specs.Meaning.{plain_tasks}
+use Rattle.pb_verify.specs.Meaning.{refusal_of, or_later}
 use Rattle.pb_verify.proofs.Lone.{first_is, one_group}
 use Rattle.pb_verify.proofs.verify.first_refusal.Goals as goal
 
-pub returns-in-None-clause-known : goal.returns-in-None-clause-known
-returns-in-None-clause-known c h e n =
+pub returns-clause-refusal : goal.returns-clause-refusal
+returns-clause-refusal c =
     let v = inventory_view c.args.inventory.now in
-    let lone = c.args.inventory.now.lone in
-    let stands : Stands h (slots_view c.in_ok-environment.environment.entries) no_slots =
-    subst (λ x. Stands x (slots_view c.in_ok-environment.environment.entries) no_slots) (first_is v lone h c.host_name-name.result.now e c.host_name-name.ensures)
-    (c.in_ok-environment.ensures (one_group (λ n. string_bytes n.value) v lone c.group_names.result.now c.group_names.ensures)) in
-    c.in_ok-followed.ensures.known h stands c.in-None.is
+    let ms = modules_of c.args.registry.now in
+    let ts = plain_tasks c.args.tasks.now in
+    let name = c.host_name-name.result.now in
+    let stands = c.in_ok-environment.ensures (one_group (λ n. string_bytes n.value) v c.args.inventory.now.lone c.group_names.result.now c.group_names.ensures) in
+    let ruled = ap (λ o. or_later o (plain_flow ms name 0 no_slots ts)) c.in_default.ensures in
+    IfOk-weaker c.way_of.result _ _ (λ w found h e.
+    subst (λ x. option_map refusal_of w.refusal ≡ or_later (plain_rules ms ts) (plain_flow ms x 0 no_slots ts))
+    (first_is v c.args.inventory.now.lone h name e c.host_name-name.ensures) (found stands ∙ ruled))
+    c.way_of.ensures.refusal
+
+pub returns-clause-known : goal.returns-clause-known
+returns-clause-known c =
+    let v = inventory_view c.args.inventory.now in
+    let stands = c.in_ok-environment.ensures (one_group (λ n. string_bytes n.value) v c.args.inventory.now.lone c.group_names.result.now c.group_names.ensures) in
+    IfOk-weaker c.way_of.result _ _ (λ w found h e n.
+    subst (λ x. Joins (plain_writes (modules_of c.args.registry.now) x 0 no_slots (plain_tasks c.args.tasks.now)) (slots_view w.known.entries))
+    (first_is v c.args.inventory.now.lone h c.host_name-name.result.now e c.host_name-name.ensures) (found stands n))
+    c.way_of.ensures.known

@@ -1,16 +1,14 @@
-use Rattle.std.proofs.Common.{◌≡◌, ◌+◌, ◌∷◌, not, Some, drop, refl, sym, ap, ◌∙◌, subst}
+use Rattle.std.proofs.Common.{◌≡◌, ◌+◌, ◌∷◌, Some, drop, refl, sym, ap, ◌∙◌, subst}
 use Rattle.std.proofs.lemmas.List.{drop_all}
 use Rattle.pb_semantics.specs.Kind.{no_slots}
-use Rattle.pb_language.specs.Cases.{is_conditional}
-use Rattle.pb_language.specs.Expression.{no_parts}
 use Rattle.pb_value.specs.KindView.{slots_view}
-use Rattle.pb_expr.specs.FitView.{own_scope, fault_view, Fails}
+use Rattle.pb_expr.specs.FitView.{fault_view, Fails}
 use Rattle.pb_expr.proofs.Turns.{drop-at}
 use Rattle.pb_sig.specs.Modules.{modules_of}
-use Rattle.pb_book.specs.Meaning.{argument_parts, plain_task, plain_tasks, work_of}
+use Rattle.pb_book.specs.Meaning.{argument_parts, plain_task, plain_tasks}
 use Rattle.pb_verify.specs.Faults.{fault_refusal}
-use Rattle.pb_verify.specs.Way.{own_fault, own_sets, registered, all_set, work_result, written_result, register_joined, all_joined}
-use Rattle.pb_verify.proofs.WalkFlow.{Rest, Way, first_known, first_plain, first_free, later_rest, known_kept, same_result, same_written, way_done, way_fault, way_on}
+use Rattle.pb_verify.specs.Way.{own_fault}
+use Rattle.pb_verify.proofs.WalkFlow.{Rest, Way, first_known, first_plain, first_free, later_rest, known_kept, way_done, way_fault, way_on}
 use Rattle.pb_verify.proofs.WalkKnown.{Learned, learned_as, learned_none, learned_on, learned_all}
 use Rattle.pb_verify.proofs.walk.follow.Goals as goal
 
@@ -22,8 +20,8 @@ loop-task-init c = record {
   way = record { from = λ h s. (0, (no_slots, (s, refl))) };
 }
 
-pub task_asked-requires : goal.task_asked-requires
-task_asked-requires c =
+pub step-requires : goal.step-requires
+step-requires c =
     let ms = modules_of c.args.registry.now in
     let tasks = c.args.tasks.now in
     let i = c.loop-task.task-index in
@@ -52,30 +50,25 @@ loop-task-preserved c =
     let tasks = c.args.tasks.now in
     let i = c.loop-task.task-index in
     let t = c.task-item.result in
+    let p = plain_task t in
     let rest = drop (i + 1) tasks in
+    let all = plain_tasks tasks in
+    let later = plain_tasks rest in
     let before = slots_view c.args.opening.entries in
     let now = slots_view c.loop-task.environment.entries in
+    let written = slots_view c.loop-task.known.entries in
     let next : drop i tasks ≡ t ∷ rest = drop-at tasks i t c.loop-task-test.true c.task-item.is in
     let left = subst (Rest ms) next c.loop-task.invariant.left in
-    let known = first_known ms t rest left in
-    let way = subst (λ ts. Way ms before now (plain_tasks tasks) (plain_tasks ts)) next c.loop-task.invariant.way in
-    let p = plain_task t in
-    let q = is_conditional p.condition in
-    let known-before = slots_view c.loop-task.known.entries in
-    let kept = known_kept ms t.work (argument_parts t.arguments.items) c.args.registry.now.plain known in
-    let on = way_on ms before now (plain_tasks tasks) p (plain_tasks rest) (first_plain ms t rest left) way c.in-Ok.ensures.fault kept (first_free ms t rest left) in
-    let written = c.in_ok-write-in-Ok.ensures ms c.in_ok-results.ensures known
-    ∙ ap (λ s. all_set s (registered p.register (work_result ms q (work_of t.work no_parts)) now)) (c.in-Ok.ensures.sets (not q))
-    ∙ ap (λ k. all_set (own_sets (own_scope now) (not q) p.work) (registered p.register k now)) (same_result ms q t.work no_parts (argument_parts t.arguments.items)) in
-    let learned = subst (λ ts. Learned ms before now known-before (plain_tasks tasks) (plain_tasks ts)) next c.loop-task.invariant.learned in
-    let further = learned_on ms before now known-before (plain_tasks tasks) p (plain_tasks rest) (first_plain ms t rest left) learned kept (first_free ms t rest left) in
-    let joined = c.in_ok-learn-in-Ok.ensures ms c.in_ok-results.ensures known (not q)
-    ∙ ap (λ s. all_joined s (register_joined p.register (written_result ms q (work_of t.work no_parts)) known-before)) (c.in-Ok.ensures.sets (not q))
-    ∙ ap (λ k. all_joined (own_sets (own_scope now) (not q) p.work) (register_joined p.register k known-before)) (same_written ms q t.work no_parts (argument_parts t.arguments.items)) in
+    let plain = first_plain ms t rest left in
+    let free = first_free ms t rest left in
+    let kept = known_kept ms t.work (argument_parts t.arguments.items) c.args.registry.now.plain (first_known ms t rest left) in
+    let way = subst (λ ts. Way ms before now all (plain_tasks ts)) next c.loop-task.invariant.way in
+    let learned = subst (λ ts. Learned ms before now written all (plain_tasks ts)) next c.loop-task.invariant.learned in
+    let knows = c.in-Ok.ensures.known c.in_ok-results.ensures in
     record {
       left = later_rest ms t rest left;
-      learned = learned_as ms before _ _ _ _ (plain_tasks tasks) (plain_tasks rest) further written joined;
-      way = subst (λ ss. Way ms before ss (plain_tasks tasks) (plain_tasks rest)) (sym written) on;
+      learned = learned_as ms before _ _ _ _ all later (learned_on ms before now written all p later plain learned kept free) knows (c.in-Ok.ensures.written c.in_ok-results.ensures);
+      way = subst (λ ss. Way ms before ss all later) (sym knows) (way_on ms before now all p later plain way c.in-Ok.ensures.fault kept free);
     }
 
 pub returns-clause-fault : goal.returns-clause-fault

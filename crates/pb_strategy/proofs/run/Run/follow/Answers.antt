@@ -1,5 +1,6 @@
 use Rattle.std.proofs.Common.{refl}
 use Rattle.pb_strategy.specs.History.{is_over}
+use Rattle.pb_strategy.proofs.Histories.{stop_keeps}
 use Rattle.pb_strategy.proofs.Replays.{stop_follows, stop_possible}
 use Rattle.pb_strategy.proofs.run.Run.follow.Goals as goal
 
@@ -7,3 +8,6 @@ pub returns-in-Stop-clause-followed : goal.returns-in-Stop-clause-followed
 returns-in-Stop-clause-followed c =
     let old = c.args.self.now in
     rw c.in-Stop.is (stop_follows old c.stop.new.self (is_over old) refl (stop_possible c.self.inside c.self.invariant old c.self.view_is) c.stop.ensures.going c.stop.ensures.over)
+
+pub returns-in-Stop-clause-book : goal.returns-in-Stop-clause-book
+returns-in-Stop-clause-book c = stop_keeps c.args.self.now c.stop.new.self c.stop.ensures.going c.stop.ensures.over

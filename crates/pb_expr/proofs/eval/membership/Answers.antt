@@ -2,7 +2,7 @@ use Rattle.std.proofs.Common.{refl, ap, ◌∙◌}
 use Rattle.pb_semantics.specs.Data.{boolean}
 use Rattle.pb_value.proofs.Views.{view-Rec, view-Text}
 use Rattle.pb_expr.proofs.Exprs.{view-Bool}
-use Rattle.pb_expr.proofs.eval.membership_of.Goals as goal
+use Rattle.pb_expr.proofs.eval.membership.Goals as goal
 
 pub returns-in-Text-Rec : goal.returns-in-Text-Rec
 returns-in-Text-Rec c =

@@ -1,27 +1,28 @@
-use Rattle.std.proofs.Common.{◌≡◌, ◌≤◌, ◌<◌, ◌+◌, ◌^◌, length, set, slice_get, Some, is_some, true, false, vec_len, vec_capacity, refl, sym, ap, ◌∙◌, subst, arith, rules}
+use Rattle.std.proofs.Common.{◌≡◌, ◌++◌, ◌∷◌, [], ◌≤◌, ◌<◌, ◌+◌, ◌^◌, length, get_or, set, slice_get, None, Some, is_some, true, false, vec_len, vec_capacity, refl, sym, ap, ◌∙◌, arith, rules}
 use Rattle.std.proofs.lemmas.List.{length-map, length-set}
 use Rattle.std.proofs.lemmas.List.Sums.{count_by-le-length}
 use Rattle.std.proofs.lemmas.Option.{slice_get_within, get_or_from_slice_get}
 use Rattle.pb_strategy.specs.Inside.{recaps_of, tickets_of, handed_of, is_phase_stopped}
-use Rattle.pb_strategy.specs.Jobs.{ticket_in}
+use Rattle.pb_strategy.specs.Jobs.{ticket_in, ticket_out}
 use Rattle.pb_strategy.specs.Recaps.{counted, Counts}
-use Rattle.pb_strategy.specs.Sound.{IsSound}
+use Rattle.pb_strategy.specs.History.{RunState, is_stopped}
 use Rattle.pb_strategy.specs.Tally.{is_give_of, recap_of, gives_of}
 use Rattle.pb_strategy.specs.declared.event.Event.TheVariants.{Give}
 use Rattle.pb_strategy.proofs.Histories.{goes_on, longer, same_state, stays}
-use Rattle.pb_strategy.proofs.Jobs.{tickets-more}
-use Rattle.pb_strategy.proofs.Machines.{read_at, ticket_some, unstopped, running_host, running_place, give_run, room_kept}
+use Rattle.pb_strategy.proofs.Jobs.{ticket_at, tickets-more}
+use Rattle.pb_strategy.proofs.Machines.{read_at, running_host, running_place, give_run, room_kept}
 use Rattle.pb_strategy.proofs.Settled.{settled_of}
 use Rattle.pb_strategy.proofs.Tallies.{recap_at, recaps_settled, tally-give}
-use Rattle.pb_strategy.proofs.run.Run.give.Goals as goal
+use Rattle.pb_strategy.proofs.run.Run.end_job.Goals as goal
 
-pub outcome_of-found-requires : goal.outcome_of-found-requires
-outcome_of-found-requires c =
+pub outcome_of-requires : goal.outcome_of-requires
+outcome_of-requires c =
     let x = c.self.inside in
-    let k = c.args.job.host in
+    let k = c.args.host in
     let look = c.in-Some.ensures.lookup in
     let at : slice_get x.hosts.items k ≡ Some c.in-Some.state.now = read_at c.deref.result.now x.hosts.items k c.in-Some.state.now c.deref.ensures.value look.0 look.1 in
-    let busy : is_some (ticket_in c.in-Some.state.now.stage) ≡ true = ticket_some c.args.job.ticket (ticket_in c.in-Some.state.now.stage) (sym c.if-is_running.true ∙ c.is_running.ensures) in record {
+    let is_out : get_or (tickets_of x.hosts.items) k None ≡ ticket_out k c.args.self.now.history = c.self.invariant.tickets k ∙ ap (λ (r : RunState). ticket_out k r.history) c.self.view_is in
+    let busy : is_some (ticket_in c.in-Some.state.now.stage) ≡ true = ap is_some (sym (ticket_at x.hosts.items k c.in-Some.state.now at) ∙ is_out) ∙ c.requires.out in record {
       running = busy;
       there = running_host x.checked x.forks x.history.items x.hosts.items x.phase c.self.invariant.machine k c.in-Some.state.now at busy;
       skipped = c.self.invariant.skipped;
@@ -32,14 +33,15 @@ pub invariant_of-self-2 : goal.invariant_of-self-2
 invariant_of-self-2 c =
     let x = c.self.inside in
     let i = c.self.invariant in
-    let k = c.args.job.host in
+    let k = c.args.host in
     let s = c.in-Some.state.now in
     let es = x.history.items in
     let rs = recaps_of x.hosts.items in
     let m = i.machine in
     let look = c.in-Some.ensures.lookup in
     let at : slice_get x.hosts.items k ≡ Some s = read_at c.deref.result.now x.hosts.items k s c.deref.ensures.value look.0 look.1 in
-    let busy : is_some (ticket_in s.stage) ≡ true = ticket_some c.args.job.ticket (ticket_in s.stage) (sym c.if-is_running.true ∙ c.is_running.ensures) in
+    let is_out : get_or (tickets_of x.hosts.items) k None ≡ ticket_out k c.args.self.now.history = c.self.invariant.tickets k ∙ ap (λ (r : RunState). ticket_out k r.history) c.self.view_is in
+    let busy : is_some (ticket_in s.stage) ≡ true = ap is_some (sym (ticket_at x.hosts.items k s at) ∙ is_out) ∙ c.requires.out in
     let kept : c.reserve.new.self.items ≡ es = search rules in
     let enough : vec_len c.reserve.new.self + 2 ≤ vec_capacity c.reserve.new.self = search rules in
     let room : length c.push_reserved.new.self.items < vec_capacity c.push_reserved.new.self =
@@ -56,7 +58,7 @@ invariant_of-self-2 c =
     let few : gives_of k es + 1 < 2 ^ 64 = omega (arith, short, count_by-le-length (is_give_of k) es) in
     let place = running_place x.checked x.forks es x.hosts.items x.phase m k s at busy in
     let came = settled_of x.hosts.items c.room_for.new.hosts.items c.settle.new.hosts.items k c.in-Ok.found s (gives_of k es) at place counts few c.room_for.ensures.kept c.settle.ensures.settled in
-    let live : is_phase_stopped x.phase ≡ false = unstopped x.phase c.in_default.not-Stopped in
+    let live : is_phase_stopped x.phase ≡ false = sym c.self.invariant.stopped ∙ ap (λ (r : RunState). is_stopped r.history) c.self.view_is ∙ c.requires.live in
     goes_on x _ (Give k c.args.answers) i refl refl refl refl refl refl items room
     (ap length settled ∙ length-set rs k _)
     (rw (items, settled) (tally-give es rs k c.args.answers c.in-Ok.found.ending within i.tally))
@@ -67,7 +69,7 @@ invariant_of-self-2 c =
 pub invariant_of-self-then-is_err-2 : goal.invariant_of-self-then-is_err-2
 invariant_of-self-then-is_err-2 c =
     let x = c.self.inside in
-    let k = c.args.job.host in
+    let k = c.args.host in
     let look = c.in-Some.ensures.lookup in
     let at : slice_get x.hosts.items k ≡ Some c.in-Some.state.now = read_at c.deref.result.now x.hosts.items k c.in-Some.state.now c.deref.ensures.value look.0 look.1 in
     let kept : c.reserve.new.self.items ≡ x.history.items = search rules in
@@ -81,15 +83,24 @@ returns-then-is_err-2-clause-err c =
     let kept : c.reserve.new.self.items ≡ c.self.inside.history.items = search rules in
     same_state c.self.inside.checked c.self.inside.forks _ _ _ _ _ _ kept c.room_for.ensures.recaps c.room_for.ensures.handed ∙ c.self.view_is
 
-pub returns-then-is_err-2-clause-sound : goal.returns-then-is_err-2-clause-sound
-returns-then-is_err-2-clause-sound c = subst IsSound (sym (returns-then-is_err-2-clause-err c)) c.known.ensures
-
 pub returns-clause-counted : goal.returns-clause-counted
 returns-clause-counted c =
     let x = c.self.inside in
-    let k = c.args.job.host in
+    let k = c.args.host in
     let rs = recaps_of x.hosts.items in
     let short : length x.history.items < 2 ^ 63 = omega (arith, x.history.ok, x.history.small) in
     let settled : recaps_of c.settle.new.hosts.items ≡ set rs k (counted c.in-Ok.found.ending (recap_of rs k)) =
     recaps_settled x.history.items rs _ _ k c.in-Ok.found.ending c.self.invariant.tally short c.room_for.ensures.recaps c.settle.ensures.recaps in
     rw (← c.self.view_is) (c.in-Ok.found.ending, settled)
+
+pub invariant_of-self : goal.invariant_of-self
+invariant_of-self c =
+    let x = c.self.inside in
+    let same : vec_capacity c.reserve.new.self ≡ vec_capacity x.history = search rules in
+    stays x _ c.self.invariant refl refl refl refl c.reserve.ensures.items (λ e. omega (arith, c.self.invariant.room e, same, ap length c.reserve.ensures.items)) refl refl refl c.self.invariant.machine
+
+pub returns-clause-done : goal.returns-clause-done
+returns-clause-done c = c.push_reserved.ensures.items ∙ ap (λ es. es ++ Give c.args.host c.args.answers ∷ []) c.reserve.ensures.items ∙ ap (λ (r : RunState). r.history ++ Give c.args.host c.args.answers ∷ []) c.self.view_is
+
+pub returns-clause-handed : goal.returns-clause-handed
+returns-clause-handed c = c.settle.ensures.handed ∙ c.room_for.ensures.handed ∙ ap (λ (r : RunState). r.handed) c.self.view_is

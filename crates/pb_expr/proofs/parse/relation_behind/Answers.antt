@@ -1,0 +1,13 @@
+use Rattle.std.proofs.Common.{rules}
+use Rattle.pb_language.specs.Grammar.{operand_of}
+use Rattle.pb_expr.proofs.Relations.{related-sign, related-not-in}
+use Rattle.pb_expr.proofs.parse.relation_behind.Goals as goal
+
+pub returns-in_ok-token_at-in-Equal-clause-read : goal.returns-in_ok-token_at-in-Equal-clause-read
+returns-in_ok-token_at-in-Equal-clause-read c a d =
+    related-sign c.args.text.now c.args.sign c.in_ok-token_at-in-Equal.field-0 a (operand_of d) c.in-Equal.is c.in_ok-token_at-in-Equal.ensures.read
+
+pub returns-in_ok-token_at-in-Not-clause-read : goal.returns-in_ok-token_at-in-Not-clause-read
+returns-in_ok-token_at-in-Not-clause-read c a d =
+    related-not-in c.args.text.now c.args.sign c.in_ok-word-in-Not.word c.in_ok-token_at-in-Not.field-0 a (operand_of d) c.in-Not.is c.in_ok-word-in-Not.ensures.read (search rules)
+    c.in_ok-token_at-in-Not.ensures.read

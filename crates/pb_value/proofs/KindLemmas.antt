@@ -69,5 +69,8 @@ is_among-list_any name (n ∷ ns) = rw (is_eq-slice_cmp name (string_bytes n), i
 pub kind_view-Host : (s : Arc (BTreeSet (String Global)) Global) → kind_view (Kind-of.Host s) ≡ k.hosts (map (λ n. string_bytes n) s.value.keys)
 kind_view-Host s = search (rules, kind_lemmas)
 
+pub kind_view-Text : kind_view Kind-of.Text ≡ k.texts
+kind_view-Text = search (rules, kind_lemmas)
+
 pub kind_view-Never : kind_view Kind-of.Never ≡ k.never
 kind_view-Never = search (rules, kind_lemmas)

@@ -1,12 +1,15 @@
-use Rattle.std.proofs.Common.{◌≡◌, List, [], BTreeMap, String, Global, sym, ap, ◌∙◌}
+use Rattle.std.proofs.Common.{◌≡◌, List, [], BTreeMap, String, Global, refl, sym, ap, ◌∙◌}
 use Rattle.pb_semantics.specs.Kind.{recs}
 use Rattle.pb_value.specs.KindView.{slots_view}
 use Rattle.pb_value.specs.declared.kind.Kind.{Kind}
 use Rattle.pb_value.specs.declared.kind.Slot.{Slot}
 use Rattle.pb_value.proofs.Views.{kind_view-Rec, kind_view-Result}
-use Rattle.pb_value.proofs.KindLemmas.{SlotEntry, kind_view-Host, kind_view-Never}
+use Rattle.pb_value.proofs.KindLemmas.{SlotEntry, kind_view-Host, kind_view-Never, kind_view-Text}
 use Rattle.pb_value.proofs.JoinLemmas.{built, built_joined}
 use Rattle.pb_value.proofs.join.+join.Goals as goal
+
+pub join-returns-in-Host-Text : goal.join-returns-in-Host-Text
+join-returns-in-Host-Text t c = rw (c.in-Host-Text.is-0, c.in-Host-Text.is-1, kind_view-Host, kind_view-Text) refl
 
 pub join-returns-in-Host-Host : goal.join-returns-in-Host-Host
 join-returns-in-Host-Host t c =

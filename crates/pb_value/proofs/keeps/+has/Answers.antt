@@ -3,9 +3,13 @@ use Rattle.std.proofs.lemmas.Bool.Decides.{nat_tests}
 use Rattle.pb_semantics.specs.Keeps.{slots_kept}
 use Rattle.pb_value.specs.KindView.{kind_view, slots_view}
 use Rattle.pb_value.specs.View.{fields_view}
-use Rattle.pb_value.proofs.Views.{view-List, view-Rec, kind_view-List, kind_view-Rec, kind_view-Result}
+use Rattle.pb_value.proofs.Views.{view-List, view-Rec, view-Text, kind_view-List, kind_view-Rec, kind_view-Result}
+use Rattle.pb_value.proofs.KindLemmas.{kind_view-Text}
 use Rattle.pb_value.proofs.KeptLists.{keeps-short, keeps-long}
 use Rattle.pb_value.proofs.keeps.+has.Goals as goal
+
+pub has-returns-in-Text-Text : goal.has-returns-in-Text-Text
+has-returns-in-Text-Text t c = rw (c.in-Text-Text.is-0, c.in-Text-Text.is-1, view-Text, kind_view-Text) refl
 
 pub has-returns-then-len-most : goal.has-returns-then-len-most
 has-returns-then-len-most t c =

@@ -1,0 +1,13 @@
+use Rattle.std.proofs.Common.{◌≡◌, ◌+◌, ◌<◌, ◌∷◌, true, arith, drop, length, ap, sym, ◌∙◌, refl, add-one, drop-cons, string_bytes}
+use Rattle.std.specs.Str.{bytes_eq}
+use Rattle.pb_sig.proofs.registry.Registry.find.Goals as goal
+
+pub returns-then-eq : goal.returns-then-eq
+returns-then-eq c =
+    let i = c.loop-found.found-index in
+    let m = c.found-item.result in
+    let ms = c.deref-found-items.result.now in
+    let within : i < length ms = omega arith in
+    let next : drop i ms ≡ m ∷ drop (i + 1) ms = rw (add-one, drop-cons ms i m, ← c.found-item.is) refl in
+    let same : bytes_eq (string_bytes m.name.value) c.args.name.now ≡ true = ap (λ n. bytes_eq n c.args.name.now) (sym c.name.ensures) ∙ sym c.eq.ensures ∙ c.if-eq.true in
+    rw (next, same) at c.loop-found.invariant

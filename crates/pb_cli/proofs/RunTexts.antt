@@ -1,6 +1,7 @@
 -- The lines of a run and its status, host by host.
-use Rattle.std.proofs.Common.{◌≡◌, ◌<◌, ℕ, ◌+◌, List, [], ◌∷◌, ◌++◌, Bool, ◌||◌, map, drop, length, Some, option_map, slice_get, refl, sym, ap, ◌∙◌, append_assoc, append-nil, arith}
+use Rattle.std.proofs.Common.{◌≡◌, ◌<◌, ℕ, ◌+◌, List, [], ◌∷◌, ◌++◌, Bool, ◌||◌, map, drop, length, nat_lt, true, Some, option_map, slice_get, refl, sym, ap, subst, ◌∙◌, append_assoc, append-nil, arith}
 use Rattle.std.specs.List.{list_any}
+use Rattle.std.proofs.lemmas.Bool.{lt-ltb}
 use Rattle.std.proofs.lemmas.List.{drop_more, drop_all, length-map}
 use Rattle.std.proofs.lemmas.Option.{slice_get-map, slice_get_within, get_or_from_slice_get}
 use Rattle.pb_inventory.specs.Hosts.{HostData}
@@ -9,7 +10,7 @@ use Rattle.pb_strategy.specs.History.{RunState}
 use Rattle.pb_strategy.specs.Recaps.{nothing}
 use Rattle.pb_strategy.specs.Tally.{recap_of}
 use Rattle.pb_strategy.specs.declared.recap.Recap.{Recap}
-use Rattle.pb_cli.specs.Texts.{recap_line, recap_lines, run_lines, host_names}
+use Rattle.pb_cli.specs.Texts.{recap_line, recap_lines, run_lines, host_names, some_failed}
 
 abbrev name_in : HostData → List ℕ
 name_in h = h.name
@@ -42,3 +43,10 @@ last_line r i text all so_far =
 pub any_from : (test : Recap → Bool) (rs : List Recap) (i : ℕ) → i < length rs
     → list_any test (drop i rs) ≡ test (recap_of rs i) || list_any test (drop (i + 1) rs)
 any_from test rs i within = ap (list_any test) (drop_more rs i nothing within)
+
+-- some host's task failed, where this host's did
+pub fails_here : (rs : List Recap) (i : ℕ) (r : Recap) → i < length rs → r ≡ recap_of rs i → 0 < r.failed → some_failed rs ≡ some_failed (drop i rs)
+    → some_failed rs ≡ true
+fails_here rs i r within is positive so_far =
+    let here : nat_lt 0 (recap_of rs i).failed ≡ true = subst (λ x. nat_lt 0 x.failed ≡ true) is (lt-ltb 0 r.failed positive) in
+    so_far ∙ any_from (λ x. nat_lt 0 x.failed) rs i within ∙ ap (λ b. b || some_failed (drop (i + 1) rs)) here

@@ -1,7 +1,7 @@
 -- What a command line says, read as `clap` reads it.
 use Rattle.std.specs.Prelude.{◌≡◌, ◌≤◌, ℕ, [], List, codes, Option, Some, None, true, false, unwrap_or, option_map, string_bytes}
 use Rattle.std.specs.Str.Parse.{IsNumeral, digits_value, without_leading_plus}
-use Rattle.clap.specs.Words.{App, Row, Rule, Text, first_of, new_app, new_rule, with_rule, with_subcommand}
+use Rattle.clap.specs.Words.{App, Row, Rule, Text, app_of, first_of, new_app, new_rule, with_rule, with_subcommand}
 use Rattle.clap.specs.declared.builder.command.Command.{Command}
 use Rattle.clap.specs.declared.builder.command.Command.TheViews.{out-Command}
 use Rattle.clap.specs.declared.builder.action.ArgAction.TheVariants.{Set}
@@ -14,6 +14,11 @@ use Rattle.pb_cli.specs.declared.words.Subject.{Subject}
 -- the command has no argument for its subcommands too
 abbrev pub IsLocal : Command → Type 0
 IsLocal c = (out-Command c).has_globals ≡ false
+
+-- the command takes arguments more, of which none is for its subcommands too
+pub record Extends (with_more : App → App) (old new : Command) : Type 0 where
+  pub app : app_of new ≡ with_more (app_of old)
+  pub local : IsLocal old → IsLocal new
 
 -- `--name VALUE`
 abbrev pub option_rule : Text → Rule
@@ -43,11 +48,14 @@ modules_rule = option_rule (codes "modules")
 abbrev pub with_files : App → App
 with_files a = with_rule (with_rule (with_rule a book_rule) inventory_rule) signatures_rule
 
+abbrev pub with_sources : App → App
+with_sources a = with_rule (with_rule (with_rule a forks_rule) answers_rule) modules_rule
+
 abbrev pub check_app : App
 check_app = with_files (new_app (codes "check"))
 
 abbrev pub run_app : App
-run_app = with_rule (with_rule (with_rule (with_files (new_app (codes "run"))) forks_rule) answers_rule) modules_rule
+run_app = with_sources (with_files (new_app (codes "run")))
 
 -- a command is wanted
 abbrev pub top_app : App

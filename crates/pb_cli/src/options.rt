@@ -2,6 +2,7 @@
 ghost use Rattle.std.specs.Prelude.{◌≡◌, ◌≤◌, [], IfOk, IfSome, codes, map, option_map, unwrap_or, string_bytes, false};
 ghost use Rattle.clap.specs.Words.{app_of, first_of, found_of, rows_of, rule_of, subcommand_of, subcommand_rows_of};
 ghost use Rattle.pb_cli.specs.Options.{
+  Extends,
   HasForks,
   IsLocal,
   IsForkCount,
@@ -13,6 +14,7 @@ ghost use Rattle.pb_cli.specs.Options.{
   playcheck_app,
   run_app,
   with_files,
+  with_sources,
 };
 
 use crate::words::{LineFault, Options, Source, Subject};
@@ -53,8 +55,8 @@ fn chosen(alloc: Global, matches: &ArgMatches<'_>) -> Result<Options, LineFault>
     match matches.subcommand() {
         Some(("check", found)) => Ok(Options::Check(subject_of(alloc, found)?)),
         Some(("run", found)) => Ok(Options::Run {
-            subject: subject_of(alloc, found)?,
             forks: forks_of(alloc, found)?,
+            subject: subject_of(alloc, found)?,
             source: source_of(alloc, found)?,
         }),
         _ => Err(line(alloc, "playcheck: a command is wanted, check or run\n")?),
@@ -143,11 +145,12 @@ fn source_of(alloc: Global, found: &ArgMatches<'_>) -> Result<Source, LineFault>
 fn command_of<'a>(alloc: Global) -> Result<Command<'a>, AllocError>
     ensures { IfOk result (λ c. app_of c ≡ playcheck_app) }
 {
-    Command::new(alloc, "playcheck")
+    let check = check_command(alloc)?;
+    let command = Command::new(alloc, "playcheck")
         .about("Verifies Ansible playbooks in JSON form, and runs what it accepts")
         .subcommand_required(true)
-        .subcommand(check_command(alloc)?)?
-        .subcommand(run_command(alloc)?)
+        .subcommand(check)?;
+    command.subcommand(run_command(alloc)?)
 }
 
 fn check_command<'a>(alloc: Global) -> Result<Command<'a>, AllocError>
@@ -165,33 +168,44 @@ fn run_command<'a>(alloc: Global) -> Result<Command<'a>, AllocError>
     let command = Command::new(alloc, "run").about(
         "Runs a playbook that is accepted, and prints the recap",
     );
-    let forks = option(alloc, "forks")
-        .short('f')
-        .help("How many workers at most, 1 to 256");
-    let answers = option(alloc, "answers").help("A file of answers, in place of modules");
-    let modules = option(alloc, "modules").help("A folder of programs, one for each module");
-    with_subject(alloc, command)?
-        .arg(forks)?
-        .arg(answers)?
-        .arg(modules)
+    with_workers(alloc, with_subject(alloc, command)?)
+}
+
+// How many work, and what answers their calls.
+fn with_workers<'a>(alloc: Global, command: Command<'a>) -> Result<Command<'a>, AllocError>
+    ensures { IfOk result (Extends with_sources command.entry) }
+{
+    command
+        .arg(
+            option(alloc, "forks")
+                .short('f')
+                .help("How many workers at most, 1 to 256"),
+        )?
+        .arg(option(alloc, "answers").help("A file of answers, in place of modules"))?
+        .arg(option(alloc, "modules").help("A folder of programs, one for each module"))
 }
 
 fn with_subject<'a>(alloc: Global, command: Command<'a>) -> Result<Command<'a>, AllocError>
-    ensures app { IfOk result (λ c. app_of c ≡ with_files (app_of command.entry)) }
-    ensures local { IsLocal command.entry → IfOk result IsLocal }
+    ensures { IfOk result (Extends with_files command.entry) }
 {
-    let book = Arg::new(alloc, "book")
-        .required(true)
-        .action(ArgAction::Set)
-        .help("The playbook, a JSON file");
-    let inventory = option(alloc, "inventory")
-        .short('i')
-        .required(true)
-        .help("The inventory, a JSON file");
-    let signatures = option(alloc, "signatures")
-        .short('s')
-        .help("Further modules, a JSON file");
-    command.arg(book)?.arg(inventory)?.arg(signatures)
+    command
+        .arg(
+            Arg::new(alloc, "book")
+                .required(true)
+                .action(ArgAction::Set)
+                .help("The playbook, a JSON file"),
+        )?
+        .arg(
+            option(alloc, "inventory")
+                .short('i')
+                .required(true)
+                .help("The inventory, a JSON file"),
+        )?
+        .arg(
+            option(alloc, "signatures")
+                .short('s')
+                .help("Further modules, a JSON file"),
+        )
 }
 
 fn option<'a>(alloc: Global, name: &'a str) -> Arg<'a>

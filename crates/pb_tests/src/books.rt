@@ -51,31 +51,44 @@ fn is_of_module(task: &Task, module: &str) -> bool {
     matches!(&task.work, Work::Module(name) if name.as_str() == module)
 }
 
+// Whether the tasks stand on the lines after the play's, which is the first.
+fn are_in_line(play: &Play) -> bool {
+    play.line == 1
+        && play
+            .tasks
+            .iter()
+            .enumerate()
+            .all(|(at, task)| task.line as usize == at + 2)
+}
+
 #[test]
 fn lines(rt: HostRuntime) -> Result<(), Fail> {
     let book = book_of(rt.alloc(), FOUR_TASKS)?;
     let play = only_play(&book)?;
-    assert_eq!(rt; (play.line, play.tasks.len()), (1, 4));
-    for (at, task) in play.tasks.iter().enumerate() {
-        assert_eq!(rt; task.line as usize, at + 2);
-    }
+    assert_eq!(rt; (are_in_line(play), play.tasks.len()), (true, 4));
     Ok(())
+}
+
+// Whether these are the four tasks.
+fn are_four(tasks: &[Task]) -> bool {
+    match tasks {
+        [command, ping, debug, set] => {
+            is_of_module(command, "command")
+                && matches!(&command.register, Some(name) if name.as_str() == "out")
+                && is_of_module(ping, "ping")
+                && ping.arguments.is_empty()
+                && matches!(&ping.when, Some(Expr::Literal(Value::Bool(true))))
+                && matches!(&debug.work, Work::Debug)
+                && are_named(set, "a", "b")
+        }
+        _ => false,
+    }
 }
 
 #[test]
 fn works(rt: HostRuntime) -> Result<(), Fail> {
     let book = book_of(rt.alloc(), FOUR_TASKS)?;
-    match only_play(&book)?.tasks.as_slice() {
-        [command, ping, debug, set] => {
-            assert!(rt; is_of_module(command, "command"));
-            assert!(rt; matches!(&command.register, Some(name) if name.as_str() == "out"));
-            assert!(rt; is_of_module(ping, "ping") && ping.arguments.is_empty());
-            assert!(rt; matches!(&ping.when, Some(Expr::Literal(Value::Bool(true)))));
-            assert!(rt; matches!(&debug.work, Work::Debug));
-            assert!(rt; are_named(set, "a", "b"));
-        }
-        _ => assert!(rt; false, "not four tasks"),
-    }
+    assert!(rt; are_four(only_play(&book)?.tasks.as_slice()));
     Ok(())
 }
 
@@ -95,13 +108,34 @@ fn only_value(book: &Book) -> Result<&Expr, Fail> {
     }
 }
 
+fn is_text(value: &Expr, expected: &str) -> bool {
+    matches!(value, Expr::Literal(Value::Text(text)) if text.as_str() == expected)
+}
+
+// Whether the value is a record of the number 1 as `a` and a list of one path as `b`.
+fn is_record_of_a_path(value: &Expr) -> bool {
+    match value {
+        Expr::Record(parts) => {
+            let is_one = matches!(parts.get("a"), Some(Expr::Literal(Value::Int(1))));
+            let is_path = match parts.get("b") {
+                Some(Expr::List(items)) => matches!(items.as_slice(), [Expr::Path(_)]),
+                _ => false,
+            };
+            is_one && is_path
+        }
+        _ => false,
+    }
+}
+
 #[test]
 fn plain_arguments(rt: HostRuntime) -> Result<(), Fail> {
     let plain = book_of(rt.alloc(), r#"[{"command":"x } {"}]"#)?;
-    match only_value(&plain)? {
-        Expr::Literal(Value::Text(text)) => assert_eq!(rt; text.as_str(), "x } {"),
-        _ => assert!(rt; false, "no text"),
-    }
+    assert!(rt; is_text(only_value(&plain)?, "x } {"));
+    Ok(())
+}
+
+#[test]
+fn templates_as_names(rt: HostRuntime) -> Result<(), Fail> {
     let whole = book_of(rt.alloc(), r#"[{"debug":{"msg":{"{{ k }}":1}}}]"#)?;
     assert!(rt; matches!(only_value(&whole)?, Expr::Literal(_)));
     Ok(())
@@ -110,18 +144,7 @@ fn plain_arguments(rt: HostRuntime) -> Result<(), Fail> {
 #[test]
 fn arguments_with_templates(rt: HostRuntime) -> Result<(), Fail> {
     let part = book_of(rt.alloc(), r#"[{"debug":{"msg":{"a":1,"b":["{{ x }}"]}}}]"#)?;
-    match only_value(&part)? {
-        Expr::Record(parts) => {
-            assert!(rt; matches!(parts.get("a"), Some(Expr::Literal(Value::Int(1)))));
-            match parts.get("b") {
-                Some(Expr::List(items)) => {
-                    assert!(rt; matches!(items.as_slice(), [Expr::Path(_)]));
-                }
-                _ => assert!(rt; false, "no list"),
-            }
-        }
-        _ => assert!(rt; false, "no record"),
-    }
+    assert!(rt; is_record_of_a_path(only_value(&part)?));
     Ok(())
 }
 

@@ -3,28 +3,13 @@ use pb_expr::eval::eval;
 use pb_expr::expr::Expr;
 use pb_expr::fault::ExprFault;
 use pb_expr::parse::{parse_expr, parse_template};
+use pb_value::read::read_json;
 use pb_value::value::{Fields, Value};
 use std::alloc::{AllocError, Global};
-use std::collections::BTreeMap;
 use std::test::Fail;
 
-// `a` is true, `b` false, `n` is 3, `s` the text `hello`, and `r` a record of `a`'s value as `in` and `n`'s as `x`.
-fn variables(alloc: Global) -> Result<Fields, AllocError> {
-    let mut inner = BTreeMap::new(alloc);
-    inner.insert(String::from_str(alloc, "in")?, Value::Bool(true))?;
-    inner.insert(String::from_str(alloc, "x")?, Value::Int(3))?;
-    let mut variables = BTreeMap::new(alloc);
-    variables.insert(String::from_str(alloc, "a")?, Value::Bool(true))?;
-    variables.insert(String::from_str(alloc, "b")?, Value::Bool(false))?;
-    variables.insert(String::from_str(alloc, "n")?, Value::Int(3))?;
-    let greeting = Value::of_text(alloc, String::from_str(alloc, "hello")?)?;
-    variables.insert(String::from_str(alloc, "s")?, greeting)?;
-    variables.insert(
-        String::from_str(alloc, "r")?,
-        Value::of_fields(alloc, inner)?,
-    )?;
-    Ok(variables)
-}
+/// What the variables of these texts hold.
+const VARIABLES: &[u8] = br#"{"a":true,"b":false,"n":3,"s":"hello","r":{"in":true,"x":3}}"#;
 
 fn spelled(alloc: Global, value: &Value) -> Result<String, AllocError> {
     match value {
@@ -44,102 +29,135 @@ fn fault_text(alloc: Global, fault: &ExprFault) -> Result<String, AllocError> {
     }
 }
 
-fn worth(alloc: Global, read: Result<Expr, ExprFault>) -> Result<String, AllocError> {
-    match read {
-        Ok(expr) => {
-            let variables = variables(alloc)?;
-            let value = eval(alloc, &expr, &variables)?;
-            spelled(alloc, &value)
+fn value_text(alloc: Global, expr: &Expr, variables: &Fields) -> Result<String, AllocError> {
+    spelled(alloc, &eval(alloc, expr, variables)?)
+}
+
+fn known_worth(alloc: Global, expr: &Expr) -> Result<String, Fail> {
+    match &read_json(alloc, VARIABLES)? {
+        Value::Rec(variables) => Ok(value_text(alloc, expr, variables)?),
+        _ => Err("no variables")?,
+    }
+}
+
+fn worth(alloc: Global, text: &str, is_template: bool) -> Result<String, Fail> {
+    let read = if is_template {
+        parse_template(alloc, text)
+    } else {
+        parse_expr(alloc, text)
+    };
+    match &read {
+        Ok(expr) => known_worth(alloc, expr),
+        Err(fault) => Ok(fault_text(alloc, fault)?),
+    }
+}
+
+// The expected value is that text; else the test fails with what was found in its place.
+fn is_text(expected: &Value, found: &str) -> Result<(), Fail> {
+    match expected {
+        Value::Text(text) if text.as_str() == found => Ok(()),
+        _ => Err(found)?,
+    }
+}
+
+/// Texts of expressions, each with what it is worth.
+const EXPRESSIONS: &[u8] = br#"{
+    "a": "true",
+    "not n == 3": "false",
+    "b and b or a": "true",
+    "a or b and b": "true",
+    "(a or b) and b": "false",
+    " not\tnot\na ": "true",
+    "'ell' in s and not 'x' in s": "true",
+    "'x' in r": "true",
+    "'x' not in s": "true",
+    "not 'x' not in r": "true",
+    "r.in": "true",
+    "r . x == 3": "true",
+    "1 == true": "false",
+    "1 != True": "true",
+    "-0": "0",
+    "-9223372036854775808": "-9223372036854775808",
+    "'a\\'\\\\\\n\\t\\\"'": "a'\\\n\t\"",
+    "\"it's\"": "it's",
+    "zz": "?"
+}"#;
+
+/// Texts that are no expression, and where; and texts of forms that aren't built yet.
+const UNREAD: &[u8] = br#"{
+    "": "E01 0",
+    "a ==": "E01 4",
+    "a..b": "E01 2",
+    "a.": "E01 2",
+    "(a": "E01 2",
+    "a )": "E01 2",
+    "a == b == c": "E01 7",
+    "01": "E01 0",
+    "- 1": "E01 0",
+    "9223372036854775808": "E01 0",
+    "a and 'b": "E01 6",
+    "'\\x'": "E01 0",
+    "{{ a }}": "E01 0",
+    "and": "E01 0",
+    "a == not b": "E01 5",
+    "a | length": "N00",
+    "[a]": "N00",
+    "n < 3": "N00",
+    "none": "N00",
+    "a is defined": "N00",
+    "a not b": "E01 6",
+    "hostvars.h.x": "N00",
+    "groups['web']": "N00",
+    "r['x']": "N00"
+}"#;
+
+/// Texts that may hold an expression, each with what it is worth.
+const TEMPLATES: &[u8] = br#"{
+    "": "",
+    "plain } text": "plain } text",
+    "{{ n }}": "3",
+    "{{'}}'}}": "}}",
+    "{{": "E01 2",
+    "{{ a ": "E01 5",
+    "{{ }}": "E01 3",
+    "{{ a == }}": "E01 8",
+    "x {% if %}": "E01 2",
+    "{# c #}": "E01 0",
+    " {{ a }}": "N00",
+    "{{ a }}{{ b }}": "N00"
+}"#;
+
+// Each text of the table is worth what stands beside it; the number of them.
+fn worths_found(alloc: Global, table: &[u8], are_templates: bool) -> Result<usize, Fail> {
+    match &read_json(alloc, table)? {
+        Value::Rec(rows) => {
+            for (text, expected) in rows.iter() {
+                is_text(
+                    expected,
+                    worth(alloc, text.as_str(), are_templates)?.as_str(),
+                )?;
+            }
+            Ok(rows.len())
         }
-        Err(fault) => fault_text(alloc, &fault),
+        _ => Err("no table")?,
     }
 }
 
 #[test]
 fn expressions(rt: HostRuntime) -> Result<(), Fail> {
-    let rows = [
-        ("a", "true"),
-        ("not n == 3", "false"),
-        ("b and b or a", "true"),
-        ("a or b and b", "true"),
-        ("(a or b) and b", "false"),
-        (" not\tnot\na ", "true"),
-        ("'ell' in s and not 'x' in s", "true"),
-        ("'x' in r", "true"),
-        ("'x' not in s", "true"),
-        ("not 'x' not in r", "true"),
-        ("r.in", "true"),
-        ("r . x == 3", "true"),
-        ("1 == true", "false"),
-        ("1 != True", "true"),
-        ("-0", "0"),
-        ("-9223372036854775808", "-9223372036854775808"),
-        ("'a\\'\\\\\\n\\t\\\"'", "a'\\\n\t\""),
-        ("\"it's\"", "it's"),
-        ("zz", "?"),
-    ];
-    for (text, expected) in rows {
-        let found = worth(rt.alloc(), parse_expr(rt.alloc(), text))?;
-        assert_eq!(rt; found.as_str(), expected);
-    }
+    assert_eq!(rt; worths_found(rt.alloc(), EXPRESSIONS, false)?, 19);
     Ok(())
 }
 
 #[test]
 fn unread_expressions(rt: HostRuntime) -> Result<(), Fail> {
-    let rows = [
-        ("", "E01 0"),
-        ("a ==", "E01 4"),
-        ("a..b", "E01 2"),
-        ("a.", "E01 2"),
-        ("(a", "E01 2"),
-        ("a )", "E01 2"),
-        ("a == b == c", "E01 7"),
-        ("01", "E01 0"),
-        ("- 1", "E01 0"),
-        ("9223372036854775808", "E01 0"),
-        ("a and 'b", "E01 6"),
-        ("'\\x'", "E01 0"),
-        ("{{ a }}", "E01 0"),
-        ("and", "E01 0"),
-        ("a == not b", "E01 5"),
-        ("a | length", "N00"),
-        ("[a]", "N00"),
-        ("n < 3", "N00"),
-        ("none", "N00"),
-        ("a is defined", "N00"),
-        ("a not b", "E01 6"),
-        ("hostvars.h.x", "N00"),
-        ("groups['web']", "N00"),
-        ("r['x']", "N00"),
-    ];
-    for (text, expected) in rows {
-        let found = worth(rt.alloc(), parse_expr(rt.alloc(), text))?;
-        assert_eq!(rt; found.as_str(), expected);
-    }
+    assert_eq!(rt; worths_found(rt.alloc(), UNREAD, false)?, 24);
     Ok(())
 }
 
 #[test]
 fn templates(rt: HostRuntime) -> Result<(), Fail> {
-    let rows = [
-        ("", ""),
-        ("plain } text", "plain } text"),
-        ("{{ n }}", "3"),
-        ("{{'}}'}}", "}}"),
-        ("{{", "E01 2"),
-        ("{{ a ", "E01 5"),
-        ("{{ }}", "E01 3"),
-        ("{{ a == }}", "E01 8"),
-        ("x {% if %}", "E01 2"),
-        ("{# c #}", "E01 0"),
-        (" {{ a }}", "N00"),
-        ("{{ a }}{{ b }}", "N00"),
-    ];
-    for (text, expected) in rows {
-        let found = worth(rt.alloc(), parse_template(rt.alloc(), text))?;
-        assert_eq!(rt; found.as_str(), expected);
-    }
+    assert_eq!(rt; worths_found(rt.alloc(), TEMPLATES, true)?, 12);
     Ok(())
 }
 
@@ -162,6 +180,17 @@ fn nested(
     Ok(text)
 }
 
+fn nested_worth(
+    alloc: Global,
+    count: usize,
+    open: &str,
+    middle: &str,
+    close: &str,
+) -> Result<String, Fail> {
+    let text = nested(alloc, count, open, middle, close)?;
+    worth(alloc, text.as_str(), false)
+}
+
 #[test]
 fn depths(rt: HostRuntime) -> Result<(), Fail> {
     let rows = [
@@ -176,8 +205,7 @@ fn depths(rt: HostRuntime) -> Result<(), Fail> {
         (17, "", "r", ".x", "E02"),
     ];
     for (count, open, middle, close, expected) in rows {
-        let text = nested(rt.alloc(), count, open, middle, close)?;
-        let found = worth(rt.alloc(), parse_expr(rt.alloc(), text.as_str()))?;
+        let found = nested_worth(rt.alloc(), count, open, middle, close)?;
         assert_eq!(rt; found.as_str(), expected);
     }
     Ok(())

@@ -15,17 +15,28 @@ fn is_not_built(alloc: Global, text: &str) -> bool {
     )
 }
 
+// Whether these are the hosts of a group whose one host is the first.
+fn is_first_host(hosts: Option<&[usize]>) -> bool {
+    matches!(hosts, Some([0]))
+}
+
+// Whether the inventory's first host is in no group but `ungrouped`, and has no variables.
+fn is_ungrouped(inventory: &Inventory) -> bool {
+    let are_groups = is_first_host(inventory.group_hosts("all"))
+        && is_first_host(inventory.group_hosts("ungrouped"))
+        && inventory.group_hosts("h1").is_none();
+    let is_in_none = matches!(inventory.group_names(0), [group] if group.as_str() == "ungrouped");
+    are_groups && is_in_none && inventory.vars_of(0).is_empty()
+}
+
 #[test]
 fn one_host(rt: HostRuntime) -> Result<(), Fail> {
     let inventory = Inventory::read(rt.alloc(), br#"{"all":{"hosts":["db-1.Example_org"]}}"#)?;
-    assert_eq!(rt; inventory.hosts(), 1);
-    assert_eq!(rt; inventory.host_name(0), "db-1.Example_org");
-    assert!(rt; matches!(inventory.group_names(0), [group] if group.as_str() == "ungrouped"));
-    assert!(rt; inventory.vars_of(0).is_empty());
-    for group in ["all", "ungrouped"] {
-        assert!(rt; matches!(inventory.group_hosts(group), Some([0])));
-    }
-    assert!(rt; inventory.group_hosts("h1").is_none());
+    assert_eq!(rt;
+        (inventory.hosts(), inventory.host_name(0)),
+        (1, "db-1.Example_org")
+    );
+    assert!(rt; is_ungrouped(&inventory));
     Ok(())
 }
 

@@ -77,16 +77,25 @@ fn next_done(run: &mut Run, ticket: usize, answers: Vec<Answer>) -> Result<(), F
     }
 }
 
+// What is told of the run of both tasks, by hand.
+fn both_done(alloc: Global, run: &mut Run) -> Result<(usize, u64, u64), Fail> {
+    next_done(run, 0, answers(alloc, DONE).ok_or("no answer")?)?;
+    next_done(run, 2, Vec::new(alloc))?;
+    match taken(run)? {
+        Taken::Finished => Ok(told(run)),
+        _ => Err("the run goes on")?,
+    }
+}
+
+fn told_of_both(alloc: Global, checked: &Checked) -> Result<(usize, u64, u64), Fail> {
+    both_done(alloc, &mut opened(alloc, checked)?)
+}
+
 #[test]
 fn a_command_and_a_debug(rt: HostRuntime) -> Result<(), Fail> {
     let checked = judged(rt.alloc(), COMMAND_AND_DEBUG).ok_or("refused")?;
     assert_eq!(rt; checked.budget(), 1);
-    let mut run = opened(rt.alloc(), &checked)?;
-    let done = answers(rt.alloc(), DONE).ok_or("no answer")?;
-    next_done(&mut run, 0, done)?;
-    next_done(&mut run, 2, Vec::new(rt.alloc()))?;
-    assert!(rt; matches!(taken(&mut run)?, Taken::Finished));
-    assert_eq!(rt; told(&run), (5, 2, 1));
+    assert_eq!(rt; told_of_both(rt.alloc(), &checked)?, (5, 2, 1));
     Ok(())
 }
 
@@ -102,18 +111,24 @@ fn stops_unchanged(run: &mut Run, job: Job, answers: Vec<Answer>) -> Result<bool
     Ok(is_back && is_unchanged && is_stopped && is_late && is_over)
 }
 
+// Whether the give of the first job is done, or is refused for want of memory, and then told so.
+fn gives_or_stops<R: Eprint + AllocGlobal>(rt: &R, run: &mut Run) -> Result<bool, Fail> {
+    let job = job_of(taken(run)?)?;
+    match run.give(job, answers(rt.alloc(), PONG).ok_or("no answer")?) {
+        Ok(_) => Ok(told(run) == (2, 1, 0)),
+        Err((GiveError::NoMemory, job, answers)) => {
+            let is_well = stops_unchanged(run, job, answers)?;
+            eprintln!(rt; "give refused")?;
+            Ok(is_well)
+        }
+        Err(_) => Err("refused for another cause")?,
+    }
+}
+
 #[test]
 fn a_refused_give_and_a_stop(rt: HostRuntime) -> Result<(), Fail> {
     let checked = judged(rt.alloc(), ONE_PING).ok_or("refused")?;
     let mut run = opened(rt.alloc(), &checked)?;
-    let job = job_of(taken(&mut run)?)?;
-    match run.give(job, answers(rt.alloc(), PONG).ok_or("no answer")?) {
-        Ok(_) => assert_eq!(rt; told(&run), (2, 1, 0)),
-        Err((GiveError::NoMemory, job, answers)) => {
-            eprintln!(rt; "give refused")?;
-            assert!(rt; stops_unchanged(&mut run, job, answers)?);
-        }
-        Err(_) => Err("refused for another cause")?,
-    }
+    assert!(rt; gives_or_stops(&rt, &mut run)?);
     Ok(())
 }

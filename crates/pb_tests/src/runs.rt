@@ -56,14 +56,19 @@ fn first_job(alloc: Global) -> Job {
     }
 }
 
+fn give_pong(alloc: Global, run: &mut Run) -> Result<(), Fail> {
+    let job = job_of(run.take()?)?;
+    match run.give(job, pong(alloc)?) {
+        Ok(_) => Ok(()),
+        Err(_) => Err("the first give is refused")?,
+    }
+}
+
 // A run of one ping whose job was taken and given.
 fn ping_given(alloc: Global, checked: &Checked) -> Result<Run, Fail> {
     let mut run = Run::open(alloc, checked, 1)?;
-    let job = job_of(run.take()?)?;
-    match run.give(job, pong(alloc)?) {
-        Ok(_) => Ok(run),
-        Err(_) => Err("the first give is refused")?,
-    }
+    give_pong(alloc, &mut run)?;
+    Ok(run)
 }
 
 /// What is compared of a run: its events, and its host's tasks that went well and that changed something.
@@ -72,52 +77,84 @@ pub fn told(run: &Run) -> (usize, u64, u64) {
     (run.history().len(), recap.ok, recap.changed)
 }
 
+// Why the pong of this job is refused, where it is.
+fn error_of_give(alloc: Global, run: &mut Run, job: Job) -> Result<Option<GiveError>, Fail> {
+    let answers = pong(alloc)?;
+    Ok(error_of(&run.give(job, answers)))
+}
+
+fn given_twice(
+    alloc: Global,
+    run: &mut Run,
+) -> Result<(Option<GiveError>, (usize, u64, u64)), Fail> {
+    let again = error_of_give(alloc, run, first_job(alloc))?;
+    Ok((again, told(run)))
+}
+
 #[test]
 fn a_second_give_is_a_stranger(rt: HostRuntime) -> Result<(), Fail> {
     let checked = accepted(rt.alloc(), ONE_PING).ok_or("refused")?;
-    let mut run = ping_given(rt.alloc(), &checked)?;
-    let again = run.give(first_job(rt.alloc()), pong(rt.alloc())?);
-    assert_eq!(rt; error_of(&again), Some(GiveError::Stranger));
-    assert_eq!(rt; told(&run), (2, 1, 0));
+    let found = given_twice(rt.alloc(), &mut ping_given(rt.alloc(), &checked)?)?;
+    assert_eq!(rt; found, (Some(GiveError::Stranger), (2, 1, 0)));
     Ok(())
+}
+
+// What is told of the replay of a run that has ended.
+fn told_of_replay(
+    alloc: Global,
+    checked: &Checked,
+    run: &mut Run,
+) -> Result<(usize, u64, u64), Fail> {
+    match run.take()? {
+        Taken::Finished => Ok(told(&replay(alloc, checked, 1, run.history())?)),
+        _ => Err("the run goes on")?,
+    }
 }
 
 #[test]
 fn a_replay_is_the_same_run(rt: HostRuntime) -> Result<(), Fail> {
     let checked = accepted(rt.alloc(), ONE_PING).ok_or("refused")?;
     let mut run = ping_given(rt.alloc(), &checked)?;
-    assert!(rt; matches!(run.take()?, Taken::Finished));
-    let same = replay(rt.alloc(), &checked, 1, run.history())?;
-    assert_eq!(rt; told(&same), (3, 1, 0));
+    assert_eq!(rt; told_of_replay(rt.alloc(), &checked, &mut run)?, (3, 1, 0));
     Ok(())
+}
+
+// Why the give of a stopped run is refused, whether the run is over then, and what is told of it.
+fn stopped_and_given(
+    alloc: Global,
+    run: &mut Run,
+) -> Result<(Option<GiveError>, bool, (usize, u64, u64)), Fail> {
+    let job = job_of(run.take()?)?;
+    run.stop();
+    let late = error_of_give(alloc, run, job)?;
+    let is_over = matches!(run.take()?, Taken::Stopped);
+    let is_kept = matches!(run.history(), [Event::Start(0), Event::Stop]);
+    Ok((late, is_over && is_kept, told(run)))
 }
 
 #[test]
 fn a_stopped_run_gives_the_job_back(rt: HostRuntime) -> Result<(), Fail> {
     let checked = accepted(rt.alloc(), ONE_PING).ok_or("refused")?;
-    let mut run = Run::open(rt.alloc(), &checked, 1)?;
-    let job = job_of(run.take()?)?;
-    run.stop();
-    let late = run.give(job, pong(rt.alloc())?);
-    assert_eq!(rt; error_of(&late), Some(GiveError::Stopped));
-    assert!(rt; matches!(run.take()?, Taken::Stopped));
-    assert!(rt; matches!(run.history(), [Event::Start(0), Event::Stop]));
-    assert_eq!(rt; told(&run), (2, 0, 0));
+    let found = stopped_and_given(rt.alloc(), &mut Run::open(rt.alloc(), &checked, 1)?)?;
+    assert_eq!(rt; found, (Some(GiveError::Stopped), true, (2, 0, 0)));
     Ok(())
+}
+
+// Whether the history of a driven run is that of its one task, and what is told of it.
+fn driven(alloc: Global, run: &mut Run) -> Result<(bool, (usize, u64, u64)), Fail> {
+    let mut runner = ScriptRunner::read(alloc, b"{\"h1\":[{\"ping\":\"pong\"}]}")?;
+    drive(run, &mut runner)?;
+    let is_done = matches!(
+        run.history(),
+        [Event::Start(0), Event::Give(0, _), Event::Turn]
+    );
+    Ok((is_done, told(run)))
 }
 
 #[test]
 fn drive_runs_to_the_end(rt: HostRuntime) -> Result<(), Fail> {
     let checked = accepted(rt.alloc(), ONE_PING).ok_or("refused")?;
-    let mut run = Run::open(rt.alloc(), &checked, 1)?;
-    let mut runner = ScriptRunner::read(rt.alloc(), b"{\"h1\":[{\"ping\":\"pong\"}]}")?;
-    drive(&mut run, &mut runner)?;
-    assert!(rt;
-        matches!(
-            run.history(),
-            [Event::Start(0), Event::Give(0, _), Event::Turn]
-        )
-    );
-    assert_eq!(rt; told(&run), (3, 1, 0));
+    let found = driven(rt.alloc(), &mut Run::open(rt.alloc(), &checked, 1)?)?;
+    assert_eq!(rt; found, (true, (3, 1, 0)));
     Ok(())
 }

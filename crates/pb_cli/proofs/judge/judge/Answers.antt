@@ -11,6 +11,9 @@ use Rattle.pb_cli.specs.Judged.{book_verdict, inventory_verdict}
 use Rattle.pb_cli.proofs.Verdicts.{book_read, book_says, inventory_read, inventory_says, tells_accepted, tells_book, tells_inventory, tells_refused}
 use Rattle.pb_cli.proofs.judge.judge.Goals as goal
 
+pub returns-then-is_some-clause-signatures : goal.returns-then-is_some-clause-signatures
+returns-then-is_some-clause-signatures c = λ _. ap (λ f. Err f) c.whole.ensures
+
 pub returns-in_err-inventory-clause-verdict : goal.returns-in_err-inventory-clause-verdict
 returns-in_err-inventory-clause-verdict c = λ _.
     let p = err_from_is_err_and c.from_residual-in_err-inventory.result c.from_residual-in_err-inventory.ensures.1 in

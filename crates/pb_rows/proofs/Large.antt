@@ -57,8 +57,8 @@ abbrev hosts_from : ℕ → ℕ → List HostVariables
 hosts_from n zero = []
 hosts_from n (suc k) = record { name = 104 ∷ n / 256 ∷ n % 256 ∷ []; variables = no_fields } ∷ hosts_from (suc n) k
 
-abbrev many_hosts : Inventory
-many_hosts = record { hosts = hosts_from 0 1024; groups = record { name = codes "all"; hosts = host_names (hosts_from 0 1024) } ∷ [] }
+abbrev inventory : ℕ → Inventory
+inventory n = record { hosts = hosts_from 0 n; groups = record { name = codes "all"; hosts = host_names (hosts_from 0 n) } ∷ [] }
 
 abbrev ping : TaskData
 ping = record (command 2) { work = module_work (codes "ping") no_parts }
@@ -66,22 +66,24 @@ ping = record (command 2) { work = module_work (codes "ping") no_parts }
 abbrev one_ping : Book
 one_ping = record { line = 1; pattern = codes "all" ∷ []; gathering = None; vars = no_parts; is_linear = true; serial = []; pre_tasks = no_steps; tasks = task_step ping no_steps; post_tasks = no_steps; handlers = [] } ∷ []
 
+-- as many hosts as an inventory may have
+many_budget : judged builtins (inventory 1024) one_ping ≡ accepted 1024
+many_budget = refl
+
 abbrev starts_from : ℕ → ℕ → List Event
 starts_from n zero = []
 starts_from n (suc k) = start n ∷ starts_from (suc n) k
 
+-- more hosts than the most forks
 abbrev opened : State
-opened = opening (program_of builtins many_hosts one_ping) many_hosts 256
-
-many_budget : judged builtins many_hosts one_ping ≡ accepted 1024
-many_budget = refl
+opened = opening (program_of builtins (inventory 260) one_ping) (inventory 260) 256
 
 -- the hosts start in their order
 first_of_all : next_start opened ≡ Some (record { number = 0; place = 0 })
 first_of_all = refl
 
 -- as many hosts start as there are forks
-all_start : history opened (starts_from 0 300) ≡ starts_from 0 256
+all_start : history opened (starts_from 0 260) ≡ starts_from 0 256
 all_start = refl
 
 abbrev started : State

@@ -128,10 +128,9 @@ fn ungrouped_host(alloc: Global) -> Result<Host, AllocError>
     ensures vars { IfOk result (λ h. fields_view h.vars.entries ≡ no_fields) }
 {
     let ungrouped = Arc::new(alloc, String::from_str(alloc, "ungrouped")?)?;
-    Ok(Host {
-        groups: vec![in alloc; ungrouped]?,
-        vars: Fields::new(alloc),
-    })
+    let groups = vec![in alloc; ungrouped]?;
+    let vars = Fields::new(alloc);
+    Ok(Host { groups, vars })
 }
 
 /// The groups that the only host stands in.

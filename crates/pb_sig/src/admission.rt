@@ -1,5 +1,5 @@
 // Which answers of a module are admitted, and as what.
-ghost use Rattle.std.specs.Prelude.{◌≡◌, IfOk, Some, option_map, codes};
+ghost use Rattle.std.specs.Prelude.{◌≡◌, IfOk, Some, cond, option_map, codes};
 ghost use Rattle.pb_semantics.specs.Data.{boolean, field_value, put_field, rec};
 ghost use Rattle.pb_value.specs.View.{view, fields_view};
 ghost use Rattle.pb_value.specs.KindView.{kind_view};
@@ -96,13 +96,19 @@ fn kept_as(alloc: Global, failed: bool, kept: Value) -> Result<Admission, AllocE
     match kept {
         Value::Rec(fields) => {
             let value = Value::of_fields(alloc, put(alloc, owned(fields)?, "failed", failed)?)?;
-            if failed {
-                Ok(Admission::Failed(value))
-            } else {
-                Ok(Admission::Ok(value))
-            }
+            Ok(admitted(failed, value))
         }
         _ => Ok(Admission::Breach),
+    }
+}
+
+fn admitted(failed: bool, value: Value) -> Admission
+    ensures { result ≡ cond failed (Admission.Failed value) (Admission.Ok value) }
+{
+    if failed {
+        Admission::Failed(value)
+    } else {
+        Admission::Ok(value)
     }
 }
 

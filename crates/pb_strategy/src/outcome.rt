@@ -233,9 +233,9 @@ fn answered(
 {
     match answers.first() {
         Some(Answer::Object(value)) => Ok(object_answered(alloc, task, value, registry)?),
-        Some(Answer::Unreachable) => Ok(left(alloc, Ending::Unreachable)?),
-        Some(Answer::Broken(_)) => Ok(left(alloc, Ending::Failed)?),
-        None => Ok(left(alloc, Ending::Failed)?),
+        Some(Answer::Unreachable) => Ok(left(alloc, Ending::Unreachable)),
+        Some(Answer::Broken(_)) => Ok(left(alloc, Ending::Failed)),
+        None => Ok(left(alloc, Ending::Failed)),
     }
 }
 
@@ -253,9 +253,9 @@ fn object_answered(
     match &task.work {
         Work::Module(name) => match registry.find(name.as_str()) {
             Some(module) => Ok(admitted(alloc, task, module, answer)?),
-            None => Ok(left(alloc, Ending::Failed)?),
+            None => Ok(left(alloc, Ending::Failed)),
         },
-        Work::Debug | Work::SetFact => Ok(left(alloc, Ending::Failed)?),
+        Work::Debug | Work::SetFact => Ok(left(alloc, Ending::Failed)),
     }
 }
 
@@ -278,18 +278,18 @@ fn admitted(
             let _ = is_changed(&value);
             Ok(ended(alloc, task, Ending::Failed, value)?)
         }
-        Admission::Breach => Ok(left(alloc, Ending::Failed)?),
+        Admission::Breach => Ok(left(alloc, Ending::Failed)),
     }
 }
 
-fn left(alloc: Global, ending: Ending) -> Result<Outcome, AllocError>
-    ensures ending { IfOk result (λ o. o.ending ≡ ending) }
-    ensures writes { IfOk result (λ o. fields_view o.writes.items ≡ no_fields) }
+fn left(alloc: Global, ending: Ending) -> Outcome
+    ensures ending { result.ending ≡ ending }
+    ensures writes { fields_view result.writes.items ≡ no_fields }
 {
-    Ok(Outcome {
+    Outcome {
         ending,
         writes: Vec::new(alloc),
-    })
+    }
 }
 
 // Whether the result's task changed something. The names of a result ascend, so its statuses stand where they would be put.

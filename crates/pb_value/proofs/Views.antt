@@ -1,7 +1,7 @@
 -- What the layers of a value and of a kind mean.
-use Rattle.std.proofs.Common.{◌≡◌, ℕ, Vec, BTreeMap, String, Global, string_bytes}
+use Rattle.std.proofs.Common.{◌≡◌, Bool, ℕ, ℤ, Vec, BTreeMap, String, Global, string_bytes}
 use Rattle.std.specs.declared.sync.Arc.{Arc}
-use Rattle.pb_semantics.specs.Data.{list, rec, text}
+use Rattle.pb_semantics.specs.Data.{null, boolean, int, list, rec, text}
 use Rattle.pb_semantics.specs.Kind.{recs, lists, results}
 use Rattle.pb_value.specs.View.{view, fields_view, items_view}
 use Rattle.pb_value.specs.KindView.{kind_view, slots_view, cases_view}
@@ -32,3 +32,12 @@ kind_view-Result cs r = search (rules, kind_lemmas)
 
 pub view-Text : (s : Arc (String Global) Global) → view (Value-of.Text s) ≡ text (string_bytes s.value)
 view-Text s = search (rules, value_lemmas)
+
+pub view-Null : view Value-of.Null ≡ null
+view-Null = search (rules, value_lemmas)
+
+pub view-Bool : (b : Bool) → view (Value-of.Bool b) ≡ boolean b
+view-Bool b = search (rules, value_lemmas)
+
+pub view-Int : (z : ℤ) → view (Value-of.Int z) ≡ int z
+view-Int z = search (rules, value_lemmas)

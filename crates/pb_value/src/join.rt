@@ -1,6 +1,6 @@
 // The least kind above two others.
-ghost use Rattle.std.specs.Prelude.{◌≡◌, ◌&&◌, IfOk, OnOk, map, max, string_bytes, [], ◌∷◌};
-ghost use Rattle.pb_semantics.specs.Kind.{hosts, put_slot, recs, results};
+ghost use Rattle.std.specs.Prelude.{◌≡◌, ◌&&◌, IfOk, OnOk, map, max, false, string_bytes, [], ◌∷◌};
+ghost use Rattle.pb_semantics.specs.Kind.{hosts, lists, put_slot, recs, results};
 ghost use Rattle.pb_semantics.specs.Join.{
   join as join_of,
   add_names,
@@ -12,6 +12,7 @@ ghost use Rattle.pb_semantics.specs.Join.{
   presence_with,
   kind_with,
   record_with,
+  with_others,
 };
 ghost use Rattle.pb_value.specs.KindView.{
   kind_view,
@@ -38,8 +39,8 @@ pub fn join(alloc: Global, first: &Kind, second: &Kind) -> Result<Kind, AllocErr
     ensures { IfOk result (λ k. kind_view k ≡ join_of (kind_view first.now) (kind_view second.now)) }
 {
     match (first, second) {
-        (Kind::Never, _) => Ok(second.clone()?),
-        (_, Kind::Never) => Ok(first.clone()?),
+        (Kind::Never, _) => second.clone(),
+        (_, Kind::Never) => first.clone(),
         (Kind::Null, Kind::Null) => Ok(Kind::Null),
         (Kind::Bool, Kind::Bool) => Ok(Kind::Bool),
         (Kind::Int, Kind::Int) => Ok(Kind::Int),
@@ -49,15 +50,14 @@ pub fn join(alloc: Global, first: &Kind, second: &Kind) -> Result<Kind, AllocErr
         (Kind::Host(few), Kind::Host(more)) => join_hosts(alloc, few, more),
         (Kind::List(item, most), Kind::List(other, count)) => {
             let item = join(alloc, item, other)?;
-            Ok(Kind::List(Arc::new(alloc, item)?, larger(*most, *count)))
+            list_of(alloc, item, larger(*most, *count))
         }
         (Kind::Rec(slots), Kind::Rec(others)) => join_records(alloc, slots, others),
         (Kind::Rec(slots), Kind::Result(_, record)) => join_with_record(alloc, slots, record),
         (Kind::Result(_, record), Kind::Rec(_)) => join(alloc, record, second),
         (Kind::Result(cases, record), Kind::Result(others, other)) => {
-            let cases = add_cases(alloc, cases, others)?;
             let record = join(alloc, record, other)?;
-            result_of(alloc, cases, record)
+            result_of(alloc, cases, others, record)
         }
         _ => Ok(Kind::Any),
     }
@@ -69,12 +69,36 @@ fn larger(first: usize, second: usize) -> usize
     if first < second { second } else { first }
 }
 
-fn result_of(alloc: Global, cases: Vec<Case<Kind>>, known: Kind) -> Result<Kind, AllocError>
-    ensures { IfOk result (λ k. kind_view k ≡ results (cases_view cases.items) (kind_view known)) }
+fn list_of(alloc: Global, item: Kind, most: usize) -> Result<Kind, AllocError>
+    ensures { IfOk result (λ k. kind_view k ≡ lists (kind_view item) most) }
 {
-    let cases = Arc::new(alloc, cases)?;
+    Ok(Kind::List(Arc::new(alloc, item)?, most))
+}
+
+/// A result with the cases of both.
+fn result_of(
+    alloc: Global,
+    cases: &Vec<Case<Kind>>,
+    others: &Vec<Case<Kind>>,
+    known: Kind,
+) -> Result<Kind, AllocError>
+    ensures { IfOk result (λ k. kind_view k ≡ results
+        (both_cases (cases_view cases.now.items) (cases_view others.now.items)) (kind_view known)) }
+{
     let known = Arc::new(alloc, known)?;
+    let cases = share_cases(alloc, cases, others)?;
     Ok(Kind::Result(cases, known))
+}
+
+fn share_cases(
+    alloc: Global,
+    cases: &Vec<Case<Kind>>,
+    others: &Vec<Case<Kind>>,
+) -> Result<Arc<Vec<Case<Kind>>>, AllocError>
+    ensures { IfOk result (λ a. cases_view a.value.items ≡ both_cases (cases_view cases.now.items) (cases_view others.now.items)) }
+{
+    let all = add_cases(alloc, cases, others)?;
+    Ok(Arc::new(alloc, all)?)
 }
 
 fn join_hosts(
@@ -134,14 +158,30 @@ pub fn join_slots(alloc: Global, first: &Slots, second: &Slots) -> Result<Slots,
         ≡ both_slots (slots_view first.now.entries) (slots_view second.now.entries)) }
 {
     let mut all = meet_slots(alloc, first, second)?;
+    add_others(&mut all, first, second)?;
+    Ok(all)
+}
+
+/// The second's slots that the first lacks, each uncertain.
+fn add_others(all: &mut Slots, first: &Slots, second: &Slots) -> Result<(), AllocError>
+    ensures { OnOk result (slots_view all.new.entries ≡ with_others
+        (slots_view second.now.entries) (slots_view first.now.entries) (slots_view all.old.entries)) }
+{
     for (name, slot) in second.iter() {
         if !has_field(first, name.as_str()) {
-            let kind = slot.kind.clone()?;
-            let presence = Presence::Maybe;
-            put(&mut all, name, Slot { presence, kind })?;
+            put_uncertain(all, name, &slot.kind)?;
         }
     }
-    Ok(all)
+    Ok(())
+}
+
+fn put_uncertain(slots: &mut Slots, name: &String, kind: &Kind) -> Result<(), AllocError>
+    ensures { OnOk result (slots_view slots.new.entries
+        ≡ put_slot (string_bytes name.now) false (kind_view kind.now) (slots_view slots.old.entries)) }
+{
+    let kind = kind.clone()?;
+    let presence = Presence::Maybe;
+    put(slots, name, Slot { presence, kind })
 }
 
 /// The first's slots, each with what the second knows of it.
@@ -152,37 +192,32 @@ fn meet_slots(alloc: Global, first: &Slots, second: &Slots) -> Result<Slots, All
     let mut all = BTreeMap::new(alloc);
     for (name, slot) in first.iter() {
         let found = find(second, name.as_str());
-        let met = meet_slot(alloc, &slot.kind, slot.presence, found)?;
-        put(&mut all, name, met)?;
+        put_met(alloc, &slot.kind, slot.presence, found, &mut all, name)?;
     }
     Ok(all)
 }
 
+/// Puts the first's slot with what the second knows of it.
 #[cycle(join)]
-fn meet_slot(
+fn put_met(
     alloc: Global,
     kind: &Kind,
     presence: Presence,
     found: Option<&Slot<Kind>>,
-) -> Result<Slot<Kind>, AllocError>
-    ensures certain { IfOk result (λ s. is_certain s.presence ≡ presence_with (is_certain presence) (spot_view found.entry)) }
-    ensures kinds { IfOk result (λ s. kind_view s.kind
-        ≡ kind_with (kind_view kind.now) (λ m. join_of (kind_view kind.now) m) (spot_view found.entry)) }
+    slots: &mut Slots,
+    name: &String,
+) -> Result<(), AllocError>
+    ensures { OnOk result (slots_view slots.new.entries ≡ put_slot (string_bytes name.now)
+        (presence_with (is_certain presence) (spot_view found.entry))
+        (kind_with (kind_view kind.now) (λ m. join_of (kind_view kind.now) m) (spot_view found.entry))
+        (slots_view slots.old.entries)) }
 {
     match found {
-        None => {
-            let kind = kind.clone()?;
-            Ok(Slot {
-                presence: Presence::Maybe,
-                kind,
-            })
-        }
+        None => put_uncertain(slots, name, kind),
         Some(other) => {
             let kind = join(alloc, kind, &other.kind)?;
-            Ok(Slot {
-                presence: both(presence, other.presence),
-                kind,
-            })
+            let presence = both(presence, other.presence);
+            put(slots, name, Slot { presence, kind })
         }
     }
 }

@@ -15,7 +15,7 @@ returns-in_ok-ended-in-Failed c =
     failed_comes (builtin_view c.args.«module».now) c.args.task.now (view c.args.answer.now) c.in_ok-ended-in-Failed.field-0 (view c.in-Failed.value)
     (sym c.in_ok-value.ensures ∙ ap admission_view c.in-Failed.is) c.is_changed.ensures.same c.in_ok-ended-in-Failed.ensures.ending c.in_ok-ended-in-Failed.ensures.writes
 
-pub returns-in_ok-left-in-Breach : goal.returns-in_ok-left-in-Breach
-returns-in_ok-left-in-Breach c =
-    breach_comes (builtin_view c.args.«module».now) c.args.task.now (view c.args.answer.now) c.in_ok-left-in-Breach.field-0
-    (sym c.in_ok-value.ensures ∙ ap admission_view c.in-Breach.is) c.in_ok-left-in-Breach.ensures.ending c.in_ok-left-in-Breach.ensures.writes
+pub returns-in-Breach : goal.returns-in-Breach
+returns-in-Breach c =
+    breach_comes (builtin_view c.args.«module».now) c.args.task.now (view c.args.answer.now) c.left.result
+    (sym c.in_ok-value.ensures ∙ ap admission_view c.in-Breach.is) c.left.ensures.ending c.left.ensures.writes

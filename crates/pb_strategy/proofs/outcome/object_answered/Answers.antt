@@ -9,11 +9,11 @@ use Rattle.pb_verify.proofs.RuleModules.{module_found}
 use Rattle.pb_verify.proofs.WalkModules.{found_plain}
 use Rattle.pb_strategy.proofs.outcome.object_answered.Goals as goal
 
-pub returns-in_ok-left-in-Debug : goal.returns-in_ok-left-in-Debug
-returns-in_ok-left-in-Debug c = λ d xs h r ts.
+pub returns-in-Debug : goal.returns-in-Debug
+returns-in-Debug c = λ d xs h r ts.
     let t = plain_task c.args.task.now in
     let none : work_calls t.work ≡ 0 = elim c.in-Debug.is [ inl e ↦ rw e refl | inr e ↦ rw e refl ] in
-    (r.failure, rw (c.in_ok-left-in-Debug.ensures.ending, c.in_ok-left-in-Debug.ensures.writes) (stranger_gives (modules_of c.args.registry.now) h r t ts xs d (view c.args.answer.now) none))
+    (r.failure, rw (c.left-in-Debug.ensures.ending, c.left-in-Debug.ensures.writes) (stranger_gives (modules_of c.args.registry.now) h r t ts xs d (view c.args.answer.now) none))
 
 pub returns-in_ok-admitted-in-Some : goal.returns-in_ok-admitted-in-Some
 returns-in_ok-admitted-in-Some c = λ d xs.

@@ -1,12 +1,31 @@
-use Rattle.std.proofs.Common.{◌≡◌, List, [], BTreeMap, String, Global, refl, sym, ap, ◌∙◌}
+use Rattle.std.proofs.Common.{◌≡◌, List, [], BTreeMap, String, Global, refl, sym, ap, ◌∙◌, rules}
+use Rattle.pb_value.specs.declared.kind.Kind.{the_lemmas as kind_lemmas}
 use Rattle.pb_semantics.specs.Kind.{recs}
 use Rattle.pb_value.specs.KindView.{slots_view}
 use Rattle.pb_value.specs.declared.kind.Kind.{Kind}
 use Rattle.pb_value.specs.declared.kind.Slot.{Slot}
 use Rattle.pb_value.proofs.Views.{kind_view-Rec, kind_view-Result}
-use Rattle.pb_value.proofs.KindLemmas.{SlotEntry, kind_view-Host, kind_view-Never, kind_view-Text}
+use Rattle.pb_value.proofs.KindLemmas.{SlotEntry, kind_view-Bool, kind_view-Host, kind_view-Int, kind_view-Never, kind_view-Null, kind_view-Text}
 use Rattle.pb_value.proofs.JoinLemmas.{built, built_joined}
 use Rattle.pb_value.proofs.join.+join.Goals as goal
+
+pub join-returns-in-Null-Null : goal.join-returns-in-Null-Null
+join-returns-in-Null-Null t c = rw (c.in-Null-Null.is-0, c.in-Null-Null.is-1, kind_view-Null) refl
+
+pub join-returns-in-Bool-Bool : goal.join-returns-in-Bool-Bool
+join-returns-in-Bool-Bool t c = rw (c.in-Bool-Bool.is-0, c.in-Bool-Bool.is-1, kind_view-Bool) refl
+
+pub join-returns-in-Int-Int : goal.join-returns-in-Int-Int
+join-returns-in-Int-Int t c = rw (c.in-Int-Int.is-0, c.in-Int-Int.is-1, kind_view-Int) refl
+
+pub join-returns-in_default : goal.join-returns-in_default
+join-returns-in_default t c = search (rules, kind_lemmas)
+
+pub join-returns-in-Text-Text : goal.join-returns-in-Text-Text
+join-returns-in-Text-Text t c = rw (c.in-Text-Text.is-0, c.in-Text-Text.is-1, kind_view-Text) refl
+
+pub join-returns-in-Text-Host : goal.join-returns-in-Text-Host
+join-returns-in-Text-Host t c = rw (c.in-Text-Host.is-0, c.in-Text-Host.is-1, kind_view-Host, kind_view-Text) refl
 
 pub join-returns-in-Host-Text : goal.join-returns-in-Host-Text
 join-returns-in-Host-Text t c = rw (c.in-Host-Text.is-0, c.in-Host-Text.is-1, kind_view-Host, kind_view-Text) refl
@@ -33,7 +52,6 @@ join-returns-in_ok-record-in-Result-Result t c =
       ← c.deref-in-Result-Result-2.ensures,
       ← c.deref-in-Result-Result-3.ensures,
       ← c.deref-in-Result-Result-4.ensures,
-      ← c.in_ok-cases-in-Result-Result.ensures,
       ← c.in_ok-record-in-Result-Result.ensures,
     ) c.result_of.ensures
 

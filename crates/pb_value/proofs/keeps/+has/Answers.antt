@@ -1,12 +1,55 @@
-use Rattle.std.proofs.Common.{◌≡◌, ◌≤◌, ◌<◌, length, nat_le, true, false, refl, sym, ap, ◌∙◌, arith}
+use Rattle.std.proofs.Common.{◌≡◌, ◌≤◌, ◌<◌, length, nat_le, true, false, refl, sym, ap, ◌∙◌, arith, rules}
+use Rattle.pb_value.specs.declared.kind.Kind.{the_lemmas as kind_lemmas}
+use Rattle.pb_value.specs.declared.value.Value.{the_lemmas as value_lemmas}
 use Rattle.std.proofs.lemmas.Bool.Decides.{nat_tests}
 use Rattle.pb_semantics.specs.Keeps.{slots_kept}
 use Rattle.pb_value.specs.KindView.{kind_view, slots_view}
 use Rattle.pb_value.specs.View.{fields_view}
-use Rattle.pb_value.proofs.Views.{view-List, view-Rec, view-Text, kind_view-List, kind_view-Rec, kind_view-Result}
-use Rattle.pb_value.proofs.KindLemmas.{kind_view-Text}
+use Rattle.pb_value.proofs.Views.{view-Null, view-Bool, view-Int, view-List, view-Rec, view-Text, kind_view-List, kind_view-Rec, kind_view-Result}
+use Rattle.pb_value.proofs.KindLemmas.{kind_view-Any, kind_view-Null, kind_view-Bool, kind_view-Int, kind_view-Text, kind_view-Host}
 use Rattle.pb_value.proofs.KeptLists.{keeps-short, keeps-long}
 use Rattle.pb_value.proofs.keeps.+has.Goals as goal
+
+pub has-returns-in-Any-default : goal.has-returns-in-Any-default
+has-returns-in-Any-default t c = rw (c.in-Any-default.is-0, kind_view-Any) refl
+
+pub has-returns-in-Null-Null : goal.has-returns-in-Null-Null
+has-returns-in-Null-Null t c = rw (c.in-Null-Null.is-0, c.in-Null-Null.is-1, view-Null, kind_view-Null) refl
+
+pub has-returns-in-Bool-Bool : goal.has-returns-in-Bool-Bool
+has-returns-in-Bool-Bool t c = rw (c.in-Bool-Bool.is-0, c.in-Bool-Bool.is-1, view-Bool, kind_view-Bool) refl
+
+pub has-returns-in-Int-Int : goal.has-returns-in-Int-Int
+has-returns-in-Int-Int t c = rw (c.in-Int-Int.is-0, c.in-Int-Int.is-1, view-Int, kind_view-Int) refl
+
+pub has-returns-in-Host-Text : goal.has-returns-in-Host-Text
+has-returns-in-Host-Text t c =
+    let p = c.in-Host-Text in
+    c.has_name.ensures ∙ rw (p.is-0, p.is-1, view-Text, kind_view-Host, c.as_str.ensures.value, c.deref.ensures, c.deref-in-Host-Text.ensures) refl
+
+pub has-returns-in_default : goal.has-returns-in_default
+has-returns-in_default t c = search (rules, kind_lemmas, value_lemmas)
+
+pub has-returns-in_default-2 : goal.has-returns-in_default-2
+has-returns-in_default-2 t c = search (rules, kind_lemmas, value_lemmas)
+
+pub has-returns-in_default-3 : goal.has-returns-in_default-3
+has-returns-in_default-3 t c = search (rules, kind_lemmas, value_lemmas)
+
+pub has-returns-in_default-4 : goal.has-returns-in_default-4
+has-returns-in_default-4 t c = search (rules, kind_lemmas, value_lemmas)
+
+pub has-returns-in_default-5 : goal.has-returns-in_default-5
+has-returns-in_default-5 t c = search (rules, kind_lemmas, value_lemmas)
+
+pub has-returns-in_default-6 : goal.has-returns-in_default-6
+has-returns-in_default-6 t c = search (rules, kind_lemmas, value_lemmas)
+
+pub has-returns-in_default-7 : goal.has-returns-in_default-7
+has-returns-in_default-7 t c = search (rules, kind_lemmas, value_lemmas)
+
+pub has-returns-in_default-8 : goal.has-returns-in_default-8
+has-returns-in_default-8 t c = search (rules, kind_lemmas, value_lemmas)
 
 pub has-returns-in-Text-Text : goal.has-returns-in-Text-Text
 has-returns-in-Text-Text t c = rw (c.in-Text-Text.is-0, c.in-Text-Text.is-1, view-Text, kind_view-Text) refl

@@ -1,4 +1,6 @@
-use Rattle.std.proofs.Common.{not, ◌≡◌, ◌≤◌, ◌<◌, [], ◌∷◌, ◌++◌, ◌+◌, length, drop, map, true, false, Some, None, string_bytes, refl, sym, ap, ◌∙◌, subst, append_assoc, arith}
+use Rattle.std.proofs.Common.{not, ◌≡◌, ◌≤◌, ◌<◌, [], ◌∷◌, ◌++◌, ◌+◌, length, drop, map, true, false, Some, None, string_bytes, refl, sym, ap, ◌∙◌, subst, append_assoc, arith, rules}
+use Rattle.pb_value.specs.declared.kind.Kind.{the_lemmas as kind_lemmas}
+use Rattle.pb_value.specs.declared.value.Value.{the_lemmas as value_lemmas}
 use Rattle.std.proofs.lemmas.Grind.{common_steps}
 use Rattle.std.specs.List.Sorted.{IsStrictlySortedBy}
 use Rattle.std.specs.Map.{keys_of}
@@ -33,8 +35,8 @@ project_fields-loop-name-preserved-in-Continue-branch-3 t c =
     let step : c.loop-name.name-iterator ≡ e ∷ left = c.in-Some.ensures.steps in
     let all : c.args.slots.now.entries ≡ done ++ e ∷ left = l.1 ∙ ap (λ es. done ++ es) step in
     let above : IsAbove n so_far = l.2 e left step in
-    let there = rw c.as_str.ensures.value at c.in-Some-field_at.ensures in
-    let fit = rw c.in-Some-2.is at c.in_ok-value-in-Some-field_at.ensures in
+    let there = rw c.as_str.ensures.value at c.in-Some-field_of.ensures in
+    let fit = rw c.in-Some-2.is at c.in_ok-value-in-Some-field_of.ensures in
     let put : fields_view c.put.new.fields.entries ≡ append_fields so_far (field n v no_fields) = c.in_ok-put-in-Some-2.ensures ∙ put_field-above n v so_far above in
     let rest = projected_fields fs (slots_view left) in (
       done ++ e ∷ [],
@@ -58,7 +60,7 @@ project_fields-loop-name-preserved t c =
     let step : c.loop-name.name-iterator ≡ e ∷ left = c.in-Some.ensures.steps in
     let all : c.args.slots.now.entries ≡ done ++ e ∷ left = l.1 ∙ ap (λ es. done ++ es) step in
     let above : IsAbove n so_far = l.2 e left step in
-    let lacks = rw c.as_str.ensures.value at c.in-None-field_at.ensures in
+    let lacks = rw c.as_str.ensures.value at c.in-None-field_of.ensures in
     let rest = projected_fields fs (slots_view left) in (
       done ++ e ∷ [],
       all ∙ sym (append_assoc done (e ∷ []) left),
@@ -96,6 +98,9 @@ project_each-returns t c =
     c.loop-item.invariant ∙ ap (λ es. and_items so_far (projected_items (λ d. projected d (kind_view c.args.kind.now)) (items_view es))) none ∙ ap Some (append_items-none so_far) in
     sym (rw c.deref-item-items.ensures.value at whole)
 
+pub project_onto-returns-in_default : goal.project_onto-returns-in_default
+project_onto-returns-in_default t c = search (rules, kind_lemmas, value_lemmas)
+
 pub project_onto-returns-then-len-most : goal.project_onto-returns-then-len-most
 project_onto-returns-then-len-most t c =
     let p = c.in-List-List in
@@ -117,12 +122,12 @@ project_onto-returns-in_ok-kept-in-Rec-Rec t c =
     let all = rw (c.deref-in-Rec-Rec.ensures, c.deref-in-Rec-Rec-2.ensures) at c.in_ok-kept-in-Rec-Rec.ensures in
     rw (p.is-0, p.is-1, view-Rec, kind_view-Rec, ← all) c.record_of.ensures
 
-pub project_onto-returns-in_ok-clone-in-Host-Text : goal.project_onto-returns-in_ok-clone-in-Host-Text
-project_onto-returns-in_ok-clone-in-Host-Text t c =
+pub project_onto-returns-then-has_name : goal.project_onto-returns-then-has_name
+project_onto-returns-then-has_name t c =
     let p = c.in-Host-Text in
     let among = sym c.has_name.ensures ∙ c.if-has_name.true in
     let among : is_among (string_bytes p.text.value) (map (λ n. string_bytes n) p.names.value.keys) ≡ true = rw (c.as_str.ensures.value, c.deref.ensures, c.deref-in-Host-Text.ensures) at among in
-    ap Some (c.in_ok-clone-in-Host-Text.ensures.cases) ∙ sym (rw (p.is-0, p.is-1, view-Text, kind_view-Host, among) refl)
+    rw (p.is-0, p.is-1, view-Text, kind_view-Host, among, ← view-Text p.text, ← p.is-1) c.whole.ensures
 
 pub project_onto-returns-else-has_name : goal.project_onto-returns-else-has_name
 project_onto-returns-else-has_name t c =

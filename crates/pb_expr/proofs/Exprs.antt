@@ -1,7 +1,7 @@
 -- The layers of values and of expressions.
 use Rattle.std.proofs.Common.{◌≡◌, Bool, Box, Vec, Global, rules}
 use Rattle.pb_semantics.specs.Data.{boolean, opaque}
-use Rattle.pb_language.specs.Expression.{equal, literal, negation, conjunction, disjunction, comparison, membership}
+use Rattle.pb_language.specs.Expression.{equal, literal, negation, conjunction, disjunction, comparison, membership, list_of}
 use Rattle.pb_value.specs.View.{view}
 use Rattle.pb_value.specs.declared.value.Value as Value-of
 use Rattle.pb_value.specs.declared.value.Value.{Value, the_lemmas as value_lemmas}
@@ -32,6 +32,9 @@ view-And v = search (rules, the_lemmas)
 
 pub view-Or : (v : Vec Expr Global) → expr_view (Expr-of.Or v) ≡ disjunction (exprs_view v.items)
 view-Or v = search (rules, the_lemmas)
+
+pub view-List : (v : Vec Expr Global) → expr_view (Expr-of.List v) ≡ list_of (exprs_view v.items)
+view-List v = search (rules, the_lemmas)
 
 pub view-Literal : (v : Value) → expr_view (Expr-of.Literal v) ≡ literal (view v)
 view-Literal v = search (rules, the_lemmas)

@@ -1,5 +1,5 @@
 -- The value of a form beside the values of its operands.
-use Rattle.std.proofs.Common.{◌≡◌, ℕ, List, [], ◌∷◌, ◌++◌, Bool, true, false, ◌||◌, Some, refl, sym, ap, ◌∙◌}
+use Rattle.std.proofs.Common.{◌≡◌, ℕ, List, [], ◌∷◌, ◌++◌, Bool, true, false, ◌||◌, Some, None, refl, sym, ap, ◌∙◌}
 use Rattle.pb_semantics.specs.Data.{Data, Items, Fields, null, boolean, int, text, list, rec, opaque, no_items, item, no_fields, field}
 use Rattle.pb_language.specs.Expression.{Expressions, no_expressions, expression}
 use Rattle.pb_language.specs.World.{World}
@@ -24,11 +24,6 @@ equal-both (stuck s) p = refl
 equal-both (value d) (stuck s) = rw (or_right (holds_opaque d)) refl
 equal-both (value d) (value e) = refl
 
-unequal-both : (o p : Outcome) → shown (then_go (equal_values (shown o) (shown p)) negated) ≡ shown (then_go (then_go o (λ d. then_go p (equal_values d))) negated)
-unequal-both (stuck s) p = refl
-unequal-both (value d) (stuck s) = rw (or_right (holds_opaque d)) refl
-unequal-both (value d) (value e) = refl
-
 found-opaque : (e : Data) → shown (found_in opaque e) ≡ opaque
 found-opaque (list es) = refl
 found-opaque e = refl
@@ -47,10 +42,6 @@ found-both (value d) (value e) = refl
 pub equal-by : (r d e : Data) (o p : Outcome) → r ≡ shown (equal_values d e) → d ≡ shown o → e ≡ shown p → r ≡ shown (then_go o (λ x. then_go p (equal_values x)))
 equal-by r d e o p h i j =
     h ∙ ap (λ x. shown (equal_values x e)) i ∙ ap (λ x. shown (equal_values (shown o) x)) j ∙ equal-both o p
-
-pub unequal-by : (r d e : Data) (o p : Outcome) → r ≡ shown (then_go (equal_values d e) negated) → d ≡ shown o → e ≡ shown p → r ≡ shown (then_go (then_go o (λ x. then_go p (equal_values x))) negated)
-unequal-by r d e o p h i j =
-    h ∙ ap (λ x. shown (then_go (equal_values x e) negated)) i ∙ ap (λ x. shown (then_go (equal_values (shown o) x) negated)) j ∙ unequal-both o p
 
 pub found-by : (r d e : Data) (o p : Outcome) → r ≡ shown (found_in d e) → d ≡ shown o → e ≡ shown p → r ≡ shown (then_go o (λ x. then_go p (found_in x)))
 found-by r d e o p h i j = h ∙ ap (λ x. shown (found_in x e)) i ∙ ap (λ x. shown (found_in (shown o) x)) j ∙ found-both o p
@@ -77,6 +68,17 @@ and-true w (value (boolean true)) es e = all_only w es
 and-true w (value (boolean false)) es e = cc
 and-true w (value d) es e = cc
 
+pub and-false : (o p : Outcome) → truth (shown o) ≡ Some false → shown (then_go o (λ d. and_then d p)) ≡ boolean false
+and-false (stuck s) p e = cc
+and-false (value (boolean true)) p e = cc
+and-false (value (boolean false)) p e = refl
+and-false (value d) p e = cc
+
+pub and-spoilt : (o p : Outcome) → truth (shown o) ≡ None → shown (then_go o (λ d. and_then d p)) ≡ opaque
+and-spoilt (stuck s) p e = refl
+and-spoilt (value (boolean b)) p e = cc
+and-spoilt (value d) p e = refl
+
 -- a chain of `or`
 or_only : (o p : Outcome) → then_go (then_go o (λ d. or_then d p)) only_boolean ≡ then_go o (λ d. or_then d p)
 or_only (stuck s) p = refl
@@ -93,6 +95,17 @@ or-false w (stuck s) es e = cc
 or-false w (value (boolean true)) es e = cc
 or-false w (value (boolean false)) es e = any_only w es
 or-false w (value d) es e = cc
+
+pub or-true : (o p : Outcome) → truth (shown o) ≡ Some true → shown (then_go o (λ d. or_then d p)) ≡ boolean true
+or-true (stuck s) p e = cc
+or-true (value (boolean true)) p e = refl
+or-true (value (boolean false)) p e = cc
+or-true (value d) p e = cc
+
+pub or-spoilt : (o p : Outcome) → truth (shown o) ≡ None → shown (then_go o (λ d. or_then d p)) ≡ opaque
+or-spoilt (stuck s) p e = refl
+or-spoilt (value (boolean b)) p e = cc
+or-spoilt (value d) p e = refl
 
 -- a part that may be read goes into the whole, and one that may not spoils it
 abbrev with_first_item : Data → Outcome → Outcome

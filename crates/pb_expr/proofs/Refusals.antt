@@ -1,8 +1,13 @@
 -- A fault that is passed on refuses what it refused.
-use Rattle.std.proofs.Common.{◌≡◌, ℕ, List, Option, None, Result, Ok, Err, IfErr, subst, sym}
+use Rattle.std.proofs.Common.{◌≡◌, ℕ, List, drop, Option, None, Result, Ok, Err, IfErr, subst, sym, ap, ◌∙◌}
 use Rattle.std.specs.Result.{IsErrAnd}
+use Rattle.pb_language.specs.Grammar.{all_of, deeper, disjunction_of, expression_of}
+use Rattle.pb_language.specs.Tokens.{tokens_of}
+use Rattle.pb_expr.specs.Letters.{tokens_at}
 use Rattle.pb_expr.specs.Reads.{IsRefused}
-use Rattle.pb_expr.specs.Trees.{Refuses}
+use Rattle.pb_expr.specs.Trees.{IsTree, Refuses}
+use Rattle.pb_expr.specs.declared.expr.Expr.{Expr}
+use Rattle.pb_expr.specs.declared.lexer.Token.{Token as Place}
 use Rattle.pb_expr.specs.declared.fault.ExprFault.{ExprFault}
 use Rattle.pb_expr.specs.declared.fault.ExprFault.TheVariants.{Unreadable, TooDeep, NotBuilt, NoMemory}
 
@@ -23,3 +28,12 @@ refuses-more NoMemory x y h g = tt
 pub passed-refused : {A X : Type 0} → (bs : List ℕ) (r : Result A ExprFault) (f : ExprFault) (x : Option X) → IsErrAnd r (λ e. e ≡ f) → IsRefused X bs f x → IfErr r (λ e. IsRefused X bs e x)
 passed-refused {X = X} bs (Ok a) f x h g = tt
 passed-refused {X = X} bs (Err e) f x h g = subst (λ e. IsRefused X bs e x) (sym h) g
+
+-- what isn't read as an operand is no expression
+pub tree-refused : (n : ℕ) (bs : List ℕ) (from : ℕ) (t : Place) (r : Result Expr ExprFault) (f : ExprFault) → n ≡ 32 → tokens_at bs t ≡ tokens_of (drop from bs)
+    → IsErrAnd r (λ e. e ≡ f) → Refuses f (disjunction_of (deeper n) (tokens_at bs t)) → IsTree r (expression_of (drop from bs))
+tree-refused n bs from t (Ok e) f deep there h g = absurd h
+tree-refused n bs from t (Err e) f deep there h g =
+    subst (λ e. Refuses e (expression_of (drop from bs))) (sym h)
+    (refuses-more f (disjunction_of (deeper n) (tokens_at bs t)) (expression_of (drop from bs)) g
+    (λ none. ap (λ ts. all_of (disjunction_of (deeper 32) ts)) (sym there) ∙ ap (λ n. all_of (disjunction_of (deeper n) (tokens_at bs t))) (sym deep) ∙ ap all_of none))

@@ -1,7 +1,7 @@
 -- What the forms of the grammar read at a token of the code, by its sort.
 use Rattle.std.proofs.Common.{◌≡◌, ℕ, zero, suc, ◌-◌, ◌<◌, List, drop, Option, Some, None, refl, sym, ap, ◌∙◌, arith}
 use Rattle.pb_language.specs.Expression.{Name, Expression, negation}
-use Rattle.pb_language.specs.Grammar.{Reading, reading, Reader, before, closed, behind_word, count_of, disjunction_of, negation_of, deeper, with_tree}
+use Rattle.pb_language.specs.Grammar.{Reading, reading, Reader, before, closed, behind_word, count_of, disjunction_of, negation_of, deeper, with_tree, all_of, expression_of}
 use Rattle.pb_language.specs.Tokens.{Tokens, and_word, or_word, tokens_of}
 use Rattle.pb_expr.specs.Letters.{sort_tokens, letters_at, meaning_at, tokens_at}
 use Rattle.pb_expr.specs.declared.lexer.Sort.{Sort}
@@ -77,3 +77,20 @@ pub negation-read : (n : ℕ) (bs : List ℕ) (t first : Place) (e : Expression)
 negation-read n bs t first e u is some next h =
     ap (negation_of (deeper n)) (of_sort bs t sort.Not is) ∙ ap (λ (f : Reader). with_tree (λ x. negation x) (f (behind bs t))) (negated-deeper n some)
     ∙ ap (λ ts. with_tree (λ x. negation x) (negation_of (deeper (n - 1)) ts)) (sym next) ∙ ap (with_tree (λ x. negation x)) h
+
+-- an expression behind which the text ends, and one behind which it goes on
+pub whole-read : (n : ℕ) (bs : List ℕ) (from : ℕ) (t : Place) (e : Expression) (u : Place) → n ≡ 32 → tokens_at bs t ≡ tokens_of (drop from bs)
+    → disjunction_of (deeper n) (tokens_at bs t) ≡ Some (reading e (tokens_at bs u)) → u.sort ≡ sort.End → expression_of (drop from bs) ≡ Some e
+whole-read n bs from t e u deep there read is =
+    ap (λ ts. all_of (disjunction_of (deeper 32) ts)) (sym there) ∙ ap (λ n. all_of (disjunction_of (deeper n) (tokens_at bs t))) (sym deep)
+    ∙ ap all_of read ∙ ap (λ ts. all_of (Some (reading e ts))) (of_sort bs u sort.End is)
+
+more_tokens : (e : Expression) (s : Sort) (n w : Name) (ts : Tokens) → (s ≡ sort.End → ⊥) → all_of (Some (reading e (sort_tokens s n w ts))) ≡ None
+more_tokens e sort.End n w ts h = absurd (h refl)
+more_tokens e s n w ts h = refl
+
+pub not-whole : (n : ℕ) (bs : List ℕ) (from : ℕ) (t : Place) (e : Expression) (u : Place) → n ≡ 32 → tokens_at bs t ≡ tokens_of (drop from bs)
+    → disjunction_of (deeper n) (tokens_at bs t) ≡ Some (reading e (tokens_at bs u)) → (u.sort ≡ sort.End → ⊥) → expression_of (drop from bs) ≡ None
+not-whole n bs from t e u deep there read more =
+    ap (λ ts. all_of (disjunction_of (deeper 32) ts)) (sym there) ∙ ap (λ n. all_of (disjunction_of (deeper n) (tokens_at bs t))) (sym deep)
+    ∙ ap all_of read ∙ more_tokens e u.sort (letters_at bs u) (meaning_at bs u) (behind bs u) more

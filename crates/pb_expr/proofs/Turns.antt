@@ -1,17 +1,18 @@
 -- One turn of a loop over the parts of an expression, and its end.
-use Rattle.std.proofs.Common.{◌≡◌, ℕ, suc, ◌+◌, ◌<◌, ◌≤◌, List, [], ◌∷◌, ◌++◌, length, get_or, drop, map, Bool, true, false, Option, Some, String, Global, string_bytes, refl, sym, ap, ◌∙◌, add-one}
+use Rattle.std.proofs.Common.{◌≡◌, ℕ, suc, ◌+◌, ◌<◌, ◌≤◌, List, [], ◌∷◌, ◌++◌, length, get_or, drop, map, Bool, true, false, Option, Some, None, String, Global, string_bytes, refl, sym, ap, ◌∙◌, add-one}
 use Rattle.std.proofs.Math.Seq.{drop-cons}
 use Rattle.std.proofs.lemmas.List.{drop_all}
-use Rattle.pb_semantics.specs.Data.{Data, Fields, boolean, list, opaque, no_fields, field}
+use Rattle.pb_semantics.specs.Data.{Data, Fields, boolean, list, rec, opaque, no_fields, field}
+use Rattle.pb_language.specs.Expression.{Name}
 use Rattle.pb_language.specs.World.{World}
-use Rattle.pb_language.specs.Evaluation.{eval, eval_all, eval_any, eval_items, eval_parts}
+use Rattle.pb_language.specs.Evaluation.{no_field, or_stuck, value_below, eval, eval_all, eval_any, eval_items, eval_parts}
 use Rattle.pb_value.specs.View.{view, items_view, fields_of}
 use Rattle.pb_value.specs.declared.value.Value.{Value}
-use Rattle.pb_expr.specs.ExprView.{expr_view, exprs_view, parts_view, truth, is_unreadable}
+use Rattle.pb_expr.specs.ExprView.{expr_view, exprs_view, parts_view, names_of, truth, field_in, is_unreadable}
 use Rattle.pb_expr.specs.OwnWorld.{shown}
 use Rattle.pb_expr.specs.declared.expr.Expr.{Expr}
 use Rattle.pb_value.proofs.Projections.{append_fields}
-use Rattle.pb_expr.proofs.Outcomes.{and-true, or-false, after_items, items-spoilt, items-step, items-end, after_fields, fields-spoilt, fields-step}
+use Rattle.pb_expr.proofs.Outcomes.{and-true, and-false, and-spoilt, or-true, or-false, or-spoilt, after_items, items-spoilt, items-step, items-end, after_fields, fields-spoilt, fields-step}
 
 pub drop-at : {A : Type 0} → (xs : List A) (i : ℕ) (x : A) → i < length xs → x ≡ get_or xs i x → drop i xs ≡ x ∷ drop (i + 1) xs
 drop-at xs i x h e = rw add-one (drop-cons xs i x h ∙ ap (λ y. y ∷ drop (suc i) xs) (sym e))
@@ -22,6 +23,18 @@ all-turn w es i e v t lt is told found holds =
     ap (λ xs. eval_all w (exprs_view xs)) (drop-at es i e lt is)
     ∙ and-true w (eval w (expr_view e)) (exprs_view (drop (i + 1) es)) (ap truth (sym told) ∙ sym found ∙ holds)
 
+pub all-stops : (w : World) (es : List Expr) (i : ℕ) (e : Expr) (v : Value) (t : Option Bool) → i < length es → e ≡ get_or es i e → view v ≡ shown (eval w (expr_view e))
+    → t ≡ truth (view v) → t ≡ Some false → shown (eval_all w (exprs_view (drop i es))) ≡ boolean false
+all-stops w es i e v t lt is told found holds =
+    ap (λ xs. shown (eval_all w (exprs_view xs))) (drop-at es i e lt is)
+    ∙ and-false (eval w (expr_view e)) (eval_all w (exprs_view (drop (i + 1) es))) (ap truth (sym told) ∙ sym found ∙ holds)
+
+pub all-spoilt : (w : World) (es : List Expr) (i : ℕ) (e : Expr) (v : Value) (t : Option Bool) → i < length es → e ≡ get_or es i e → view v ≡ shown (eval w (expr_view e))
+    → t ≡ truth (view v) → t ≡ None → shown (eval_all w (exprs_view (drop i es))) ≡ opaque
+all-spoilt w es i e v t lt is told found holds =
+    ap (λ xs. shown (eval_all w (exprs_view xs))) (drop-at es i e lt is)
+    ∙ and-spoilt (eval w (expr_view e)) (eval_all w (exprs_view (drop (i + 1) es))) (ap truth (sym told) ∙ sym found ∙ holds)
+
 pub all-done : (w : World) (es : List Expr) (i : ℕ) → length es ≤ i → shown (eval_all w (exprs_view (drop i es))) ≡ boolean true
 all-done w es i past = ap (λ xs. shown (eval_all w (exprs_view xs))) (drop_all i es past)
 
@@ -30,6 +43,18 @@ pub any-turn : (w : World) (es : List Expr) (i : ℕ) (e : Expr) (v : Value) (t 
 any-turn w es i e v t lt is told found holds =
     ap (λ xs. eval_any w (exprs_view xs)) (drop-at es i e lt is)
     ∙ or-false w (eval w (expr_view e)) (exprs_view (drop (i + 1) es)) (ap truth (sym told) ∙ sym found ∙ holds)
+
+pub any-stops : (w : World) (es : List Expr) (i : ℕ) (e : Expr) (v : Value) (t : Option Bool) → i < length es → e ≡ get_or es i e → view v ≡ shown (eval w (expr_view e))
+    → t ≡ truth (view v) → t ≡ Some true → shown (eval_any w (exprs_view (drop i es))) ≡ boolean true
+any-stops w es i e v t lt is told found holds =
+    ap (λ xs. shown (eval_any w (exprs_view xs))) (drop-at es i e lt is)
+    ∙ or-true (eval w (expr_view e)) (eval_any w (exprs_view (drop (i + 1) es))) (ap truth (sym told) ∙ sym found ∙ holds)
+
+pub any-spoilt : (w : World) (es : List Expr) (i : ℕ) (e : Expr) (v : Value) (t : Option Bool) → i < length es → e ≡ get_or es i e → view v ≡ shown (eval w (expr_view e))
+    → t ≡ truth (view v) → t ≡ None → shown (eval_any w (exprs_view (drop i es))) ≡ opaque
+any-spoilt w es i e v t lt is told found holds =
+    ap (λ xs. shown (eval_any w (exprs_view xs))) (drop-at es i e lt is)
+    ∙ or-spoilt (eval w (expr_view e)) (eval_any w (exprs_view (drop (i + 1) es))) (ap truth (sym told) ∙ sym found ∙ holds)
 
 pub any-done : (w : World) (es : List Expr) (i : ℕ) → length es ≤ i → shown (eval_any w (exprs_view (drop i es))) ≡ boolean false
 any-done w es i past = ap (λ xs. shown (eval_any w (exprs_view xs))) (drop_all i es past)
@@ -66,3 +91,25 @@ record-turn w fs e left v told readable =
 pub record-spoilt : (w : World) (fs : Fields) (e : String Global × Expr) (left : List (String Global × Expr)) (v : Value) → view v ≡ shown (eval w (expr_view e.1))
     → is_unreadable (view v) ≡ true → shown (after_fields fs (eval_parts w (parts_view (e ∷ left)))) ≡ opaque
 record-spoilt w fs e left v told spoilt = fields-spoilt fs (string_bytes e.0) (eval w (expr_view e.1)) _ (ap is_unreadable (sym told) ∙ spoilt)
+
+-- a step into a field that is there, and one into what isn't
+below-field : (n : Name) (ns : List Name) (d e : Data) → Some e ≡ field_in n d → value_below (n ∷ ns) d ≡ value_below ns e
+below-field n ns (rec fs) e h = ap (or_stuck no_field (value_below ns)) (sym h)
+below-field n ns d e h = cc
+
+below-nothing : (n : Name) (ns : List Name) (d : Data) → None ≡ field_in n d → shown (value_below (n ∷ ns) d) ≡ opaque
+below-nothing n ns (rec fs) h = ap (λ o. shown (or_stuck no_field (value_below ns) o)) (sym h)
+below-nothing n ns d h = refl
+
+pub steps-turn : (ns : List (String Global)) (i : ℕ) (n : String Global) (d e : Data) → i < length ns → n ≡ get_or ns i n → Some e ≡ field_in (string_bytes n) d
+    → value_below (names_of (drop i ns)) d ≡ value_below (names_of (drop (i + 1) ns)) e
+steps-turn ns i n d e lt is there =
+    ap (λ ms. value_below (names_of ms) d) (drop-at ns i n lt is) ∙ below-field (string_bytes n) (names_of (drop (i + 1) ns)) d e there
+
+pub steps-lost : (ns : List (String Global)) (i : ℕ) (n : String Global) (d : Data) → i < length ns → n ≡ get_or ns i n → None ≡ field_in (string_bytes n) d
+    → shown (value_below (names_of (drop i ns)) d) ≡ opaque
+steps-lost ns i n d lt is none =
+    ap (λ ms. shown (value_below (names_of ms) d)) (drop-at ns i n lt is) ∙ below-nothing (string_bytes n) (names_of (drop (i + 1) ns)) d none
+
+pub steps-done : (ns : List (String Global)) (i : ℕ) (d : Data) → length ns ≤ i → shown (value_below (names_of (drop i ns)) d) ≡ d
+steps-done ns i d past = ap (λ ms. shown (value_below (names_of ms) d)) (drop_all i ns past)

@@ -44,6 +44,11 @@ abbrev pub Finds : Result Kind KindFault → Option Fault → KindData → Type 
 Finds (Ok k) f m = (f ≡ None) × (kind_view k ≡ m)
 Finds (Err e) f m = Fails e f
 
+-- the same, with the first kind beside the expression's
+abbrev pub FindsBeside : Result (Kind × Kind) KindFault → Kind → Option Fault → KindData → Type 0
+FindsBeside (Ok r) k f m = (f ≡ None) × (r.0 ≡ k) × (kind_view r.1 ≡ m)
+FindsBeside (Err e) k f m = Fails e f
+
 -- the kind of a name or a field that is certainly there
 abbrev pub certain : Spot → Option KindData
 certain nowhere = None

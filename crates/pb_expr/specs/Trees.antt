@@ -1,13 +1,10 @@
 -- Which tree is read, or that there is none.
-use Rattle.std.specs.Prelude.{◌≡◌, ℕ, List, Option, Some, None, Result, Ok, Err}
+use Rattle.std.specs.Prelude.{◌≡◌, Option, Some, None, Result, Ok, Err}
 use Rattle.pb_language.specs.Expression.{Expression}
-use Rattle.pb_language.specs.Grammar.{Reading, reading}
 use Rattle.pb_expr.specs.ExprView.{expr_view}
-use Rattle.pb_expr.specs.Letters.{tokens_at}
 use Rattle.pb_expr.specs.declared.expr.Expr.{Expr}
 use Rattle.pb_expr.specs.declared.fault.ExprFault.{ExprFault}
 use Rattle.pb_expr.specs.declared.fault.ExprFault.TheVariants.{Unreadable, TooDeep, NotBuilt, NoMemory}
-use Rattle.pb_expr.specs.declared.lexer.Token.{Token}
 
 -- there is nothing to be read, unless memory ran out
 abbrev pub Refuses : {X : Type 0} → ExprFault → Option X → Type 0

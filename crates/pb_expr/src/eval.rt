@@ -6,7 +6,6 @@ ghost use Rattle.pb_language.specs.Evaluation.{
   value,
   stuck,
   wrong_sort,
-  then_go,
   value_below,
   found,
   read,
@@ -39,32 +38,41 @@ pub fn eval<V: Vars>(alloc: Global, expr: &Expr, vars: &V) -> Result<Value, Allo
     ensures { IfOk result (λ v. view v ≡ shown (outcome_of (V.world vars.now) (expr_view expr.now))) }
 {
     match expr {
-        Expr::Literal(known) => Ok(known.clone()?),
-        Expr::Path(path) => Ok(value_of_path(path, vars)?),
-        Expr::Not(operand) => {
-            let operand = eval(alloc, operand, vars)?;
-            Ok(negation_of(operand))
-        }
-        Expr::And(operands) => Ok(all_of(alloc, operands, vars)?),
-        Expr::Or(operands) => Ok(any_of(alloc, operands, vars)?),
+        Expr::Literal(known) => known.clone(),
+        Expr::Path(path) => value_of_path(path, vars),
+        Expr::Not(operand) => Ok(negation_of(eval(alloc, operand, vars)?)),
+        Expr::And(operands) => all_of(alloc, operands, vars),
+        Expr::Or(operands) => any_of(alloc, operands, vars),
         Expr::Equal(left, right) => {
             let left = eval(alloc, left, vars)?;
-            let right = eval(alloc, right, vars)?;
-            Ok(equality_of(left, right))
+            Ok(equality_of(pair_of(alloc, right, vars, left)?))
         }
         Expr::Unequal(left, right) => {
             let left = eval(alloc, left, vars)?;
-            let right = eval(alloc, right, vars)?;
-            Ok(inequality_of(left, right))
+            Ok(negation_of(equality_of(pair_of(alloc, right, vars, left)?)))
         }
         Expr::In(part, whole) => {
             let part = eval(alloc, part, vars)?;
-            let whole = eval(alloc, whole, vars)?;
-            Ok(membership_of(part, whole))
+            Ok(membership_of(pair_of(alloc, whole, vars, part)?))
         }
-        Expr::List(items) => Ok(list_of(alloc, items, vars)?),
-        Expr::Record(fields) => Ok(record_of(alloc, fields, vars)?),
+        Expr::List(items) => list_of(alloc, items, vars),
+        Expr::Record(fields) => record_of(alloc, fields, vars),
     }
+}
+
+// The left operand's value, and the right one's.
+#[cycle(eval)]
+fn pair_of<V: Vars>(
+    alloc: Global,
+    right: &Expr,
+    vars: &V,
+    left: Value,
+) -> Result<(Value, Value), AllocError>
+    ensures left { IfOk result (λ v. v.0 ≡ left) }
+    ensures right { IfOk result (λ v. view v.1 ≡ shown (outcome_of (V.world vars.now) (expr_view right.now))) }
+{
+    let right = eval(alloc, right, vars)?;
+    Ok((left, right))
 }
 
 #[cycle(eval)]
@@ -109,7 +117,7 @@ fn list_of<V: Vars>(alloc: Global, items: &Vec<Expr>, vars: &V) -> Result<Value,
             None => return Ok(Value::Opaque),
         }
     }
-    Ok(Value::of_items(alloc, values)?)
+    Value::of_items(alloc, values)
 }
 
 #[cycle(eval)]
@@ -128,7 +136,7 @@ fn record_of<V: Vars>(
             None => return Ok(Value::Opaque),
         }
     }
-    Ok(Value::of_fields(alloc, values)?)
+    Value::of_fields(alloc, values)
 }
 
 fn put(fields: &mut Fields, name: &String, found: Value) -> Result<(), AllocError>
@@ -142,7 +150,7 @@ fn value_of_path<V: Vars>(path: &Path, vars: &V) -> Result<Value, AllocError>
     ensures { IfOk result (λ v. view v ≡ shown (read (names_of path.now.steps.items) (found (field_value (string_bytes path.now.root) (V.world vars.now).mine)))) }
 {
     match vars.value(path.root.as_str()) {
-        Some(held) => Ok(inner_value(held, &path.steps)?),
+        Some(held) => inner_value(held, &path.steps),
         None => Ok(Value::Opaque),
     }
 }
@@ -200,20 +208,11 @@ fn negation_of(operand: Value) -> Value
     }
 }
 
-fn equality_of(left: Value, right: Value) -> Value
-    ensures { view result ≡ shown (equal_values (view left) (view right)) }
+fn equality_of(operands: (Value, Value)) -> Value
+    ensures { view result ≡ shown (equal_values (view operands.0) (view operands.1)) }
 {
-    match are_equal(&left, &right) {
+    match are_equal(&operands.0, &operands.1) {
         Some(holds) => Value::Bool(holds),
-        None => Value::Opaque,
-    }
-}
-
-fn inequality_of(left: Value, right: Value) -> Value
-    ensures { view result ≡ shown (then_go (equal_values (view left) (view right)) negated) }
-{
-    match are_equal(&left, &right) {
-        Some(holds) => Value::Bool(!holds),
         None => Value::Opaque,
     }
 }
@@ -230,10 +229,10 @@ fn are_equal(left: &Value, right: &Value) -> Option<bool>
     Some(equal(left, right))
 }
 
-fn membership_of(part: Value, whole: Value) -> Value
-    ensures { view result ≡ shown (found_in (view part) (view whole)) }
+fn membership_of(operands: (Value, Value)) -> Value
+    ensures { view result ≡ shown (found_in (view operands.0) (view operands.1)) }
 {
-    membership(&part, &whole)
+    membership(&operands.0, &operands.1)
 }
 
 // Whether the first value is in the second: an equal item, a part of the text or a field there.

@@ -38,7 +38,7 @@ ghost use Rattle.pb_expr.specs.declared.fit.KindFault.TheVariants.{NoMemory};
 ghost use Rattle.pb_value.specs.KindView.{kind_view, slots_view, cases_view};
 ghost use Rattle.pb_value.specs.View.{view, items_view, fields_view};
 ghost use Rattle.pb_expr.specs.ExprView.{expr_view, exprs_view, parts_view, names_of};
-ghost use Rattle.pb_expr.specs.FitView.{Finds, own_scope, fault_view, LeadsTo, certain, joined_onto};
+ghost use Rattle.pb_expr.specs.FitView.{Finds, FindsBeside, own_scope, fault_view, LeadsTo, certain, joined_onto};
 
 use crate::expr::{Expr, Path};
 use pb_value::below::find;
@@ -98,30 +98,33 @@ pub fn kind_of(alloc: Global, expr: &Expr, slots: &Slots) -> Result<Kind, KindFa
     match expr {
         Expr::Literal(known) => Ok(literal_kind(alloc, known)?),
         Expr::Path(path) => path_kind(path, slots),
-        Expr::Not(operand) => {
-            let operand = kind_of(alloc, operand, slots)?;
-            negation_kind(operand)
-        }
-        Expr::And(operands) => chain_kind(alloc, operands, slots),
-        Expr::Or(operands) => chain_kind(alloc, operands, slots),
-        Expr::Equal(left, right) => {
+        Expr::Not(operand) => negation_kind(kind_of(alloc, operand, slots)?),
+        Expr::And(operands) | Expr::Or(operands) => chain_kind(alloc, operands, slots),
+        Expr::Equal(left, right) | Expr::Unequal(left, right) => {
             let left = kind_of(alloc, left, slots)?;
-            let right = kind_of(alloc, right, slots)?;
-            comparison_kind(left, right)
-        }
-        Expr::Unequal(left, right) => {
-            let left = kind_of(alloc, left, slots)?;
-            let right = kind_of(alloc, right, slots)?;
-            comparison_kind(left, right)
+            comparison_kind(pair_of(alloc, right, slots, left)?)
         }
         Expr::In(part, whole) => {
             let part = kind_of(alloc, part, slots)?;
-            let whole = kind_of(alloc, whole, slots)?;
-            membership_kind(part, whole)
+            membership_kind(pair_of(alloc, whole, slots, part)?)
         }
         Expr::List(items) => list_kind(alloc, items, slots),
         Expr::Record(fields) => record_kind(alloc, fields, slots),
     }
+}
+
+// The left operand's kind, and the right one's.
+#[cycle(kind_of)]
+fn pair_of(
+    alloc: Global,
+    right: &Expr,
+    slots: &Slots,
+    left: Kind,
+) -> Result<(Kind, Kind), KindFault>
+    ensures { FindsBeside result left (fault (own_scope (slots_view slots.now.entries)) (expr_view right.now)) (kind_found (own_scope (slots_view slots.now.entries)) (expr_view right.now)) }
+{
+    let right = kind_of(alloc, right, slots)?;
+    Ok((left, right))
 }
 
 #[cycle(kind_of)]
@@ -145,7 +148,7 @@ fn list_kind(alloc: Global, items: &Vec<Expr>, slots: &Slots) -> Result<Kind, Ki
         let kind = part_kind(alloc, item, slots)?;
         kinds.push(kind)?;
     }
-    let joined = join_all(alloc, &kinds)?;
+    let joined = join_all(alloc, kinds)?;
     Ok(Kind::List(Arc::new(alloc, joined)?, items.len()))
 }
 
@@ -184,8 +187,8 @@ fn not_any(kind: Kind) -> Result<Kind, KindFault>
 }
 
 // The least kind above all of these, from the last to the first.
-fn join_all(alloc: Global, kinds: &Vec<Kind>) -> Result<Kind, AllocError>
-    ensures { IfOk result (λ k. kind_view k ≡ joined_onto kinds.now.items never) }
+fn join_all(alloc: Global, kinds: Vec<Kind>) -> Result<Kind, AllocError>
+    ensures { IfOk result (λ k. kind_view k ≡ joined_onto kinds.items never) }
 {
     let mut joined = Kind::Never;
     for index in (0..kinds.len()).rev() {
@@ -298,11 +301,11 @@ fn negation_kind(operand: Kind) -> Result<Kind, KindFault>
 }
 
 // What `==` and `!=` give between operands of these kinds.
-fn comparison_kind(left: Kind, right: Kind) -> Result<Kind, KindFault>
+fn comparison_kind(operands: (Kind, Kind)) -> Result<Kind, KindFault>
     ensures { Finds result
-        (asks wrong_kind (can_compare equal (kind_view left) (kind_view right))) booleans }
+        (asks wrong_kind (can_compare equal (kind_view operands.0) (kind_view operands.1))) booleans }
 {
-    asked(are_comparable(&left, &right))
+    asked(are_comparable(&operands.0, &operands.1))
 }
 
 fn are_comparable(left: &Kind, right: &Kind) -> bool
@@ -312,11 +315,11 @@ fn are_comparable(left: &Kind, right: &Kind) -> bool
 }
 
 // What `in` gives between operands of these kinds.
-fn membership_kind(part: Kind, whole: Kind) -> Result<Kind, KindFault>
+fn membership_kind(operands: (Kind, Kind)) -> Result<Kind, KindFault>
     ensures { Finds result
-        (asks wrong_kind (can_find (kind_view part) (kind_view whole))) booleans }
+        (asks wrong_kind (can_find (kind_view operands.0) (kind_view operands.1))) booleans }
 {
-    asked(may_hold(&whole, &part))
+    asked(may_hold(&operands.1, &operands.0))
 }
 
 fn may_hold(whole: &Kind, part: &Kind) -> bool
@@ -408,8 +411,8 @@ fn literal_kind(alloc: Global, known: &Value) -> Result<Kind, AllocError>
         Value::Bool(_) => Ok(Kind::Bool),
         Value::Int(_) => Ok(Kind::Int),
         Value::Text(_) => Ok(Kind::Text),
-        Value::List(items) => Ok(literal_items(alloc, items)?),
-        Value::Rec(fields) => Ok(literal_fields(alloc, fields)?),
+        Value::List(items) => literal_items(alloc, items),
+        Value::Rec(fields) => literal_fields(alloc, fields),
         Value::Opaque => Ok(Kind::Any),
     }
 }
@@ -429,7 +432,7 @@ fn literal_items(alloc: Global, items: &Vec<Value>) -> Result<Kind, AllocError>
 fn joined_kind(alloc: Global, kind: Kind, joined: Kind) -> Result<Kind, AllocError>
     ensures { IfOk result (λ k. kind_view k ≡ least_above (kind_view kind) (kind_view joined)) }
 {
-    Ok(join(alloc, &kind, &joined)?)
+    join(alloc, &kind, &joined)
 }
 
 #[cycle(literal_kind)]

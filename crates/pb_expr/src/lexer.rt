@@ -16,7 +16,7 @@ use crate::fault::ExprFault;
 use std::alloc::{AllocError, Global};
 
 /// What a token is.
-#[derive(Clone, Copy, PartialEq, Eq, Debug)]
+#[derive(Clone, Copy, PartialEq, Eq)]
 pub enum Sort {
     /// The end of the text.
     End,
@@ -49,7 +49,7 @@ pub enum Sort {
 }
 
 /// A token, and the bytes of the text that it has: from `start` on, before `end`.
-#[derive(Clone, Copy, Debug)]
+#[derive(Clone, Copy)]
 pub struct Token {
     pub sort: Sort,
     pub start: usize,

@@ -1,8 +1,9 @@
-use Rattle.std.proofs.Common.{◌≡◌, true, false, Some, [], ◌∷◌, ◌++◌, map, drop, ◌+◌, string_bytes, String, Global, sym, ap, ◌∙◌, subst, append_assoc}
+use Rattle.std.proofs.Common.{◌≡◌, true, false, Some, [], ◌∷◌, ◌++◌, map, drop, ◌+◌, string_bytes, String, Global, IfOk, sym, ap, ◌∙◌, subst, append_assoc}
 use Rattle.std.specs.List.Sorted.{IsStrictlySortedBy}
 use Rattle.std.specs.Map.{keys_of}
 use Rattle.std.specs.String.{string_cmp}
-use Rattle.pb_semantics.specs.Data.{field, no_fields}
+use Rattle.pb_semantics.specs.Data.{Data, field, no_fields}
+use Rattle.pb_language.specs.Expression.{equal, comparison}
 use Rattle.pb_language.specs.Evaluation.{eval, eval_all, eval_any, eval_items, eval_parts}
 use Rattle.pb_value.specs.View.{view, items_view, fields_view, fields_of}
 use Rattle.pb_value.proofs.Fields.{put_last}
@@ -10,9 +11,9 @@ use Rattle.pb_expr.specs.ExprView.{expr_view, exprs_view, parts_view}
 use Rattle.pb_expr.specs.OwnWorld.{shown}
 use Rattle.pb_expr.specs.declared.expr.Expr.{Expr}
 use Rattle.pb_value.proofs.Projections.{append_fields}
-use Rattle.pb_expr.proofs.Outcomes.{negated-by, equal-by, unequal-by, found-by, after_items, after_fields, fields-end}
-use Rattle.pb_expr.proofs.Exprs.{view-Bool, view-Opaque, view-Not, view-Equal, view-Unequal, view-In}
-use Rattle.pb_expr.proofs.Turns.{all-turn, all-done, any-turn, any-done, list-turn, list-spoilt, list-done, record-turn, record-spoilt, fields-last}
+use Rattle.pb_expr.proofs.Outcomes.{negated-by, equal-by, found-by, after_items, after_fields, fields-end}
+use Rattle.pb_expr.proofs.Exprs.{view-Bool, view-Opaque, view-And, view-Or, view-Equal, view-Unequal, view-In, view-List}
+use Rattle.pb_expr.proofs.Turns.{all-turn, all-stops, all-spoilt, all-done, any-turn, any-stops, any-spoilt, any-done, list-turn, list-spoilt, list-done, record-turn, record-spoilt, fields-last}
 use Rattle.pb_expr.proofs.eval.+eval.Goals as goal
 
 pub all_of-loop-operand-preserved : goal.all_of-loop-operand-preserved
@@ -41,39 +42,74 @@ any_of-returns g t c =
     ∙ sym (ap (λ xs. shown (eval_any w (exprs_view xs))) (sym c.deref-operand-items.ensures.value) ∙ ap shown c.loop-operand.invariant
     ∙ any-done w c.deref-operand-items.result.now c.loop-operand.operand-index c.loop-operand-test.false)
 
-pub eval-returns-in_ok-operand-in-Not : goal.eval-returns-in_ok-operand-in-Not
-eval-returns-in_ok-operand-in-Not g t c =
-    let w = g.V.Vars.world c.args.vars.now in
-    let p = c.in-Not in
-    rw (p.is, view-Not p.operand) (negated-by (view c.negation_of.result) (view c.in_ok-operand-in-Not.operand) (eval w (expr_view p.operand.value)) c.negation_of.ensures
-    (c.in_ok-operand-in-Not.ensures ∙ ap (λ e. shown (eval w (expr_view e))) c.deref.ensures))
-
-pub eval-returns-in_ok-right-in-Equal : goal.eval-returns-in_ok-right-in-Equal
-eval-returns-in_ok-right-in-Equal g t c =
+pub eval-returns-in_ok-pair_of-in-Equal : goal.eval-returns-in_ok-pair_of-in-Equal
+eval-returns-in_ok-pair_of-in-Equal g t c =
     let w = g.V.Vars.world c.args.vars.now in
     let p = c.in-Equal in
-    rw (p.is, view-Equal p.left p.right) (equal-by (view c.equality_of.result) (view c.in_ok-left-in-Equal.left) (view c.in_ok-right-in-Equal.right)
-    (eval w (expr_view p.left.value)) (eval w (expr_view p.right.value)) c.equality_of.ensures
-    (c.in_ok-left-in-Equal.ensures ∙ ap (λ e. shown (eval w (expr_view e))) c.deref-in-Equal.ensures)
-    (c.in_ok-right-in-Equal.ensures ∙ ap (λ e. shown (eval w (expr_view e))) c.deref-in-Equal-2.ensures))
+    let r = c.in_ok-pair_of-in-Equal in
+    rw (p.is, view-Equal p.left p.right) (equal-by (view c.equality_of.result) (view r.field-0.0) (view r.field-0.1) (eval w (expr_view p.left.value)) (eval w (expr_view p.right.value)) c.equality_of.ensures
+    (ap view r.ensures.left ∙ c.in_ok-left-in-Equal.ensures ∙ ap (λ e. shown (eval w (expr_view e))) c.deref-in-Equal.ensures)
+    (r.ensures.right ∙ ap (λ e. shown (eval w (expr_view e))) c.deref-in-Equal-2.ensures))
 
-pub eval-returns-in_ok-right-in-Unequal : goal.eval-returns-in_ok-right-in-Unequal
-eval-returns-in_ok-right-in-Unequal g t c =
+pub eval-returns-in_ok-pair_of-in-Unequal : goal.eval-returns-in_ok-pair_of-in-Unequal
+eval-returns-in_ok-pair_of-in-Unequal g t c =
     let w = g.V.Vars.world c.args.vars.now in
     let p = c.in-Unequal in
-    rw (p.is, view-Unequal p.left p.right) (unequal-by (view c.inequality_of.result) (view c.in_ok-left-in-Unequal.left) (view c.in_ok-right-in-Unequal.right)
-    (eval w (expr_view p.left.value)) (eval w (expr_view p.right.value)) c.inequality_of.ensures
-    (c.in_ok-left-in-Unequal.ensures ∙ ap (λ e. shown (eval w (expr_view e))) c.deref-in-Unequal.ensures)
-    (c.in_ok-right-in-Unequal.ensures ∙ ap (λ e. shown (eval w (expr_view e))) c.deref-in-Unequal-2.ensures))
+    let r = c.in_ok-pair_of-in-Unequal in
+    rw (p.is, view-Unequal p.left p.right) (negated-by (view c.negation_of-in-Unequal.result) (view c.equality_of-in-Unequal.result) (eval w (comparison equal (expr_view p.left.value) (expr_view p.right.value))) c.negation_of-in-Unequal.ensures
+    (equal-by (view c.equality_of-in-Unequal.result) (view r.field-0.0) (view r.field-0.1) (eval w (expr_view p.left.value)) (eval w (expr_view p.right.value)) c.equality_of-in-Unequal.ensures
+    (ap view r.ensures.left ∙ c.in_ok-left-in-Unequal.ensures ∙ ap (λ e. shown (eval w (expr_view e))) c.deref-in-Unequal.ensures)
+    (r.ensures.right ∙ ap (λ e. shown (eval w (expr_view e))) c.deref-in-Unequal-2.ensures)))
 
-pub eval-returns-in_ok-whole-in-In : goal.eval-returns-in_ok-whole-in-In
-eval-returns-in_ok-whole-in-In g t c =
+pub eval-returns-in_ok-pair_of-in-In : goal.eval-returns-in_ok-pair_of-in-In
+eval-returns-in_ok-pair_of-in-In g t c =
     let w = g.V.Vars.world c.args.vars.now in
     let p = c.in-In in
-    rw (p.is, view-In p.part p.whole) (found-by (view c.membership_of.result) (view c.in_ok-part-in-In.part) (view c.in_ok-whole-in-In.whole)
-    (eval w (expr_view p.part.value)) (eval w (expr_view p.whole.value)) c.membership_of.ensures
-    (c.in_ok-part-in-In.ensures ∙ ap (λ e. shown (eval w (expr_view e))) c.deref-in-In.ensures)
-    (c.in_ok-whole-in-In.ensures ∙ ap (λ e. shown (eval w (expr_view e))) c.deref-in-In-2.ensures))
+    let r = c.in_ok-pair_of-in-In in
+    rw (p.is, view-In p.part p.whole) (found-by (view c.membership_of.result) (view r.field-0.0) (view r.field-0.1) (eval w (expr_view p.part.value)) (eval w (expr_view p.whole.value)) c.membership_of.ensures
+    (ap view r.ensures.left ∙ c.in_ok-part-in-In.ensures ∙ ap (λ e. shown (eval w (expr_view e))) c.deref-in-In.ensures)
+    (r.ensures.right ∙ ap (λ e. shown (eval w (expr_view e))) c.deref-in-In-2.ensures))
+
+pub all_of-returns-in-Some-false : goal.all_of-returns-in-Some-false
+all_of-returns-in-Some-false g t c =
+    let w = g.V.Vars.world c.args.vars.now in
+    view-Bool false
+    ∙ sym (ap (λ xs. shown (eval_all w (exprs_view xs))) (sym c.deref-operand-items.ensures.value) ∙ ap shown c.loop-operand.invariant
+    ∙ all-stops w c.deref-operand-items.result.now c.loop-operand.operand-index c.operand-item.result c.in_ok-found.found c.truth_of.result
+    c.loop-operand-test.true c.operand-item.is c.in_ok-found.ensures c.truth_of.ensures (c.in-Some-false.is ∙ ap Some c.in-Some-false.field-0-test))
+
+pub all_of-returns-in-None : goal.all_of-returns-in-None
+all_of-returns-in-None g t c =
+    let w = g.V.Vars.world c.args.vars.now in
+    view-Opaque
+    ∙ sym (ap (λ xs. shown (eval_all w (exprs_view xs))) (sym c.deref-operand-items.ensures.value) ∙ ap shown c.loop-operand.invariant
+    ∙ all-spoilt w c.deref-operand-items.result.now c.loop-operand.operand-index c.operand-item.result c.in_ok-found.found c.truth_of.result
+    c.loop-operand-test.true c.operand-item.is c.in_ok-found.ensures c.truth_of.ensures c.in-None.is)
+
+pub any_of-returns-in-Some-true : goal.any_of-returns-in-Some-true
+any_of-returns-in-Some-true g t c =
+    let w = g.V.Vars.world c.args.vars.now in
+    view-Bool true
+    ∙ sym (ap (λ xs. shown (eval_any w (exprs_view xs))) (sym c.deref-operand-items.ensures.value) ∙ ap shown c.loop-operand.invariant
+    ∙ any-stops w c.deref-operand-items.result.now c.loop-operand.operand-index c.operand-item.result c.in_ok-found.found c.truth_of.result
+    c.loop-operand-test.true c.operand-item.is c.in_ok-found.ensures c.truth_of.ensures (c.in-Some-true.is ∙ ap Some c.in-Some-true.field-0-test))
+
+pub any_of-returns-in-None : goal.any_of-returns-in-None
+any_of-returns-in-None g t c =
+    let w = g.V.Vars.world c.args.vars.now in
+    view-Opaque
+    ∙ sym (ap (λ xs. shown (eval_any w (exprs_view xs))) (sym c.deref-operand-items.ensures.value) ∙ ap shown c.loop-operand.invariant
+    ∙ any-spoilt w c.deref-operand-items.result.now c.loop-operand.operand-index c.operand-item.result c.in_ok-found.found c.truth_of.result
+    c.loop-operand-test.true c.operand-item.is c.in_ok-found.ensures c.truth_of.ensures c.in-None.is)
+
+pub eval-returns-in-And : goal.eval-returns-in-And
+eval-returns-in-And g t c = rw (c.in-And.is, view-And c.in-And.operands) c.all_of.ensures
+
+pub eval-returns-in-Or : goal.eval-returns-in-Or
+eval-returns-in-Or g t c = rw (c.in-Or.is, view-Or c.in-Or.operands) c.any_of.ensures
+
+pub eval-returns-in-List : goal.eval-returns-in-List
+eval-returns-in-List g t c = rw (c.in-List.is, view-List c.in-List.items) c.list_of.ensures
 
 pub list_of-returns-in-None : goal.list_of-returns-in-None
 list_of-returns-in-None g t c =
@@ -95,9 +131,10 @@ list_of-loop-item-preserved g t c =
 pub list_of-returns : goal.list_of-returns
 list_of-returns g t c =
     let w = g.V.Vars.world c.args.vars.now in
-    c.in_ok-of_items.ensures
-    ∙ sym (ap (λ xs. shown (eval_items w (exprs_view xs))) (sym c.deref-item-items.ensures.value) ∙ ap shown c.loop-item.invariant
-    ∙ list-done w c.deref-item-items.result.now c.loop-item.values.items c.loop-item.item-index c.loop-item-test.false)
+    subst (λ (d : Data). IfOk c.of_items.result (λ v. view v ≡ d))
+    (sym (ap (λ xs. shown (eval_items w (exprs_view xs))) (sym c.deref-item-items.ensures.value) ∙ ap shown c.loop-item.invariant
+    ∙ list-done w c.deref-item-items.result.now c.loop-item.values.items c.loop-item.item-index c.loop-item-test.false))
+    c.of_items.ensures
 
 pub record_of-returns-in-None-readable : goal.record_of-returns-in-None-readable
 record_of-returns-in-None-readable g t c =
@@ -135,5 +172,6 @@ record_of-returns g t c =
     let w = g.V.Vars.world c.args.vars.now in
     let fs = fields_view c.loop-name.values.entries in
     let nil : c.loop-name.name-iterator ≡ [] = (c.in-None.ensures).steps.0 in
-    c.in_ok-of_fields.ensures
-    ∙ sym (ap shown (c.loop-name.invariant.3 ∙ ap (λ xs. after_fields fs (eval_parts w (parts_view xs))) nil ∙ fields-end fs))
+    subst (λ (d : Data). IfOk c.of_fields.result (λ v. view v ≡ d))
+    (sym (ap shown (c.loop-name.invariant.3 ∙ ap (λ xs. after_fields fs (eval_parts w (parts_view xs))) nil ∙ fields-end fs)))
+    c.of_fields.ensures

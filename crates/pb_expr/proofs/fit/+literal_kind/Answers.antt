@@ -7,7 +7,7 @@ use Rattle.pb_value.specs.View.{view, items_view}
 use Rattle.pb_value.specs.KindView.{kind_view, slots_view}
 use Rattle.pb_value.specs.declared.value.Value.{Value}
 use Rattle.pb_value.proofs.Fields.{count_of-items_view}
-use Rattle.pb_value.proofs.Views.{kind_view-List, kind_view-Rec}
+use Rattle.pb_value.proofs.Views.{view-List, view-Rec, kind_view-List, kind_view-Rec}
 use Rattle.pb_expr.proofs.Ascending.{Ascending}
 use Rattle.pb_expr.proofs.Records.{slots_from, put_slot-last, known_slots-ascending}
 use Rattle.pb_expr.proofs.fit.+literal_kind.Goals as goal
@@ -40,3 +40,9 @@ literal_items-returns t c =
     kind_view-List c.in_ok-new.field-0 c.len.result
     ∙ ap (λ k. lists k c.len.result) (ap kind_view c.in_ok-new.ensures.ok ∙ c.loop-index.invariant ∙ ap (λ i. known_items (items_view (drop i c.args.items.now.items))) first)
     ∙ ap (lists (known_items (items_view c.args.items.now.items))) size
+
+pub literal_kind-returns-in-Rec : goal.literal_kind-returns-in-Rec
+literal_kind-returns-in-Rec t c = rw (c.in-Rec.is, view-Rec c.in-Rec.fields, sym c.deref-in-Rec.ensures) c.literal_fields.ensures
+
+pub literal_kind-returns-in-List : goal.literal_kind-returns-in-List
+literal_kind-returns-in-List t c = rw (c.in-List.is, view-List c.in-List.items, sym c.deref.ensures) c.literal_items.ensures

@@ -20,7 +20,7 @@ pub three_more : (one two three four : Command) (a b d : Arg) (r s t : Rule) →
     → Reads a r → Reads b s → Reads d t → Extends (λ app. with_rule (with_rule (with_rule app r) s) t) one four
 three_more one two three four a b d r s t first second third is_r is_s is_t = record {
   app =
-    added three four d (with_rule (with_rule (app_of one) r) s) t third is_t
-    (added two three b (with_rule (app_of one) r) s second is_s (added one two a (app_of one) r first is_r refl));
+      added three four d (with_rule (with_rule (app_of one) r) s) t third is_t
+      (added two three b (with_rule (app_of one) r) s second is_s (added one two a (app_of one) r first is_r refl));
   local = λ here. stays_local three four d t third is_t (stays_local two three b s second is_s (stays_local one two a r first is_r here));
 }

@@ -214,11 +214,15 @@ fn depths(rt: HostRuntime) -> Result<(), Fail> {
     Ok(())
 }
 
+// How many tasks are read of so many.
+fn tasks_read(alloc: Global, count: usize) -> Result<usize, Fail> {
+    let tasks = format!(in alloc; "[{}]", pings(alloc, count)?)?;
+    Ok(only_play(&book_of(alloc, tasks.as_str())?)?.tasks.len())
+}
+
 #[test]
 fn lengths(rt: HostRuntime) -> Result<(), Fail> {
-    let longest = format!(in rt.alloc(); "[{}]", pings(rt.alloc(), 4_095)?)?;
-    let book = book_of(rt.alloc(), longest.as_str())?;
-    assert_eq!(rt; only_play(&book)?.tasks.len(), 4_095);
+    assert_eq!(rt; tasks_read(rt.alloc(), 4_095)?, 4_095);
     assert!(rt; refuses(rt.alloc(), pings(rt.alloc(), 4_096)?.as_str())?);
     Ok(())
 }

@@ -1,5 +1,6 @@
 // The kinds of what tasks register, worked out once for each module and action.
 ghost use Rattle.std.specs.Prelude.{◌≡◌, true, false, cond, map, IfOk, Some, option_map, string_bytes};
+ghost use Rattle.pb_semantics.specs.Join.{join as least_above};
 ghost use Rattle.pb_semantics.specs.Kind.{recs};
 ghost use Rattle.pb_language.specs.Book.{Registry as Modules};
 ghost use Rattle.pb_language.specs.Cases.{changed_slots};
@@ -128,13 +129,31 @@ fn entry_of(alloc: Global, found: &Builtin) -> Result<Entry, AllocError>
     ensures { IfOk result (λ e. entry_listed e ≡ module_listed (builtin_view found.now)) }
 {
     let results = going_results(alloc, found)?;
-    let failed = failed_result(alloc, found)?;
+    let (ran_or_failed, skipped_or_failed) = written_kinds(alloc, found, &results)?;
     Ok(Entry {
         name: found.shared_name().clone()?,
-        ran_or_failed: join(alloc, results.kind(false), &failed)?,
-        skipped_or_failed: join(alloc, results.kind(true), &failed)?,
         results,
+        ran_or_failed,
+        skipped_or_failed,
     })
+}
+
+// The kinds of what a task of the module registers, be it failed or not: of one that always runs, and of one that may be
+// skipped.
+fn written_kinds(
+    alloc: Global,
+    found: &Builtin,
+    results: &Results,
+) -> Result<(Kind, Kind), AllocError>
+    ensures ran { IfOk result (λ k. kind_view k.0
+        ≡ least_above (result_kind results.now false) (result_of_failure (builtin_view found.now))) }
+    ensures skipped { IfOk result (λ k. kind_view k.1
+        ≡ least_above (result_kind results.now true) (result_of_failure (builtin_view found.now))) }
+{
+    let failed = failed_result(alloc, found)?;
+    let ran_or_failed = join(alloc, results.kind(false), &failed)?;
+    let skipped_or_failed = join(alloc, results.kind(true), &failed)?;
+    Ok((ran_or_failed, skipped_or_failed))
 }
 
 fn going_results(alloc: Global, found: &Builtin) -> Result<Results, AllocError>

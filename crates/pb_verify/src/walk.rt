@@ -1,6 +1,6 @@
 // One host's way through the tasks: what is known of its variables, and the first expression that isn't fit.
-ghost use Rattle.std.specs.Prelude.{◌≡◌, ◌&&◌, ℕ, Bool, true, false, not, None, IfOk, OnOk, map, option_map, string_bytes, codes, is_some};
-ghost use Rattle.pb_semantics.specs.Kind.{no_slots, spot, slot_at, put_slot};
+ghost use Rattle.std.specs.Prelude.{◌≡◌, ◌&&◌, ◌∷◌, [], ℕ, Bool, true, false, not, None, IfOk, OnOk, map, option_map, string_bytes, codes, is_some};
+ghost use Rattle.pb_semantics.specs.Kind.{hosts, no_slots, spot, slot_at, put_slot};
 ghost use Rattle.pb_semantics.specs.Below.{below as is_below};
 ghost use Rattle.pb_language.specs.Book.{Registry as Modules};
 ghost use Rattle.pb_language.specs.Cases.{parts_set, set_spot, is_conditional};
@@ -76,25 +76,47 @@ pub fn follow(
     let results = ResultTable::of(alloc, registry)?;
     let mut environment = opening;
     let mut known = Slots::new(alloc);
+    let fault = first_fault(
+        alloc,
+        tasks,
+        registry,
+        &results,
+        &mut environment,
+        &mut known,
+    )?;
+    Ok(Followed { fault, known })
+}
+
+// The first fault of the tasks, or none. What is known of variables, and what is written, is taken up to it.
+fn first_fault(
+    alloc: Global,
+    tasks: &[Task],
+    registry: &Registry,
+    results: &ResultTable,
+    environment: &mut Slots,
+    known: &mut Slots,
+) -> Result<Option<Fault>, AllocError>
+    requires known { are_known (modules_of registry.now) tasks.now ≡ true }
+    requires plain { are_plain_tasks (plain_tasks tasks.now) ≡ true }
+    requires ruled { plain_rules (modules_of registry.now) (plain_tasks tasks.now) ≡ None }
+    requires listed { Lists results.now (modules_of registry.now) }
+    requires empty { slots_view known.old.entries ≡ no_slots }
+    ensures fault { IfOk result (λ f. (h : Name) → Stands h (slots_view environment.old.entries) no_slots
+        → option_map (fault_refusal h) f ≡ plain_flow (modules_of registry.now) h 0 no_slots (plain_tasks tasks.now)) }
+    ensures known { IfOk result (λ f. (h : Name) → Stands h (slots_view environment.old.entries) no_slots → f ≡ None
+        → Joins (plain_writes (modules_of registry.now) h 0 no_slots (plain_tasks tasks.now)) (slots_view known.new.entries)) }
+{
     for task in tasks {
-        match step(
-            alloc,
-            task,
-            registry,
-            &results,
-            &mut environment,
-            &mut known,
-        ) {
+        match step(alloc, task, registry, results, environment, known) {
             Ok(()) => {}
             Err(KindFault::Unfit(unfit)) => {
                 let line = task.line;
-                let fault = Some(Fault { unfit, line });
-                return Ok(Followed { fault, known });
+                return Ok(Some(Fault { unfit, line }));
             }
             Err(KindFault::NoMemory) => return Err(AllocError),
         }
     }
-    Ok(Followed { fault: None, known })
+    Ok(None)
 }
 
 // Asks one task, and takes what is known of variables, and what is written, past it.
@@ -123,21 +145,32 @@ pub fn opening(alloc: Global, name: &str, groups: usize) -> Result<Slots, AllocE
     ensures { IfOk result (λ s. groups ≡ 1 → Stands name.now (slots_view s.entries) no_slots) }
 {
     let mut environment = Slots::new(alloc);
+    let host = host_kind(alloc, name)?;
+    put_certain(alloc, "inventory_hostname", host, &mut environment)?;
+    let names = Kind::List(Arc::new(alloc, Kind::Text)?, groups);
+    put_certain(alloc, "group_names", names, &mut environment)?;
+    Ok(environment)
+}
+
+// The kind of the host's name alone.
+fn host_kind(alloc: Global, name: &str) -> Result<Kind, AllocError>
+    ensures { IfOk result (λ k. kind_view k ≡ hosts (name.now ∷ [])) }
+{
     let mut names = BTreeSet::new(alloc);
     drop(names.insert(String::from_str(alloc, name)?)?);
-    let host = certain(Kind::Host(Arc::new(alloc, names)?));
-    put(
-        &mut environment,
-        String::from_str(alloc, "inventory_hostname")?,
-        host,
-    )?;
-    let list = certain(Kind::List(Arc::new(alloc, Kind::Text)?, groups));
-    put(
-        &mut environment,
-        String::from_str(alloc, "group_names")?,
-        list,
-    )?;
-    Ok(environment)
+    Ok(Kind::Host(Arc::new(alloc, names)?))
+}
+
+fn put_certain(
+    alloc: Global,
+    name: &str,
+    kind: Kind,
+    environment: &mut Slots,
+) -> Result<(), AllocError>
+    ensures { OnOk result (slots_view environment.new.entries
+        ≡ put_slot name.now true (kind_view kind) (slots_view environment.old.entries)) }
+{
+    put(environment, String::from_str(alloc, name)?, certain(kind))
 }
 
 type Sets = Vec<(Arc<String>, Kind)>;

@@ -19,3 +19,6 @@ returns-in-Some c =
 
 pub returns-in-SetFact : goal.returns-in-SetFact
 returns-in-SetFact c = rw c.in-SetFact.is (c.are_variables.ensures (modules_of c.args.registry.now))
+
+pub returns-in-Debug : goal.returns-in-Debug
+returns-in-Debug c = rw c.in-Debug.is c.is_message.ensures

@@ -1,8 +1,11 @@
-use Rattle.std.proofs.Common.{◌≡◌, true, subst}
+use Rattle.std.proofs.Common.{◌≡◌, ◌∙◌, true, ap, subst}
 use Rattle.pb_verify.specs.Judges.{is_accepted}
 use Rattle.pb_verify.specs.declared.checked.Accepted.{Accepted}
 use Rattle.pb_verify.proofs.AcceptedRuns.{accepted_never_stuck, accepted_within_budget}
 use Rattle.pb_verify.proofs.checked.Checked.budget.Goals as goal
+
+pub returns-clause-budget : goal.returns-clause-budget
+returns-clause-budget c = ap (λ (a : Accepted). a.budget) (c.deref.ensures ∙ c.self.view_is)
 
 pub returns-clause-accepted : goal.returns-clause-accepted
 returns-clause-accepted c = subst (λ (a : Accepted). is_accepted a ≡ true) c.self.view_is c.self.invariant.0

@@ -10,13 +10,13 @@ use Rattle.pb_verify.specs.Faults.{fault_refusal}
 use Rattle.pb_verify.specs.Way.{own_fault}
 use Rattle.pb_verify.proofs.WalkFlow.{Rest, Way, first_known, first_plain, first_free, later_rest, known_kept, way_done, way_fault, way_on}
 use Rattle.pb_verify.proofs.WalkKnown.{Learned, learned_as, learned_none, learned_on, learned_all}
-use Rattle.pb_verify.proofs.walk.follow.Goals as goal
+use Rattle.pb_verify.proofs.walk.first_fault.Goals as goal
 
 pub loop-task-init : goal.loop-task-init
 loop-task-init c = record {
   left = record { known = c.requires.known; plain = c.requires.plain; ruled = c.requires.ruled };
-  learned = subst (λ es. Learned (modules_of c.args.registry.now) (slots_view c.args.opening.entries) (slots_view c.args.opening.entries) (slots_view es) (plain_tasks c.args.tasks.now) (plain_tasks c.args.tasks.now)) (sym c.new-known.ensures.empty)
-      (learned_none (modules_of c.args.registry.now) (slots_view c.args.opening.entries) (plain_tasks c.args.tasks.now));
+  learned = subst (λ k. Learned (modules_of c.args.registry.now) (slots_view c.args.environment.now.entries) (slots_view c.args.environment.now.entries) k (plain_tasks c.args.tasks.now) (plain_tasks c.args.tasks.now)) (sym c.requires.empty)
+      (learned_none (modules_of c.args.registry.now) (slots_view c.args.environment.now.entries) (plain_tasks c.args.tasks.now));
   way = record { from = λ h s. (0, (no_slots, (s, refl))) };
 }
 
@@ -35,7 +35,7 @@ returns-in-Err-Unfit-clause-fault c =
     let i = c.loop-task.task-index in
     let t = c.task-item.result in
     let rest = drop (i + 1) tasks in
-    let before = slots_view c.args.opening.entries in
+    let before = slots_view c.args.environment.now.entries in
     let now = slots_view c.loop-task.environment.entries in
     let next : drop i tasks ≡ t ∷ rest = drop-at tasks i t c.loop-task-test.true c.task-item.is in
     let plain = first_plain ms t rest (subst (Rest ms) next c.loop-task.invariant.left) in
@@ -54,7 +54,7 @@ loop-task-preserved c =
     let rest = drop (i + 1) tasks in
     let all = plain_tasks tasks in
     let later = plain_tasks rest in
-    let before = slots_view c.args.opening.entries in
+    let before = slots_view c.args.environment.now.entries in
     let now = slots_view c.loop-task.environment.entries in
     let written = slots_view c.loop-task.known.entries in
     let next : drop i tasks ≡ t ∷ rest = drop-at tasks i t c.loop-task-test.true c.task-item.is in
@@ -64,10 +64,10 @@ loop-task-preserved c =
     let kept = known_kept ms t.work (argument_parts t.arguments.items) c.args.registry.now.plain (first_known ms t rest left) in
     let way = subst (λ ts. Way ms before now all (plain_tasks ts)) next c.loop-task.invariant.way in
     let learned = subst (λ ts. Learned ms before now written all (plain_tasks ts)) next c.loop-task.invariant.learned in
-    let knows = c.in-Ok.ensures.known c.in_ok-results.ensures in
+    let knows = c.in-Ok.ensures.known c.requires.listed in
     record {
       left = later_rest ms t rest left;
-      learned = learned_as ms before _ _ _ _ all later (learned_on ms before now written all p later plain learned kept free) knows (c.in-Ok.ensures.written c.in_ok-results.ensures);
+      learned = learned_as ms before _ _ _ _ all later (learned_on ms before now written all p later plain learned kept free) knows (c.in-Ok.ensures.written c.requires.listed);
       way = subst (λ ss. Way ms before ss all later) (sym knows) (way_on ms before now all p later plain way c.in-Ok.ensures.fault kept free);
     }
 
@@ -75,7 +75,7 @@ pub returns-clause-fault : goal.returns-clause-fault
 returns-clause-fault c =
     let ms = modules_of c.args.registry.now in
     let tasks = c.args.tasks.now in
-    let before = slots_view c.args.opening.entries in
+    let before = slots_view c.args.environment.now.entries in
     let now = slots_view c.loop-task.environment.entries in
     let past = drop_all c.loop-task.task-index tasks c.loop-task-test.false in
     way_done ms before now (plain_tasks tasks) (subst (λ ts. Way ms before now (plain_tasks tasks) (plain_tasks ts)) past c.loop-task.invariant.way)
@@ -84,7 +84,7 @@ pub returns-clause-known : goal.returns-clause-known
 returns-clause-known c =
     let ms = modules_of c.args.registry.now in
     let tasks = c.args.tasks.now in
-    let before = slots_view c.args.opening.entries in
+    let before = slots_view c.args.environment.now.entries in
     let now = slots_view c.loop-task.environment.entries in
     let known = slots_view c.loop-task.known.entries in
     let past = drop_all c.loop-task.task-index tasks c.loop-task-test.false in

@@ -9,7 +9,7 @@ from statistics import median
 
 PROGRAM = Path(__file__).resolve().parent.parent / "crates/pb_cli/out/pb_cli"
 LARGE, SMALL = 4094, 1023
-STARTS, RUNS = 20, 7
+ROUNDS = 21
 
 LOAD = "import json,sys\njson.load(open(sys.argv[1]))"
 TIMED_LOAD = """import json,sys,time
@@ -61,15 +61,27 @@ def measured(words, wanted=None):
     return seconds, usage.ru_maxrss, printed
 
 
-def medians(times, words, wanted=None):
-    taken = [measured(words, wanted) for _ in range(times)]
-    return median(seconds for seconds, _, _ in taken), median(memory for _, memory, _ in taken)
+def in_rounds(commands):
+    """Of each command by its name, the figures of its runs.
+
+    Each round runs every command, so that what slows the machine for a while falls on all of them; twice, of which the
+    second counts, so that none pays for what ran before it.
+    """
+    taken = {name: [] for name in commands}
+    for _ in range(ROUNDS):
+        for name, (words, wanted) in commands.items():
+            measured(words, wanted)
+            taken[name].append(measured(words, wanted))
+    return {name: Figures(runs) for name, runs in taken.items()}
 
 
-def load_seconds(path):
-    """What json.load alone takes, without the start of Python."""
-    words = [sys.executable, "-c", TIMED_LOAD, path]
-    return median(float(measured(words)[2]) for _ in range(RUNS))
+class Figures:
+    """The median time and memory of the runs of one command, and what each printed."""
+
+    def __init__(self, runs):
+        self.seconds = median(seconds for seconds, _, _ in runs)
+        self.memory = median(memory for _, memory, _ in runs)
+        self.printed = [printed for _, _, printed in runs]
 
 
 # Printing.
@@ -94,31 +106,28 @@ def at_least(name, rate, least, detail):
 # The figures.
 
 
-def start_up(program, empty, inventory):
-    check, _ = medians(STARTS, [program, "check", empty, "-i", inventory], "accepted budget 0\n")
-    nothing, _ = medians(STARTS, ["/bin/true"])
-    print(f"start-up over /bin/true: {check / nothing:.2f} times ({ms(check)} over {ms(nothing)}); no bar")
+def start_up(found):
+    empty, nothing = found["empty"].seconds, found["nothing"].seconds
+    print(f"start-up over /bin/true: {empty / nothing:.2f} times ({ms(empty)} over {ms(nothing)}); no bar")
 
 
-def against_json_load(check, memory, book):
-    process, process_memory = medians(RUNS, [sys.executable, "-c", LOAD, book])
-    load = load_seconds(book)
-    at_most("check over a process of json.load, time", check / process, 3, f"{ms(check)} over {ms(process)}")
-    at_most("check over json.load alone, time", check / load, 3, f"{ms(check)} over {ms(load)}")
-    detail = f"{memory:,.0f} KiB over {process_memory:,.0f} KiB"
-    at_most("check over a process of json.load, memory", memory / process_memory, 4, detail)
+def against_json_load(found):
+    check, process = found["check"], found["python"]
+    load = median(float(seconds) for seconds in found["load"].printed)
+    detail = f"{ms(check.seconds)} over {ms(process.seconds)}"
+    at_most("check over a process of json.load, time", check.seconds / process.seconds, 3, detail)
+    at_most("check over json.load alone, time", check.seconds / load, 3, f"{ms(check.seconds)} over {ms(load)}")
+    detail = f"{check.memory:,.0f} KiB over {process.memory:,.0f} KiB"
+    at_most("check over a process of json.load, memory", check.memory / process.memory, 4, detail)
 
 
-def growth(program, check, small_book, inventory):
-    words = [program, "check", small_book, "-i", inventory]
-    small, _ = medians(RUNS, words, f"accepted budget {(SMALL + 1) // 2}\n")
-    at_most(f"check of {LARGE:,} tasks over {SMALL:,}", check / small, 5, f"{ms(check)} over {ms(small)}")
+def growth(found):
+    large, small = found["check"].seconds, found["small"].seconds
+    at_most(f"check of {LARGE:,} tasks over {SMALL:,}", large / small, 5, f"{ms(large)} over {ms(small)}")
 
 
-def steps(program, check, book, inventory, answers):
-    words = [program, "run", book, "-i", inventory, "--answers", answers]
-    counts = f"ok={LARGE} changed={LARGE // 2} unreachable=0 failed=0 skipped=0 rescued=0 ignored=0"
-    run, _ = medians(RUNS, words, f"h1 : {counts}\n")
+def steps(found):
+    run, check = found["run"].seconds, found["check"].seconds
     at_least("run, its whole time", LARGE / run, 200_000, ms(run))
     beyond = run - check
     if beyond <= 0:
@@ -127,22 +136,35 @@ def steps(program, check, book, inventory, answers):
     at_least("run, without the time of check", LARGE / beyond, 200_000, f"{ms(run)} less {ms(check)}")
 
 
+def commands(program, folder):
+    """The words of each command that is measured, and what it has to print where that is known."""
+    inventory = write(folder, "inventory.json", {"all": {"hosts": ["h1"]}})
+    empty = write(folder, "empty.json", [])
+    book = write_book(folder, "book.json", LARGE)
+    small = write_book(folder, "small.json", SMALL)
+    answers = write(folder, "answers.json", {"h1": [ANSWER] * (LARGE // 2)})
+    counts = f"ok={LARGE} changed={LARGE // 2} unreachable=0 failed=0 skipped=0 rescued=0 ignored=0"
+    return {
+        "nothing": (["/bin/true"], None),
+        "empty": ([program, "check", empty, "-i", inventory], "accepted budget 0\n"),
+        "python": ([sys.executable, "-c", LOAD, book], None),
+        "load": ([sys.executable, "-c", TIMED_LOAD, book], None),
+        "small": ([program, "check", small, "-i", inventory], f"accepted budget {(SMALL + 1) // 2}\n"),
+        "check": ([program, "check", book, "-i", inventory], f"accepted budget {LARGE // 2}\n"),
+        "run": ([program, "run", book, "-i", inventory, "--answers", answers], f"h1 : {counts}\n"),
+    }
+
+
 def main():
     program = os.path.abspath(sys.argv[1] if len(sys.argv) > 1 else PROGRAM)
     if not os.access(program, os.X_OK):
         sys.exit(f"{program} isn't there; ./playcheck --help builds it")
     with tempfile.TemporaryDirectory() as folder:
-        inventory = write(folder, "inventory.json", {"all": {"hosts": ["h1"]}})
-        empty = write(folder, "empty.json", [])
-        book = write_book(folder, "book.json", LARGE)
-        small_book = write_book(folder, "small.json", SMALL)
-        answers = write(folder, "answers.json", {"h1": [ANSWER] * (LARGE // 2)})
-        start_up(program, empty, inventory)
-        words = [program, "check", book, "-i", inventory]
-        check, memory = medians(RUNS, words, f"accepted budget {LARGE // 2}\n")
-        against_json_load(check, memory, book)
-        growth(program, check, small_book, inventory)
-        steps(program, check, book, inventory, answers)
+        found = in_rounds(commands(program, folder))
+    start_up(found)
+    against_json_load(found)
+    growth(found)
+    steps(found)
 
 
 if __name__ == "__main__":

@@ -30,8 +30,8 @@ use pb_value::value::{Fields, Value, field_of};
 use std::alloc::{AllocError, Global};
 use std::sync::Arc;
 
-/// The most bytes of a book's text.
-const MOST_BYTES: usize = 4_194_304;
+/// The most bytes of a playbook.
+pub const BOOK_LIMIT: usize = 4_194_304;
 
 /// The line of the first play.
 const FIRST_LINE: u32 = 1;
@@ -50,7 +50,7 @@ impl Book {
         ensures not_json { result ≡ Err BookFault.NotJson → json_data bytes.now ≡ None }
         ensures large { 4194304 < length bytes.now → result ≡ Err BookFault.NotBuilt }
     {
-        if bytes.len() > MOST_BYTES {
+        if bytes.len() > BOOK_LIMIT {
             return Err(BookFault::NotBuilt);
         }
         let value = read_json(alloc, bytes)?;

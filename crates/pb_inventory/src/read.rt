@@ -32,8 +32,8 @@ use pb_value::value::{Value, field_of};
 use std::alloc::{AllocError, Global};
 use thiserror::Error;
 
-/// The most bytes of an inventory's text.
-const MOST_BYTES: usize = 4_194_304;
+/// The most bytes of an inventory.
+pub const INVENTORY_LIMIT: usize = 4_194_304;
 
 /// The most bytes of a host's name.
 const MOST_NAME_BYTES: usize = 253;
@@ -90,7 +90,7 @@ impl Inventory {
             → (d : Data) × (json_data bytes.now ≡ Some d) × (inventory_of d ≡ None) }
         ensures large { 4194304 < length bytes.now → result ≡ Err InventoryFault.NotBuilt }
     {
-        if bytes.len() > MOST_BYTES {
+        if bytes.len() > INVENTORY_LIMIT {
             return Err(InventoryFault::NotBuilt);
         }
         let value = read_json(alloc, bytes)?;

@@ -12,3 +12,5 @@ pub mod Rows
 pub mod Fit
 pub mod Signature
 pub mod Admission
+pub mod Gives
+pub mod Limits

@@ -7,6 +7,9 @@ use pb_value::kind::Kind;
 use std::alloc::{AllocError, Global};
 use std::sync::Arc;
 
+/// The most bytes of a file of signatures.
+pub const SIGNATURES_LIMIT: usize = 1_048_576;
+
 /// A parameter of a module.
 #[derive(Drop)]
 pub struct Parameter {

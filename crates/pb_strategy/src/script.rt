@@ -27,7 +27,7 @@ use std::sync::Arc;
 use thiserror::Error;
 
 /// The most bytes of a file of answers.
-const SCRIPT_LIMIT: usize = 67_108_864;
+pub const ANSWERS_LIMIT: usize = 67_108_864;
 
 /// Why a file of answers isn't read.
 #[derive(Debug, Drop, Error)]
@@ -93,7 +93,7 @@ impl ScriptRunner {
 fn is_too_long(bytes: &[u8]) -> bool
     ensures { IsTrue result ↔ 67108864 < length bytes.now }
 {
-    bytes.len() > SCRIPT_LIMIT
+    bytes.len() > ANSWERS_LIMIT
 }
 
 fn are_lists_of_objects(answers: &Fields) -> bool

@@ -1,5 +1,5 @@
 -- What a call gives: what its definition says, want of memory aside.
-use Rattle.std.specs.Prelude.{◌≡◌, Option, Some, None, Result, Ok, Err, Unit}
+use Rattle.std.specs.Prelude.{◌≡◌, Option, Some, None, Result, Ok, Err}
 
 -- a fault that stands for no answer of the definition is want of memory
 abbrev pub FaultGives : {D : Type 0} → Option D → D → Type 0

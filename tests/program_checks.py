@@ -71,6 +71,19 @@ def help_shown(outcome):
     return "status 0, empty stdout, a help text on stderr"
 
 
+def usage_named(outcome):
+    """Wants the status of a help text or a bad line, and usage lines that name the program as it is called here."""
+    if outcome.stdout or b"Usage: playcheck" not in outcome.stderr or b"pb_cli" in outcome.stderr:
+        return "empty stdout, 'Usage: playcheck' and no 'pb_cli' in stderr"
+    return ""
+
+
+def version_shown(outcome):
+    if (outcome.status, outcome.stdout, outcome.stderr) == (0, b"playcheck 0.2.0\n", b""):
+        return ""
+    return "status 0, stdout b'playcheck 0.2.0\\n', empty stderr"
+
+
 def unwritten(outcome):
     return "" if outcome.status == 64 else "status 64"
 
@@ -106,6 +119,14 @@ def command_lines():
         ("help", ["--help"], help_shown),
         ("help-of-check", ["check", "--help"], help_shown),
         ("help-of-run", ["run", "--help"], help_shown),
+        ("usage-of-help", ["--help"], usage_named),
+        ("usage-of-help-of-check", ["check", "--help"], usage_named),
+        ("usage-of-help-of-run", ["run", "--help"], usage_named),
+        ("usage-of-unknown-option", ["--nope"], usage_named),
+        ("usage-of-unknown-option-of-run", [*RUN, "-x"], usage_named),
+        ("version", ["--version"], version_shown),
+        ("version-in-short", ["-V"], version_shown),
+        ("version-of-check", [*CHECK, "--version"], usage(b"--version")),
         ("unknown-command", ["test", "book", "-i", "inventory"], usage()),
         ("unknown-option", ["--nope"], usage()),
         ("unknown-option-of-check", [*CHECK, "--nope"], usage()),

@@ -1,3 +1,5 @@
 pub mod RunTexts
 pub mod Commands
 mod Verdicts
+mod Refusals
+mod Ends

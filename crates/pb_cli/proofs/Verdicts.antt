@@ -1,5 +1,5 @@
 -- What the readers' answers say of the files that are judged.
-use Rattle.std.proofs.Common.{◌≡◌, ◌<◌, ◌≤◌, ℕ, List, length, nat_lt, Bool, true, false, if◌then◌else◌, Option, Some, None, Result, Ok, Err, refl, sym, inl, inr, ap, ◌∙◌}
+use Rattle.std.proofs.Common.{◌≡◌, ◌<◌, ◌≤◌, ℕ, List, length, nat_lt, Bool, true, false, if◌then◌else◌, Option, Some, None, Result, Ok, Err, refl, sym, inl, inr, is_some, option_map, ap, ◌∙◌}
 use Rattle.std.proofs.lemmas.Bool.{ltb-true, ltb-false, le-ltb, lt-ltb}
 use Rattle.pb_semantics.specs.Data.{Data}
 use Rattle.pb_language.specs.Book.{Book as BookData}
@@ -24,7 +24,8 @@ use Rattle.pb_verify.specs.declared.refusal.Code.{Code}
 use Rattle.pb_verify.specs.declared.refusal.Code.TheVariants.{N00, P01, I01}
 use Rattle.pb_verify.specs.declared.verify.VerifyFault.{VerifyFault}
 use Rattle.pb_verify.specs.declared.verify.VerifyFault.TheVariants as verify
-use Rattle.pb_cli.specs.Judged.{Found, whole_file, verdict, Tells, book_verdict, found_by, inventory_verdict, of_book, of_bytes, of_inventory, of_text, of_verify}
+use Rattle.pb_cli.specs.Judged.{Found, whole_file, verdict, Judges as JudgesFiles, Tells, book_verdict, found, found_by, inventory_verdict, of_book, of_bytes, of_inventory, of_text, of_verify}
+use Rattle.pb_cli.specs.declared.judge.Fault.{Fault}
 use Rattle.pb_cli.specs.declared.judge.Fault.TheVariants.{NoMemory}
 
 -- what is said of a text that is read so, with that code where it isn't JSON
@@ -115,3 +116,8 @@ tells_refused i b verify.NoMemory v w read read_book judges = no_memory (found_b
 
 pub tells_accepted : (i : InventoryData) (b : BookData) (a : Accepted) (v : Result InventoryData Code) (w : Result BookData Code) → v ≡ Ok i → w ≡ Ok b → judged builtins (inventory_data i) b ≡ accepted a.budget → Tells (Ok a) (found_by v w)
 tells_accepted i b a v w read read_book judges = rw (read, read_book) judges
+
+-- without signatures
+pub judges_unsigned : {S : Type 0} (f : S → List ℕ) (signatures : Option S) (i b : List ℕ) (r : Result Accepted Fault) → is_some signatures ≡ false → Tells r (found i b) → JudgesFiles (option_map f signatures) i b r
+judges_unsigned f None i b r e tells = tells
+judges_unsigned f (Some s) i b r e tells = cc

@@ -1,6 +1,7 @@
 -- What becomes of the files that are judged.
-use Rattle.std.specs.Prelude.{◌≡◌, ◌⊎◌, ℕ, List, length, nat_lt, if◌then◌else◌, Option, Some, None, Result, Ok, Err}
+use Rattle.std.specs.Prelude.{◌≡◌, ◌⊎◌, ◌<◌, ℕ, List, length, nat_lt, if◌then◌else◌, Option, Some, None, Result, Ok, Err}
 use Rattle.pb_semantics.specs.Data.{Data}
+use Rattle.pb_semantics.specs.Limits.{most_answer_bytes}
 use Rattle.pb_language.specs.Book.{Book}
 use Rattle.pb_language.specs.Judged.{judged}
 use Rattle.pb_language.specs.Verdict.{Verdict, accepted, refused as refused_at}
@@ -15,7 +16,10 @@ use Rattle.pb_book.specs.declared.fault.BookFault.TheVariants as book
 use Rattle.pb_verify.specs.Meaning.{inventory_of as inventory_data, refusal_of}
 use Rattle.pb_verify.specs.declared.checked.Accepted.{Accepted}
 use Rattle.pb_verify.specs.declared.refusal.Code.{Code}
-use Rattle.pb_verify.specs.declared.refusal.Code.TheVariants.{N00, P01, I01}
+use Rattle.pb_strategy.specs.Scripts.{IsNoScript}
+use Rattle.pb_strategy.specs.declared.script.ScriptFault.{ScriptFault}
+use Rattle.pb_strategy.specs.declared.script.ScriptFault.TheVariants as script
+use Rattle.pb_verify.specs.declared.refusal.Code.TheVariants.{N00, P01, I01, A01, A02, A03}
 use Rattle.pb_verify.specs.declared.verify.VerifyFault.{VerifyFault}
 use Rattle.pb_verify.specs.declared.verify.VerifyFault.TheVariants as verify
 use Rattle.pb_cli.specs.declared.judge.Fault.{Fault}
@@ -38,6 +42,12 @@ of_book book.NoMemory = NoMemory
 abbrev pub of_verify : VerifyFault → Fault
 of_verify (verify.Refused r) = Refused r
 of_verify verify.NoMemory = NoMemory
+
+abbrev pub of_script : ScriptFault → Fault
+of_script script.NotJson = refused A01
+of_script script.Shape = refused A02
+of_script script.Limit = refused A03
+of_script script.NoMemory = NoMemory
 
 -- what is read of a value, or the code of what isn't built yet
 abbrev pub built : {X : Type 0} → Option X → Result X Code
@@ -89,3 +99,15 @@ Tells (Ok a) (whole_file code) = ⊥
 Tells (Ok a) (verdict v) = v ≡ accepted a.budget
 Tells (Err f) (whole_file code) = (f ≡ refused code) ⊎ (f ≡ NoMemory)
 Tells (Err f) (verdict v) = Refuses f v
+
+-- files with signatures aren't judged yet, and else that answer says what becomes of them
+abbrev pub Judges : Option (List ℕ) → List ℕ → List ℕ → Result Accepted Fault → Type 0
+Judges (Some signatures) inventory book r = r ≡ Err (refused N00)
+Judges None inventory book r = Tells r (found inventory book)
+
+-- a file of answers has that fault
+abbrev pub HasScriptFault : List ℕ → ScriptFault → Type 0
+HasScriptFault bytes script.NotJson = json_data bytes ≡ None
+HasScriptFault bytes script.Shape = IsNoScript bytes
+HasScriptFault bytes script.Limit = most_answer_bytes < length bytes
+HasScriptFault bytes script.NoMemory = Unit {0}

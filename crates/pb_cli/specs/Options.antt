@@ -1,10 +1,14 @@
 -- What a command line says, read as `clap` reads it.
-use Rattle.std.specs.Prelude.{◌≡◌, ◌≤◌, ℕ, [], List, codes, Option, Some, None, true, false, unwrap_or, option_map, string_bytes}
+use Rattle.std.specs.Prelude.{◌≡◌, ◌≤◌, ◌⊎◌, ℕ, [], List, codes, Option, Some, None, Bool, true, false, unwrap_or, option_map, string_bytes}
 use Rattle.std.specs.Str.Parse.{IsNumeral, digits_value, without_leading_plus}
-use Rattle.clap.specs.Words.{App, Row, Rule, Text, app_of, first_of, new_app, new_rule, with_rule, with_subcommand}
+use Rattle.clap.specs.Words.{App, IsAmong, Kinds, Row, Rule, Text, app_of, first_of, new_app, new_rule, with_rule, with_subcommand}
 use Rattle.clap.specs.declared.builder.command.Command.{Command}
 use Rattle.clap.specs.declared.builder.command.Command.TheViews.{out-Command}
 use Rattle.clap.specs.declared.builder.action.ArgAction.TheVariants.{Set}
+use Rattle.clap.specs.declared.error.kind.ErrorKind.{ErrorKind}
+use Rattle.clap.specs.declared.error.kind.ErrorKind.TheVariants.{DisplayHelp, DisplayVersion, OutOfMemory}
+use Rattle.pb_cli.specs.declared.words.LineFault.{LineFault}
+use Rattle.pb_cli.specs.declared.words.LineFault.TheVariants.{Help, Version, Line, NoMemory}
 use Rattle.pb_cli.specs.declared.words.Options.{Options}
 use Rattle.pb_cli.specs.declared.words.Options.TheVariants.{Check, Run}
 use Rattle.pb_cli.specs.declared.words.Source.{Source}
@@ -57,9 +61,9 @@ check_app = with_files (new_app (codes "check"))
 abbrev pub run_app : App
 run_app = with_sources (with_files (new_app (codes "run")))
 
--- a command is wanted
+-- a command is wanted, or the version
 abbrev pub top_app : App
-top_app = record { top = record (new_app (codes "playcheck")).top { subcommand_required = true }; subs = [] }
+top_app = record { top = record (new_app (codes "playcheck")).top { subcommand_required = true; has_version = true }; subs = [] }
 
 -- the program's command line: playcheck check .. or playcheck run ..
 abbrev pub playcheck_app : App
@@ -92,3 +96,31 @@ Says (Some found) (Run s n a) =
 abbrev pub HasForks : Options → Type 0
 HasForks (Check s) = Unit {0}
 HasForks (Run s n a) = (1 ≤ n) × (n ≤ 256)
+
+-- neither help nor the version is asked for, and memory is there
+abbrev pub is_mistake : ErrorKind → Bool
+is_mistake DisplayHelp = false
+is_mistake DisplayVersion = false
+is_mistake OutOfMemory = false
+is_mistake k = true
+
+-- the fault is the one of this kind, want of memory aside
+abbrev pub IsOfKind : LineFault → ErrorKind → Type 0
+IsOfKind (Help text) k = k ≡ DisplayHelp
+IsOfKind (Version text) k = k ≡ DisplayVersion
+IsOfKind (Line text) k = is_mistake k ≡ true
+IsOfKind NoMemory k = Unit {0}
+
+-- the words are read, and name no options
+abbrev pub NamesNoCommand : LineFault → Type 0
+NamesNoCommand (Help text) = ⊥
+NamesNoCommand (Version text) = ⊥
+NamesNoCommand (Line text) = Unit {0}
+NamesNoCommand NoMemory = Unit {0}
+
+-- the fault is one of these, which `clap` finds in the words, or, where it finds none, that they name no options; want of memory aside
+abbrev pub IsRefusal : Kinds → LineFault → Type 0
+IsRefusal ks (Help text) = IsAmong DisplayHelp ks
+IsRefusal ks (Version text) = IsAmong DisplayVersion ks
+IsRefusal ks (Line text) = (ks ≡ []) ⊎ ((k : ErrorKind) × (IsAmong k ks × (is_mistake k ≡ true)))
+IsRefusal ks NoMemory = Unit {0}

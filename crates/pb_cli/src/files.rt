@@ -1,24 +1,21 @@
 // Files of bounded length.
-use std::io::Read;
-use std::rt::Files;
-use std::{fs, io};
+ghost use Rattle.std.specs.Prelude.{◌≡◌, ◌+◌, ◌<◌, ◌^◌, IfOk, IfSome, take};
 
-/// The file's bytes where there are at most `most`, else its first `most` and one more or a little more:
-/// enough to see that it is too long.
-pub fn read_bounded<R: Files + AllocGlobal>(
-    rt: &R,
-    name: &str,
-    most: usize,
-) -> io::Result<Vec<u8>> {
-    let mut file = fs::open(rt, name)?;
-    let mut found = Vec::new(rt.alloc());
-    let mut buffer = [0u8; 4096];
-    for _ in 0..u64::MAX {
-        let count = file.read(&mut buffer)?;
-        if count == 0 || found.len() > most {
-            break;
-        }
-        found.extend_from_slice(&buffer[..count])?;
-    }
+use std::alloc::Global;
+use std::io;
+use std::io::Read;
+
+/// The reader's bytes where there are at most `most`, else its first `most` and one more, which are enough to see that they
+/// are too many. A read that gives few bytes isn't the end.
+///
+/// # Errors
+/// The reader's, and want of memory.
+pub fn read_bounded<R: Read + Drop>(alloc: Global, reader: R, most: usize) -> io::Result<Vec<u8>>
+    requires { most + 1 < 2 ^ 64 }
+    ensures { IfOk result (λ found. IfSome (R.remaining reader) (λ bytes. found.items ≡ take (most + 1) bytes)) }
+{
+    let mut found = Vec::new(alloc);
+    let mut bounded = reader.take(most as u64 + 1);
+    bounded.read_to_end(&mut found)?;
     Ok(found)
 }

@@ -1,20 +1,17 @@
 // The verdict on the bytes of a playbook and an inventory.
-ghost use Rattle.std.specs.Prelude.{◌≡◌, Ok, Err, IfOk, is_some, true, false};
-ghost use Rattle.pb_language.specs.Judged.{judged};
-ghost use Rattle.pb_language.specs.Verdict.{accepted};
+ghost use Rattle.std.specs.Prelude.{◌≡◌, Ok, IfOk, option_map};
 ghost use Rattle.pb_sig.specs.Table.{builtins};
 ghost use Rattle.pb_sig.specs.Modules.{modules_of};
 ghost use Rattle.pb_inventory.specs.Inventory.{inventory_view};
-ghost use Rattle.pb_book.specs.Books.{book_of, plays_of};
-ghost use Rattle.pb_book.specs.Lines.{names_known};
-ghost use Rattle.pb_verify.specs.Meaning.{inventory_of};
-ghost use Rattle.pb_cli.specs.Judged.{Tells, book_verdict, found, inventory_verdict, refused};
+ghost use Rattle.pb_book.specs.Books.{book_of};
+ghost use Rattle.pb_cli.specs.Judged.{Judges, book_verdict, inventory_verdict, refused};
 
 use pb_book::book::Book;
 use pb_book::fault::BookFault;
 use pb_inventory::inventory::Inventory;
 use pb_inventory::read::InventoryFault;
 use pb_sig::registry::Registry;
+use pb_strategy::script::ScriptFault;
 use pb_verify::checked::Checked;
 use pb_verify::refusal::{Code, Refusal};
 use pb_verify::verify::{VerifyFault, verify};
@@ -68,6 +65,22 @@ impl From<InventoryFault> for Fault {
     }
 }
 
+impl From<ScriptFault> for Fault {
+    ghost use Rattle.std.specs.Prelude.{◌≡◌};
+    ghost use Rattle.pb_cli.specs.Judged.{of_script};
+
+    ghost from_gives = { λ e f. f ≡ of_script e };
+
+    fn from(fault: ScriptFault) -> Fault {
+        match fault {
+            ScriptFault::NotJson => whole(Code::A01),
+            ScriptFault::Shape => whole(Code::A02),
+            ScriptFault::Limit => whole(Code::A03),
+            ScriptFault::NoMemory => Fault::NoMemory,
+        }
+    }
+}
+
 impl From<VerifyFault> for Fault {
     ghost use Rattle.std.specs.Prelude.{◌≡◌};
     ghost use Rattle.pb_cli.specs.Judged.{of_verify};
@@ -102,14 +115,10 @@ pub fn judge(
     inventory: &[u8],
     signatures: Option<&[u8]>,
 ) -> Result<Checked, Fault>
-    ensures signatures { is_some signatures.entry ≡ true → result ≡ Err (refused Code.N00) }
-    ensures verdict { is_some signatures.entry ≡ false → Tells result (found inventory.now book.now) }
+    ensures verdict { Judges (option_map (λ s. s.now) signatures.entry) inventory.now book.now result }
     ensures read { IfOk result (λ c. inventory_verdict inventory.now ≡ Ok (inventory_view c.inventory)) }
     ensures book_read { IfOk result (λ c. book_verdict book.now ≡ Ok (book_of c.book)) }
     ensures modules { IfOk result (λ c. modules_of c.registry ≡ builtins) }
-    ensures known { IfOk result (λ c. names_known builtins (plays_of c.book) ≡ true) }
-    ensures accepted { IfOk result (λ c.
-        judged builtins (inventory_of (inventory_view c.inventory)) (book_of c.book) ≡ accepted c.budget) }
 {
     if signatures.is_some() {
         return Err(whole(Code::N00));

@@ -4,6 +4,7 @@
 mod files;
 mod judge;
 mod options;
+mod outcome;
 mod program;
 mod texts;
 mod words;
@@ -14,7 +15,7 @@ use std::{env, io};
 
 fn main(rt: HostRuntime) -> io::Result<ExitCode> {
     let status = match words_of(&rt) {
-        Ok(words) => program::run(&rt, &words),
+        Ok(words) => program::run(&rt, words.as_slice()),
         Err(e) => program::status_of_fault(&rt, e),
     };
     Ok(ExitCode::from(status))

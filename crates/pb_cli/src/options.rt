@@ -1,18 +1,22 @@
 // The command line, read with `clap`.
-ghost use Rattle.std.specs.Prelude.{◌≡◌, ◌≤◌, [], IfOk, IfSome, codes, map, option_map, unwrap_or, string_bytes, false};
-ghost use Rattle.clap.specs.Words.{app_of, first_of, found_of, rows_of, rule_of, subcommand_of, subcommand_rows_of};
+ghost use Rattle.std.specs.Prelude.{◌≡◌, ◌≤◌, [], IfErr, IfOk, IfSome, codes, map, option_map, unwrap_or, string_bytes, false};
+ghost use Rattle.clap.specs.Words.{app_of, fault_of as kinds_of, first_of, found_of, kind_of, rows_of, rule_of, subcommand_of, subcommand_rows_of};
 ghost use Rattle.pb_cli.specs.Options.{
   Extends,
   HasForks,
-  IsLocal,
   IsForkCount,
+  IsLocal,
+  IsOfKind,
+  IsRefusal,
   NamesFiles,
   NamesSource,
+  NamesNoCommand,
   Says,
   check_app,
   option_rule,
   playcheck_app,
   run_app,
+  top_app,
   with_files,
   with_sources,
 };
@@ -22,6 +26,9 @@ use clap::error::ErrorKind;
 use clap::{Arg, ArgAction, ArgMatches, Command, Error};
 use std::alloc::{AllocError, Global};
 
+/// The version that the program tells of itself.
+const VERSION: &str = "0.2.0";
+
 /// The most workers of a run.
 const MOST_FORKS: u16 = 256;
 
@@ -29,21 +36,29 @@ const MOST_FORKS: u16 = 256;
 const DEFAULT_FORKS: u16 = 5;
 
 /// Reads the words of the command line, the program's name first: the values are those that `clap` finds in them.
-pub fn options(alloc: Global, words: &Vec<String>) -> Result<Options, LineFault>
-    ensures says { IfOk result (Says (subcommand_of playcheck_app (map string_bytes words.now.items))) }
+///
+/// # Errors
+/// `Help` and `Version` only where the words ask for them, with `clap`'s text; `Line` where `clap` finds a mistake in them
+/// or they name no options, with what is wrong.
+pub fn options(alloc: Global, words: &[String]) -> Result<Options, LineFault>
+    ensures says { IfOk result (Says (subcommand_of playcheck_app (map string_bytes words.now))) }
     ensures forks { IfOk result HasForks }
+    ensures refused { IfErr result (IsRefusal (kinds_of playcheck_app (map string_bytes words.now))) }
 {
     let command = command_of(alloc)?;
-    match command.try_get_matches_from(words.as_slice()) {
+    match command.try_get_matches_from(words) {
         Ok(matches) => chosen(alloc, &matches),
         Err(e) => Err(fault_of(alloc, &e)),
     }
 }
 
-fn fault_of(alloc: Global, e: &Error) -> LineFault {
+fn fault_of(alloc: Global, e: &Error) -> LineFault
+    ensures { IsOfKind result (kind_of e.now) }
+{
     match (e.kind(), e.to_string(alloc)) {
         (ErrorKind::OutOfMemory, _) | (_, Err(_)) => LineFault::NoMemory,
         (ErrorKind::DisplayHelp, Ok(text)) => LineFault::Help(text),
+        (ErrorKind::DisplayVersion, Ok(text)) => LineFault::Version(text),
         (_, Ok(text)) => LineFault::Line(text),
     }
 }
@@ -51,6 +66,7 @@ fn fault_of(alloc: Global, e: &Error) -> LineFault {
 fn chosen(alloc: Global, matches: &ArgMatches<'_>) -> Result<Options, LineFault>
     ensures says { IfOk result (Says (subcommand_rows_of matches.now)) }
     ensures forks { IfOk result HasForks }
+    ensures refused { IfErr result NamesNoCommand }
 {
     match matches.subcommand() {
         Some(("check", found)) => Ok(Options::Check(subject_of(alloc, found)?)),
@@ -63,7 +79,9 @@ fn chosen(alloc: Global, matches: &ArgMatches<'_>) -> Result<Options, LineFault>
     }
 }
 
-fn line(alloc: Global, text: &str) -> Result<LineFault, AllocError> {
+fn line(alloc: Global, text: &str) -> Result<LineFault, AllocError>
+    ensures { IfOk result NamesNoCommand }
+{
     Ok(LineFault::Line(String::from_str(alloc, text)?))
 }
 
@@ -100,7 +118,8 @@ fn optional_of(
 }
 
 fn subject_of(alloc: Global, found: &ArgMatches<'_>) -> Result<Subject, LineFault>
-    ensures { IfOk result (NamesFiles (rows_of (found_of found.now))) }
+    ensures files { IfOk result (NamesFiles (rows_of (found_of found.now))) }
+    ensures refused { IfErr result NamesNoCommand }
 {
     Ok(Subject {
         book: text_of(alloc, found, "book")?,
@@ -112,6 +131,7 @@ fn subject_of(alloc: Global, found: &ArgMatches<'_>) -> Result<Subject, LineFaul
 fn forks_of(alloc: Global, found: &ArgMatches<'_>) -> Result<u16, LineFault>
     ensures numeral { IfOk result (IsForkCount (first_of (codes "forks") (rows_of (found_of found.now)))) }
     ensures range { IfOk result (λ n. (1 ≤ n) × (n ≤ 256)) }
+    ensures refused { IfErr result NamesNoCommand }
 {
     match number_of(value_of(found, "forks")) {
         Some(n) if n >= 1 && n <= MOST_FORKS => Ok(n),
@@ -130,7 +150,8 @@ fn number_of(text: Option<&str>) -> Option<u16>
 }
 
 fn source_of(alloc: Global, found: &ArgMatches<'_>) -> Result<Source, LineFault>
-    ensures { IfOk result (NamesSource (rows_of (found_of found.now))) }
+    ensures source { IfOk result (NamesSource (rows_of (found_of found.now))) }
+    ensures refused { IfErr result NamesNoCommand }
 {
     match (value_of(found, "answers"), value_of(found, "modules")) {
         (Some(name), None) => Ok(Source::Answers(String::from_str(alloc, name)?)),
@@ -146,11 +167,21 @@ fn command_of<'a>(alloc: Global) -> Result<Command<'a>, AllocError>
     ensures { IfOk result (λ c. app_of c ≡ playcheck_app) }
 {
     let check = check_command(alloc)?;
-    let command = Command::new(alloc, "playcheck")
-        .about("Verifies Ansible playbooks in JSON form, and runs what it accepts")
-        .subcommand_required(true)
-        .subcommand(check)?;
+    let command = top_command(alloc)?.subcommand(check)?;
     command.subcommand(run_command(alloc)?)
+}
+
+// Named so in usage, whatever the program's file is called.
+fn top_command<'a>(alloc: Global) -> Result<Command<'a>, AllocError>
+    ensures { IfOk result (λ c. app_of c ≡ top_app) }
+{
+    let command = Command::new(alloc, "playcheck").bin_name("playcheck")?;
+    Ok(
+        command
+            .version(VERSION)
+            .about("Verifies Ansible playbooks in JSON form, and runs what it accepts")
+            .subcommand_required(true),
+    )
 }
 
 fn check_command<'a>(alloc: Global) -> Result<Command<'a>, AllocError>

@@ -23,7 +23,8 @@ pub fn verdict_text(alloc: Global, verdict: &Result<Checked, Fault>) -> Result<S
     }
 }
 
-fn refusal_text(alloc: Global, refusal: &Refusal) -> Result<String, AllocError>
+/// The line of a refusal with its line feed.
+pub fn refusal_text(alloc: Global, refusal: &Refusal) -> Result<String, AllocError>
     ensures { IfOk result (λ s. string_bytes s ≡ refusal_line refusal.now) }
 {
     let code = refusal.code.text();

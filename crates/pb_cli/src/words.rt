@@ -35,12 +35,19 @@ pub enum Options {
 pub enum LineFault {
     /// Help was asked for; the text of it.
     Help(String),
+    /// The version was asked for; the line with it.
+    Version(String),
     /// The words can't be read; what is wrong with them.
     Line(String),
     NoMemory,
 }
 
 impl From<AllocError> for LineFault {
+    ghost use Rattle.std.specs.Prelude.{◌≡◌};
+    ghost use Rattle.pb_cli.specs.declared.words.LineFault.TheVariants.{NoMemory};
+
+    ghost from_gives = { λ _ e. e ≡ NoMemory };
+
     fn from(_: AllocError) -> LineFault {
         LineFault::NoMemory
     }

@@ -1,4 +1,4 @@
-use Rattle.std.proofs.Common.{Err, Ok, sym, ap, ◌∙◌, subst}
+use Rattle.std.proofs.Common.{◌≡◌, Err, Ok, is_some, false, sym, ap, ◌∙◌, subst, rules}
 use Rattle.std.proofs.lemmas.Result.{err_from_is_err_and}
 use Rattle.pb_language.specs.Judged.{judged}
 use Rattle.pb_sig.specs.Table.{builtins}
@@ -8,37 +8,40 @@ use Rattle.pb_book.specs.Reading.{IsBook, IsNoBook}
 use Rattle.pb_verify.specs.Judges.{Refuses}
 use Rattle.pb_verify.specs.Meaning.{inventory_of}
 use Rattle.pb_cli.specs.Judged.{book_verdict, inventory_verdict}
-use Rattle.pb_cli.proofs.Verdicts.{book_read, book_says, inventory_read, inventory_says, tells_accepted, tells_book, tells_inventory, tells_refused}
+use Rattle.pb_cli.proofs.Verdicts.{book_read, book_says, inventory_read, inventory_says, judges_unsigned, tells_accepted, tells_book, tells_inventory, tells_refused}
 use Rattle.pb_cli.proofs.judge.judge.Goals as goal
 
-pub returns-then-is_some-clause-signatures : goal.returns-then-is_some-clause-signatures
-returns-then-is_some-clause-signatures c = λ _. ap (λ f. Err f) c.whole.ensures
-
 pub returns-in_err-inventory-clause-verdict : goal.returns-in_err-inventory-clause-verdict
-returns-in_err-inventory-clause-verdict c = λ _.
+returns-in_err-inventory-clause-verdict c =
+    let none : is_some c.args.signatures ≡ false = search rules in
     let p = err_from_is_err_and c.from_residual-in_err-inventory.result c.from_residual-in_err-inventory.ensures.1 in
     let told = c.in_err-inventory.was in
-    rw (p.1, p.2) (tells_inventory c.in_err-inventory.field-0.0 (inventory_verdict c.args.inventory.now) (book_verdict c.args.book.now)
-    (inventory_says c.args.inventory.now c.read.result c.read.ensures.large c.in_err-inventory.field-0.0 told (λ e. c.read.ensures.not_json (told ∙ ap (λ f. Err f) e)) (λ e. c.read.ensures.not_built (told ∙ ap (λ f. Err f) e))))
+    judges_unsigned (λ s. s.now) c.args.signatures c.args.inventory.now c.args.book.now c.from_residual-in_err-inventory.result none
+    (rw (p.1, p.2) (tells_inventory c.in_err-inventory.field-0.0 (inventory_verdict c.args.inventory.now) (book_verdict c.args.book.now)
+    (inventory_says c.args.inventory.now c.read.result c.read.ensures.large c.in_err-inventory.field-0.0 told (λ e. c.read.ensures.not_json (told ∙ ap (λ f. Err f) e)) (λ e. c.read.ensures.not_built (told ∙ ap (λ f. Err f) e)))))
 
 pub returns-in_err-book-clause-verdict : goal.returns-in_err-book-clause-verdict
-returns-in_err-book-clause-verdict c = λ _.
+returns-in_err-book-clause-verdict c =
+    let none : is_some c.args.signatures ≡ false = search rules in
     let p = err_from_is_err_and c.from_residual-in_err-book.result c.from_residual-in_err-book.ensures.1 in
     let told = c.in_err-book.was in
     let read = inventory_read c.args.inventory.now c.read.result c.read.ensures.large c.in_ok-inventory.inventory c.in_ok-inventory.was c.in_ok-inventory.ensures.ok in
-    rw (p.1, p.2) (tells_book (inventory_view c.in_ok-inventory.inventory) c.in_err-book.field-0.0 (inventory_verdict c.args.inventory.now) (book_verdict c.args.book.now) read
+    judges_unsigned (λ s. s.now) c.args.signatures c.args.inventory.now c.args.book.now c.from_residual-in_err-book.result none
+    (rw (p.1, p.2) (tells_book (inventory_view c.in_ok-inventory.inventory) c.in_err-book.field-0.0 (inventory_verdict c.args.inventory.now) (book_verdict c.args.book.now) read
     (book_says c.args.book.now c.read-2.result c.read-2.ensures.large c.in_err-book.field-0.0 told (λ e. c.read-2.ensures.not_json (told ∙ ap (λ f. Err f) e))
-    (λ e l. subst (λ ms. IsNoBook ms c.args.book.now) c.in_ok-registry.ensures (c.read-2.ensures.not_built (told ∙ ap (λ f. Err f) e) l))))
+    (λ e l. subst (λ ms. IsNoBook ms c.args.book.now) c.in_ok-registry.ensures (c.read-2.ensures.not_built (told ∙ ap (λ f. Err f) e) l)))))
 
 pub returns-in_err-verify-clause-verdict : goal.returns-in_err-verify-clause-verdict
-returns-in_err-verify-clause-verdict c = λ _.
+returns-in_err-verify-clause-verdict c =
+    let none : is_some c.args.signatures ≡ false = search rules in
     let p = err_from_is_err_and c.from_residual-in_err-verify.result c.from_residual-in_err-verify.ensures.1 in
     let i = inventory_view c.in_ok-inventory.inventory in
     let b = c.in_ok-book.book in
     let read = inventory_read c.args.inventory.now c.read.result c.read.ensures.large c.in_ok-inventory.inventory c.in_ok-inventory.was c.in_ok-inventory.ensures.ok in
     let read_book = book_read c.args.book.now c.read-2.result c.read-2.ensures.large b c.in_ok-book.was (subst (λ ms. IsBook ms c.args.book.now b) c.in_ok-registry.ensures c.in_ok-book.ensures.book) in
-    rw (p.1, p.2) (tells_refused i (book_of b) c.in_err-verify.field-0.0 (inventory_verdict c.args.inventory.now) (book_verdict c.args.book.now) read read_book
-    (subst (λ ms. Refuses c.in_err-verify.field-0.0 (judged ms (inventory_of i) (book_of b))) c.in_ok-registry.ensures c.in_err-verify.ensures.refused))
+    judges_unsigned (λ s. s.now) c.args.signatures c.args.inventory.now c.args.book.now c.from_residual-in_err-verify.result none
+    (rw (p.1, p.2) (tells_refused i (book_of b) c.in_err-verify.field-0.0 (inventory_verdict c.args.inventory.now) (book_verdict c.args.book.now) read read_book
+    (subst (λ ms. Refuses c.in_err-verify.field-0.0 (judged ms (inventory_of i) (book_of b))) c.in_ok-registry.ensures c.in_err-verify.ensures.refused)))
 
 pub returns-clause-read : goal.returns-clause-read
 returns-clause-read c =
@@ -51,17 +54,17 @@ returns-clause-book_read c =
     book_read c.args.book.now c.read-2.result c.read-2.ensures.large b c.in_ok-book.was (subst (λ ms. IsBook ms c.args.book.now b) c.in_ok-registry.ensures c.in_ok-book.ensures.book)
     ∙ ap (λ x. Ok (book_of x)) (sym c.in_ok-verify.ensures.handed.0)
 
-pub returns-clause-accepted : goal.returns-clause-accepted
-returns-clause-accepted c =
+pub returns-clause-verdict : goal.returns-clause-verdict
+returns-clause-verdict c =
+    let none : is_some c.args.signatures ≡ false = search rules in
     let kept = c.in_ok-verify.ensures.handed in
     let book = book_of c.in_ok-book.book in
     let inventory = inventory_of (inventory_view c.in_ok-inventory.inventory) in
+    let accepted =
     ap (λ i. judged builtins (inventory_of (inventory_view i)) (book_of c.in_ok-verify.field-0.book)) kept.1
     ∙ ap (λ b. judged builtins inventory (book_of b)) kept.0
     ∙ ap (λ ms. judged ms inventory book) (sym c.in_ok-registry.ensures)
-    ∙ c.in_ok-verify.ensures.accepted
-
-pub returns-clause-verdict : goal.returns-clause-verdict
-returns-clause-verdict c = λ _.
-    tells_accepted (inventory_view c.in_ok-verify.field-0.inventory) (book_of c.in_ok-verify.field-0.book) c.in_ok-verify.field-0 (inventory_verdict c.args.inventory.now) (book_verdict c.args.book.now) (returns-clause-read c) (returns-clause-book_read c)
-    (returns-clause-accepted c)
+    ∙ c.in_ok-verify.ensures.accepted in
+    judges_unsigned (λ s. s.now) c.args.signatures c.args.inventory.now c.args.book.now (Ok c.in_ok-verify.field-0) none
+    (tells_accepted (inventory_view c.in_ok-verify.field-0.inventory) (book_of c.in_ok-verify.field-0.book) c.in_ok-verify.field-0 (inventory_verdict c.args.inventory.now) (book_verdict c.args.book.now)
+    (returns-clause-read c) (returns-clause-book_read c) accepted)

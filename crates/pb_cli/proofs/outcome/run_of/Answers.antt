@@ -1,0 +1,13 @@
+use Rattle.std.proofs.Common.{inr, subst}
+use Rattle.pb_cli.specs.Outcomes.{RunsAnswers}
+use Rattle.pb_cli.proofs.outcome.run_of.Goals as goal
+
+pub returns : goal.returns
+returns c =
+    inr (
+      c.in_ok-checked.checked,
+      (
+        c.in_ok-checked.ensures,
+        subst (λ answers. RunsAnswers c.args.forks answers c.in_ok-checked.checked c.scripted_run-run.result) c.as_slice.ensures.value c.scripted_run-run.ensures,
+      ),
+    )

@@ -1,0 +1,101 @@
+-- What the program comes to: what it prints where, and its status.
+use Rattle.std.specs.Prelude.{◌≡◌, ◌⊎◌, ℕ, List, length, max, min, option_map, true, false, Result, Ok, Err, IsErr, string_bytes}
+use Rattle.std.specs.declared.alloc.AllocError.{AllocError}
+use Rattle.pb_inventory.specs.Inventory.{inventory_view}
+use Rattle.pb_verify.specs.declared.checked.Accepted.{Accepted}
+use Rattle.pb_strategy.specs.History.{RunState, is_ended, is_stopped}
+use Rattle.pb_strategy.specs.Sound.{IsSound}
+use Rattle.pb_strategy.specs.declared.script.ScriptFault.{ScriptFault}
+use Rattle.pb_cli.specs.Judged.{HasScriptFault, Judges, of_script}
+use Rattle.pb_cli.specs.Texts.{refusal_line, run_lines, status_for, verdict_line}
+use Rattle.pb_cli.specs.declared.judge.Fault.{Fault}
+use Rattle.pb_cli.specs.declared.judge.Fault.TheVariants.{Refused, NoMemory}
+use Rattle.pb_cli.specs.declared.outcome.Bytes.{Bytes}
+use Rattle.pb_cli.specs.declared.outcome.Outcome.{Outcome}
+use Rattle.pb_cli.specs.declared.outcome.Stream.TheVariants.{Output, Error}
+use Rattle.pb_cli.specs.declared.words.LineFault.{LineFault}
+use Rattle.pb_cli.specs.declared.words.LineFault.TheVariants as words
+use Rattle.pb_cli.specs.declared.words.Options.{Options}
+use Rattle.pb_cli.specs.declared.words.Options.TheVariants.{Check, Run}
+use Rattle.pb_cli.specs.declared.words.Source.{Source}
+use Rattle.pb_cli.specs.declared.words.Source.TheVariants.{Answers, Modules}
+
+-- the statuses: all is well, a refusal, a bad command line
+abbrev pub fine : ℕ
+fine = 0
+
+abbrev pub refused : ℕ
+refused = 1
+
+abbrev pub usage : ℕ
+usage = 64
+
+-- on words that name no options
+abbrev pub LineSays : LineFault → Result Outcome AllocError → Type 0
+LineSays (words.Help text) r = r ≡ Ok (record { stream = Error; text = text; status = fine })
+LineSays (words.Version text) r = r ≡ Ok (record { stream = Output; text = text; status = fine })
+LineSays (words.Line text) r = r ≡ Ok (record { stream = Error; text = text; status = usage })
+LineSays words.NoMemory r = IsErr r
+
+-- that text on standard output, and that status
+pub record Prints (line : List ℕ) (code : ℕ) (o : Outcome) : Type 0 where
+  pub output : o.stream ≡ Output
+  pub text : string_bytes o.text ≡ line
+  pub status : o.status ≡ code
+
+abbrev pub VerdictSays : Result Accepted Fault → Outcome → Type 0
+VerdictSays (Ok a) o = Prints (verdict_line (Ok a)) fine o
+VerdictSays (Err (Refused r)) o = Prints (refusal_line r) refused o
+VerdictSays (Err NoMemory) o = ⊥
+
+abbrev pub RunSays : Result RunState Fault → Outcome → Type 0
+RunSays (Ok r) o = Prints (run_lines r) (status_for r.recaps) o
+RunSays (Err (Refused r)) o = Prints (refusal_line r) refused o
+RunSays (Err NoMemory) o = ⊥
+
+-- the verdict on the files
+abbrev pub JudgesFiles : Bytes → Result Accepted Fault → Type 0
+JudgesFiles b r = Judges (option_map (λ s. s.items) b.signatures) b.inventory.items b.book.items r
+
+-- as many workers as there are hosts, at most so many and at least one
+abbrev pub workers : ℕ → Accepted → ℕ
+workers most a = max (min most (length (inventory_view a.inventory).hosts)) 1
+
+-- a run of that book to its end
+pub record IsWholeRun (most : ℕ) (a : Accepted) (r : RunState) : Type 0 where
+  pub book : r.checked ≡ a
+  pub forks : r.forks ≡ workers most a
+  pub sound : IsSound r
+  pub ended : is_ended r ≡ true
+  pub going_on : is_stopped r.history ≡ false
+
+-- what becomes of a run of an accepted book: the fault of the answers, or the whole run
+abbrev pub RunsAnswers : ℕ → List ℕ → Accepted → Result RunState Fault → Type 0
+RunsAnswers forks answers a (Ok r) = IsWholeRun forks a r
+RunsAnswers forks answers a (Err f) = (s : ScriptFault) × ((f ≡ of_script s) × HasScriptFault answers s)
+
+-- the verdict comes first: its fault, or what becomes of the run of what it accepts
+abbrev pub RunsFiles : ℕ → Bytes → Result RunState Fault → Type 0
+RunsFiles forks b r = ((f : Fault) × (JudgesFiles b (Err f) × (r ≡ Err f))) ⊎ ((a : Accepted) × (JudgesFiles b (Ok a) × RunsAnswers forks b.answers.items a r))
+
+-- what `check` comes to
+abbrev pub ChecksAs : Bytes → Outcome → Type 0
+ChecksAs b o = (r : Result Accepted Fault) × (JudgesFiles b r × VerdictSays r o)
+
+-- what `run` comes to
+abbrev pub RunsAs : ℕ → Bytes → Outcome → Type 0
+RunsAs forks b o = (r : Result RunState Fault) × (RunsFiles forks b r × RunSays r o)
+
+-- a bad command line
+abbrev pub IsLineFault : Outcome → Type 0
+IsLineFault o = (o.stream ≡ Error) × (o.status ≡ usage)
+
+-- by what answers the calls; programs aren't built yet
+abbrev pub RunsBy : Source → ℕ → Bytes → Outcome → Type 0
+RunsBy (Answers name) forks b o = RunsAs forks b o
+RunsBy (Modules name) forks b o = IsLineFault o
+
+-- what the options and the files come to
+abbrev pub IsOutcome : Options → Bytes → Outcome → Type 0
+IsOutcome (Check s) b o = ChecksAs b o
+IsOutcome (Run s forks source) b o = RunsBy source forks b o

@@ -4,7 +4,7 @@ use Rattle.std.specs.Ordering.{match_ordering}
 use Rattle.std.specs.BTreeMap.{insert_entry}
 use Rattle.pb_semantics.proofs.Bools.{and-left, and-right, and-both}
 use Rattle.pb_language.specs.Simple.{is_simple, parts_simple}
-use Rattle.pb_language.specs.Plain.{is_plain_task, are_plain_tasks}
+use Rattle.pb_language.specs.plain.Books.{is_plain_task, are_plain_tasks}
 use Rattle.pb_expr.specs.ExprView.{expr_view, parts_view}
 use Rattle.pb_expr.specs.declared.expr.Expr.{Expr}
 use Rattle.pb_book.specs.Meaning.{argument_parts, plain_task, plain_tasks}

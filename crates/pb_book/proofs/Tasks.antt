@@ -3,7 +3,7 @@ use Rattle.std.proofs.Common.{◌≡◌, ℕ, ◌+◌, ◌<◌, ◌≤◌, List,
 use Rattle.std.proofs.lemmas.Bool.Decides.{nat_tests}
 use Rattle.pb_semantics.specs.Data.{list}
 use Rattle.pb_semantics.specs.Signature.{ModuleData}
-use Rattle.pb_language.specs.Plain.{PlainTask}
+use Rattle.pb_language.specs.plain.Books.{PlainTask}
 use Rattle.pb_value.specs.View.{view, items_view}
 use Rattle.pb_value.specs.declared.value.Value.{Value}
 use Rattle.pb_value.proofs.Fields.{count_of-items_view}

@@ -1,7 +1,7 @@
 -- What a caller sees of a book, and what the book stands for.
 use Rattle.std.specs.Prelude.{List, map}
 use Rattle.pb_language.specs.Book as language
-use Rattle.pb_language.specs.Plain.{plain_play}
+use Rattle.pb_language.specs.plain.Books.{plain_play}
 use Rattle.pb_book.specs.Meaning.{plain_tasks}
 use Rattle.pb_book.specs.declared.book.Book.{Book}
 use Rattle.pb_book.specs.declared.book.Play.{Play}

@@ -3,7 +3,7 @@ use Rattle.std.specs.Prelude.{List, [], ◌∷◌, map, Option, Some, None, opti
 use Rattle.pb_language.specs.Expression.{Expressions, no_expressions, expression, Parts, no_parts, part}
 use Rattle.pb_language.specs.Book as language
 use Rattle.pb_language.specs.Book.{module_work, debug_work, set_fact_work}
-use Rattle.pb_language.specs.Plain.{PlainTask, are_plain_tasks}
+use Rattle.pb_language.specs.plain.Books.{PlainTask, are_plain_tasks}
 use Rattle.pb_expr.specs.ExprView.{expr_view}
 use Rattle.pb_expr.specs.declared.expr.Expr.{Expr}
 use Rattle.pb_book.specs.declared.book.Argument.{Argument}

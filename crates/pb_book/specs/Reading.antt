@@ -11,7 +11,7 @@ use Rattle.pb_language.specs.Grammar.{expression_of, template_of, has_opening}
 use Rattle.pb_language.specs.Rules.{is_variable_name}
 use Rattle.pb_language.specs.Book as language
 use Rattle.pb_language.specs.Book.{module_work, debug_work, set_fact_work}
-use Rattle.pb_language.specs.Plain.{PlainTask, plain_play}
+use Rattle.pb_language.specs.plain.Books.{PlainTask, plain_play}
 use Rattle.pb_book.specs.Books.{book_of}
 use Rattle.pb_book.specs.declared.book.Book.{Book}
 

@@ -2,11 +2,11 @@
 ghost use Rattle.std.specs.Prelude.{◌≡◌, ◌<◌, ◌≤◌, [], ◌∷◌, Err, IfOk, None, codes, length, option_map, true};
 ghost use Rattle.pb_semantics.specs.Data.{field_value};
 ghost use Rattle.pb_semantics.specs.Keeps.{is_among};
-ghost use Rattle.pb_value.specs.View.{fields_view, items_view, view};
+ghost use Rattle.pb_language.specs.plain.Books.{are_plain_tasks};
 ghost use Rattle.pb_value.specs.FromJson.{json_data};
+ghost use Rattle.pb_value.specs.View.{fields_view, items_view, view};
 ghost use Rattle.pb_sig.specs.Modules.{modules_of};
 ghost use Rattle.pb_book.specs.Books.{plain_plays, plays_of};
-ghost use Rattle.pb_language.specs.Plain.{are_plain_tasks};
 ghost use Rattle.pb_book.specs.Lines.{are_from, are_known, are_ordered, are_ordered_plays, is_numbered, names_known};
 ghost use Rattle.pb_book.specs.Meaning.{are_plain_plays, plain_tasks};
 ghost use Rattle.pb_book.specs.Reading.{

@@ -2,10 +2,7 @@
 ghost use Rattle.std.specs.Prelude.{◌≡◌, ◌≤◌, IfOk, Some, codes, length, option_map, string_bytes, true};
 ghost use Rattle.pb_semantics.specs.Data.{field_value, list};
 ghost use Rattle.pb_semantics.specs.Keeps.{is_among};
-ghost use Rattle.pb_value.specs.View.{view, items_view, fields_view};
-ghost use Rattle.pb_sig.specs.Modules.{modules_of};
 ghost use Rattle.pb_language.specs.Expression.{Parts};
-ghost use Rattle.pb_language.specs.Plain.{are_plain_tasks, is_plain_task};
 ghost use Rattle.pb_language.specs.Rules.{
   are_name_bytes,
   is_digit as is_name_digit,
@@ -13,6 +10,9 @@ ghost use Rattle.pb_language.specs.Rules.{
   is_variable_name,
 };
 ghost use Rattle.pb_language.specs.Simple.{are_simple, parts_simple};
+ghost use Rattle.pb_language.specs.plain.Books.{are_plain_tasks, is_plain_task};
+ghost use Rattle.pb_value.specs.View.{view, items_view, fields_view};
+ghost use Rattle.pb_sig.specs.Modules.{modules_of};
 ghost use Rattle.pb_book.specs.Lines.{are_ascending, are_from, are_known, are_ordered, argument_names, is_known};
 ghost use Rattle.pb_book.specs.Meaning.{argument_parts, condition_view, plain_task, plain_tasks, work_of};
 ghost use Rattle.pb_book.specs.Reading.{

@@ -13,11 +13,12 @@ use Rattle.pb_language.specs.Task.{Action, call_of, debug, set_fact, assertion, 
 use Rattle.pb_language.specs.Cases.{slots_of, ended_kind, changed_slots, message_slots, ok_case, failure_case, answered_cases, either_status, ended_cases, skipped_slots, skipped_cases, action_name, is_conditional, all_results, going_cases, failing_cases, item_kind, registered_kind, Sets, no_sets, sets, parts_set, fact_prefix, after_prefix, with_stripped, stripped_slots, facts_set, gathered, is_setup, may_go_on_failed, is_certain_to_run, action_sets, set_spot, with_sets, with_register, append_sets, is_plain, are_plain, is_lawful_shape, shape_slots}
 use Rattle.pb_language.specs.Setting.{Setting, group_slots, with_failure_slot, named_slots, scope_at, start_scope, loop_kind, with_item, item_scope, action_scope}
 use Rattle.pb_language.specs.Judgement.{task_kind, task_sets, going_slots, failing_slots, task_writes, register_writes, has_going, has_case}
+use Rattle.pb_language.specs.Wells.{WellSpot, WellSets}
 use Rattle.pb_language.proofs.WithSlot.{well_with}
-use Rattle.pb_language.proofs.WellKinds.{WellSpot, well_slot, well_meet, well_results, kinds_are_well}
+use Rattle.pb_language.proofs.WellKinds.{well_slot, well_meet, well_results, kinds_are_well}
 use Rattle.pb_language.proofs.Taught.{well_with_spot, well_cases_with}
 use Rattle.pb_language.proofs.Known.{well_narrow}
-use Rattle.pb_language.proofs.Claims.{WellSets, AfterClaim}
+use Rattle.pb_language.proofs.Claims.{AfterClaim}
 
 -- the names that are always there
 well_groups : (gs : List Group) → Well (recs (group_slots gs))

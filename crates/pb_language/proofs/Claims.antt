@@ -15,6 +15,7 @@ use Rattle.pb_language.specs.Judgement.{task_fault, has_case, has_going, going_s
 use Rattle.pb_language.specs.Start.{Changes, no_changes, change, Entry, skips, calls, acts, Pass, Plan, planned, halted, plan_of, call_count}
 use Rattle.pb_language.specs.Give.{Answer, Admitted, admitted, breached, unreached, admit_passes, Ended, Results, results_are, no_results, acted, end_all, any_failed, written_variables}
 use Rattle.pb_language.specs.Tables.{writes_below}
+use Rattle.pb_language.specs.Wells.{WellSets}
 
 -- what a world has of a host's setting: each host's variables keep the views, and active hosts have what they have at their later places
 pub record Around (w : World) (st : Setting) (laters : List Later) (place : ℕ) : Type 0 where
@@ -113,10 +114,6 @@ StartClaim = (w : World) (st : Setting) (t : Task) (env : Slots) → Around w st
 abbrev pub GiveClaim : Type 0
 GiveClaim = (w : World) (st : Setting) (t : Task) (env : Slots) (vars : Fields) (ps : List Pass) (xs : List Answer) → Around w st [] t.place → Well (recs env) → Models vars env → Models w.mine (named_slots st t.depth env) → task_fault st t env ≡ None → PassesFine st t env ps
     → AdmittedFine st t env w vars (admit_passes t.action ps xs)
-
-abbrev pub WellSets : Sets → Type 0
-WellSets no_sets = Unit {0}
-WellSets (sets n a k r) = Well k × WellSets r
 
 -- the environments after a task are well formed, and so is what it writes
 abbrev pub AfterClaim : Type 0

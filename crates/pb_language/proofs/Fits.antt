@@ -17,8 +17,9 @@ use Rattle.pb_language.specs.Kinds.{path_spot, kind_of, root_spot, items_kind, p
 use Rattle.pb_language.specs.Narrow.{narrow}
 use Rattle.pb_language.specs.Fit.{Fault, perhaps_undefined, perhaps_undefined_there, perhaps_missing, wrong_kind, unknown_name, first, asks, is_any, is_boolean, is_int, is_text, is_plain_kind, has_length, is_plain_list, can_compare, can_find, is_flag, may_be_flag, is_result, field_fault, steps_fault, hosts_fault, term_fault, active_fault, path_fault, fault, read_fault, tested_fault, chain_fault, are_booleans, parts_fault, are_plain, items_fault, fields_fault}
 use Rattle.pb_language.specs.Knows.{Knows, FitHasValue}
+use Rattle.pb_language.specs.Wells.{WellSpot}
 use Rattle.pb_language.proofs.WithSlot.{record_models}
-use Rattle.pb_language.proofs.WellKinds.{WellSpot, well_slot, well_path, well_kind, well_root}
+use Rattle.pb_language.proofs.WellKinds.{well_slot, well_path, well_kind, well_root}
 use Rattle.pb_language.proofs.Opaque.{nothing_opaque}
 use Rattle.pb_language.proofs.Paths.{kept_known, look_ok, kept_if, kept_read}
 use Rattle.pb_language.proofs.Values.{other_ok, present_there, kept_eval, root_ok, joined_items_kept, text_kept, items_kept, parts_kept, all_kept, any_kept}

@@ -16,10 +16,11 @@ use Rattle.pb_language.specs.Cases.{Sets, no_sets, sets, parts_set, fact_prefix,
 use Rattle.pb_language.specs.Start.{Changes, no_changes, change}
 use Rattle.pb_language.specs.Give.{stripped_with, stripped, facts_changed, facts_of, with_changes}
 use Rattle.pb_language.specs.Tables.{writes_below}
+use Rattle.pb_language.specs.Wells.{WellSpot, WellSets}
 use Rattle.pb_language.proofs.WithSlot.{at_with, models_with, models_written, models_kept}
-use Rattle.pb_language.proofs.WellKinds.{WellSpot, well_slot}
+use Rattle.pb_language.proofs.WellKinds.{well_slot}
 use Rattle.pb_language.proofs.Paths.{meets_first, meets_second}
-use Rattle.pb_language.proofs.Claims.{WellSets, Follows, IsCall}
+use Rattle.pb_language.proofs.Claims.{Follows, IsCall}
 use Rattle.pb_language.proofs.After.{well_set, well_stripped}
 use Rattle.pb_language.proofs.GivenFields.{models_put, models_put_with}
 

@@ -15,9 +15,10 @@ use Rattle.pb_language.specs.Scope.{Scope, Present, begins_with, is_present_path
 use Rattle.pb_language.specs.Kinds.{root_spot}
 use Rattle.pb_language.specs.Narrow.{cases_with, answers, on_results, changed_spot, changed_at, there_spot, defined_at, teach_host, teach_member, teach, teach_present, active_member, teach_active, any_teaches, narrow, narrow_each, narrow_some}
 use Rattle.pb_language.specs.Knows.{WellScope, Knows}
+use Rattle.pb_language.specs.Wells.{WellSpot}
 use Rattle.pb_language.proofs.Same.{equal_expression, equal_root}
 use Rattle.pb_language.proofs.WithSlot.{at_with, models_with}
-use Rattle.pb_language.proofs.WellKinds.{WellSpot, well_slot, well_host, well_other, well_root}
+use Rattle.pb_language.proofs.WellKinds.{well_slot, well_host, well_other, well_root}
 use Rattle.pb_language.proofs.Paths.{keeps_first, keeps_second, meets_first, meets_second}
 use Rattle.pb_language.proofs.Values.{host_ok, other_ok, resolved_look, root_ok}
 use Rattle.pb_language.proofs.Taught.{well_with_spot, well_changed_spot, well_there_spot, well_answered, well_defined_at}

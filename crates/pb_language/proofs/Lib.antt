@@ -31,7 +31,6 @@ pub mod Unwound
 pub mod Least
 pub mod Short
 pub mod Certain
-pub mod PlainPass
 pub mod Untaught
 pub mod SameOwn
 pub mod PlainLines
@@ -40,7 +39,6 @@ pub mod PlainViews
 pub mod PlainRows
 pub mod PlainRules
 pub mod PlainJudged
-pub mod PlainMachine
 pub mod PlainSteps
 pub mod PlainGives
 pub mod PlainEval

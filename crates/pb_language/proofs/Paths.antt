@@ -14,8 +14,9 @@ use Rattle.pb_language.specs.Expression.{Name}
 use Rattle.pb_language.specs.Evaluation.{no_field, wrong_sort, Outcome, value, stuck, Look, there, absent, failing, or_stuck, value_below, is_value, found, read, is_there, value_else, or_else}
 use Rattle.pb_language.specs.Scope.{spot_kind, below_spot}
 use Rattle.pb_language.specs.Kinds.{step_spot, path_spot, shown_spot, default_kind}
+use Rattle.pb_language.specs.Wells.{WellSpot}
 use Rattle.pb_language.proofs.WithSlot.{record_models}
-use Rattle.pb_language.proofs.WellKinds.{WellSpot, well_step}
+use Rattle.pb_language.proofs.WellKinds.{well_step}
 
 -- a value that keeps one of two kinds keeps their join
 pub keeps_first : (d : Data) (k m : KindData) → Well k → Well m → keeps d k ≡ true → keeps d (join k m) ≡ true

@@ -11,13 +11,13 @@ use Rattle.pb_language.specs.Evaluation.{Outcome, value, stuck, then_go, found, 
 use Rattle.pb_language.specs.Judgement.{parameter_kind}
 use Rattle.pb_language.specs.Expansion.{part_named}
 use Rattle.pb_language.specs.Book.{Work, module_work, debug_work, set_fact_work, Registry}
-use Rattle.pb_language.specs.Plain.{PlainTask, lone_host, is_plain_work, is_plain_task}
 use Rattle.pb_language.specs.Plays.{argument_or, program_of}
 use Rattle.pb_language.specs.Start.{kept_argument, eval_arguments, eval_action, plan_of}
 use Rattle.pb_language.specs.Machine.{Event, State, enabled, happened, step, run_from, run, history}
-use Rattle.pb_language.proofs.PlainPass.{plain_action, plain_run}
+use Rattle.pb_language.specs.plain.Books.{PlainTask, lone_host, is_plain_work, is_plain_task}
+use Rattle.pb_language.specs.plain.Machine.{PlainRun, plain_state, plain_world, plain_step, plain_run_from, ended_opening}
+use Rattle.pb_language.specs.plain.Pass.{plain_action, plain_run}
 use Rattle.pb_language.proofs.PlainFlow.{simple_argument}
-use Rattle.pb_language.proofs.PlainMachine.{PlainRun, plain_state, plain_opening, plain_world, plain_step, plain_run_from}
 use Rattle.pb_language.proofs.PlainSteps.{runs_from}
 
 -- the host's own variables are the same in both, but for the shared names
@@ -99,10 +99,6 @@ argument_worth (value x) q n a u d f h = kept (q x) h where
 pub arguments_worth : (w : World) (qs : List ParameterData) (ps : Parts) (d : Data) → eval_arguments w qs ps ≡ value d → eval_parts w ps ≡ value d
 arguments_worth w qs no_parts d h = h
 arguments_worth w qs (part n e ps) d h = argument_worth (eval w e) (λ x. keeps x (parameter_kind n qs)) n (eval_arguments w qs ps) (eval_parts w ps) d (arguments_worth w qs ps) h
-
--- a run of a book without plays has ended before it begins
-abbrev pub ended_opening : PlainRun
-ended_opening = record (plain_opening []) { is_over = true }
 
 pub no_play_runs : (ms : Registry) (h : Name) (forks : ℕ) (es : List Event) → run (program_of ms (lone_host h) []) (lone_host h) forks es ≡ plain_state ms h 0 [] forks (plain_run_from ms h forks ended_opening es)
 no_play_runs ms h forks es = runs_from ms h 0 [] forks ended_opening es

@@ -10,7 +10,6 @@ use Rattle.pb_language.specs.Simple.{is_simple, are_simple, parts_simple}
 use Rattle.pb_language.specs.Scope.{Scope, View, Later, spot_kind, with_spot}
 use Rattle.pb_language.specs.Task.{Task, Row, task}
 use Rattle.pb_language.specs.Book.{Work, module_work, debug_work, set_fact_work, assert_work, fail_work, Registry}
-use Rattle.pb_language.specs.Plain.{PlainTask, is_plain_work, is_plain_task, are_plain_tasks, are_lined}
 use Rattle.pb_language.specs.Plays.{argument_or}
 use Rattle.pb_language.specs.Narrow.{cases_with}
 use Rattle.pb_language.specs.Cases.{Sets, no_sets, sets, append_sets, action_sets, answered_cases, is_conditional, action_name, skipped_slots, going_cases}
@@ -19,9 +18,11 @@ use Rattle.pb_language.specs.Judgement.{Exit, live, action_fault, task_fault, ta
 use Rattle.pb_language.specs.Walk.{Visit, walk}
 use Rattle.pb_language.specs.Tables.{written_spot, with_writes, with_visits, writes_below, visits_below}
 use Rattle.pb_language.specs.Verdict.{visits_offence}
+use Rattle.pb_language.specs.plain.Books.{PlainTask, is_plain_work, is_plain_task, are_plain_tasks, are_lined}
+use Rattle.pb_language.specs.plain.Flow.{plain_writes}
+use Rattle.pb_language.specs.plain.Pass.{plain_action, plain_run, lone_setting, plain_flow}
 use Rattle.pb_language.proofs.Untaught.{narrow_each_untaught}
 use Rattle.pb_language.proofs.SameOwn.{SameOwn, any_untaught, same_kind, same_fault, same_fields, same_conditions, same_arguments, same_sets}
-use Rattle.pb_language.proofs.PlainPass.{plain_action, plain_run, lone_setting, plain_flow}
 use Rattle.pb_language.proofs.PlainLines.{IsFrom, same_line, fault_first, fault_from}
 
 -- a task's message is simple
@@ -114,11 +115,6 @@ module _ (ms : Registry) where
     plain_visits st p env [] = []
     plain_visits st p env (t ∷ ts) = record { setting = st; visited = plain_run ms p t; env = env } ∷ plain_visits st (suc p) (going_slots (lone_setting h) (plain_run ms p t) env) ts
 
-    -- everything that the tasks write
-    abbrev pub plain_writes : ℕ → Slots → List PlainTask → Sets
-    plain_writes p env [] = no_sets
-    plain_writes p env (t ∷ ts) = append_sets (task_writes (lone_setting h) (plain_run ms p t) env) (plain_writes (suc p) (going_slots (lone_setting h) (plain_run ms p t) env) ts)
-
     module _ (views : List View) (laters : List Later) where
       abbrev st : Setting
       st = plain_setting h views laters
@@ -148,7 +144,7 @@ module _ (ms : Registry) where
       first_fault p env l ts a i = (visits_faults p env l ts a i).0
 
       -- all that is written
-      pub visits_writes : (p : ℕ) (env ss : Slots) (ts : List PlainTask) → are_plain_tasks ts ≡ true → with_visits (plain_visits st p env ts) ss ≡ with_writes (plain_writes p env ts) ss
+      pub visits_writes : (p : ℕ) (env ss : Slots) (ts : List PlainTask) → are_plain_tasks ts ≡ true → with_visits (plain_visits st p env ts) ss ≡ with_writes (plain_writes ms h p env ts) ss
       visits_writes p env ss [] a = refl
       visits_writes p env ss (t ∷ ts) a =
           let plain = and-left (is_plain_task t) (are_plain_tasks ts) a in
@@ -156,12 +152,12 @@ module _ (ms : Registry) where
           let next = going_slots (lone_setting h) (plain_run ms p t) env in
           ap (λ w. with_visits (plain_visits st (suc p) next ts) (with_writes w ss)) (same_writes h views laters p t env plain)
           ∙ visits_writes (suc p) next (with_writes here ss) ts (and-right (is_plain_task t) (are_plain_tasks ts) a)
-          ∙ sym (writes_after here (plain_writes (suc p) next ts) ss)
+          ∙ sym (writes_after here (plain_writes ms h (suc p) next ts) ss)
 
-      pub visits_settled : (p : ℕ) (env ss : Slots) (ts : List PlainTask) → are_plain_tasks ts ≡ true → visits_below (plain_visits st p env ts) ss ≡ writes_below (plain_writes p env ts) ss
+      pub visits_settled : (p : ℕ) (env ss : Slots) (ts : List PlainTask) → are_plain_tasks ts ≡ true → visits_below (plain_visits st p env ts) ss ≡ writes_below (plain_writes ms h p env ts) ss
       visits_settled p env ss [] a = refl
       visits_settled p env ss (t ∷ ts) a =
           let plain = and-left (is_plain_task t) (are_plain_tasks ts) a in
           let here = task_writes (lone_setting h) (plain_run ms p t) env in
           let next = going_slots (lone_setting h) (plain_run ms p t) env in
-          rw (same_writes h views laters p t env plain, visits_settled (suc p) next ss ts (and-right (is_plain_task t) (are_plain_tasks ts) a)) (sym (both_below here (plain_writes (suc p) next ts) ss))
+          rw (same_writes h views laters p t env plain, visits_settled (suc p) next ss ts (and-right (is_plain_task t) (are_plain_tasks ts) a)) (sym (both_below here (plain_writes ms h (suc p) next ts) ss))

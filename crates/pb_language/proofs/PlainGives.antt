@@ -1,5 +1,5 @@
 -- What a plain task comes to with its answers: how it ended, and what is written.
-use Rattle.std.proofs.Common.{◌≡◌, ℕ, suc, List, [], ◌∷◌, Bool, true, false, cond, Option, Some, None, codes, refl, ap, subst}
+use Rattle.std.proofs.Common.{◌≡◌, ℕ, List, [], ◌∷◌, Bool, true, false, cond, Option, Some, None, codes, refl, ap, subst}
 use Rattle.std.proofs.Math.Bool.{or-false}
 use Rattle.pb_semantics.specs.Data.{Data, Fields, boolean, rec, no_fields, field, field_value, put_field}
 use Rattle.pb_semantics.specs.Kind.{KindData, Slots, Spot, booleans, recs, spot, slot_at, ok_shape}
@@ -14,65 +14,17 @@ use Rattle.pb_language.specs.Expression.{Name, Parts}
 use Rattle.pb_language.specs.Task.{Action, call_of}
 use Rattle.pb_language.specs.Book.{Work, module_work, Registry}
 use Rattle.pb_language.specs.Plays.{module_named}
-use Rattle.pb_language.specs.Plain.{PlainTask}
 use Rattle.pb_language.specs.Cases.{is_setup, is_lawful_shape, are_plain}
 use Rattle.pb_language.specs.Judgement.{is_lawful}
-use Rattle.pb_language.specs.Start.{Entry, skips, calls, acts, Pass, unchanged, all_changes}
+use Rattle.pb_language.specs.Start.{skips, calls, acts, unchanged, all_changes}
 use Rattle.pb_language.specs.Give.{Answer, object, unreachable, broken, Admitted, breached, unreached, Own, admit_answer, skip_fields, with_changes, register_field, failure_text}
-use Rattle.pb_language.specs.Machine.{Recap, ok_recap}
+use Rattle.pb_language.specs.plain.Books.{PlainTask}
+use Rattle.pb_language.specs.plain.Gives.{came_went, came_skipped, came_failed, came_unreached, put_all, result_writes, after_came, action_fields, a_pass}
+use Rattle.pb_language.specs.plain.Machine.{PlainRun, on_admitted, answered}
+use Rattle.pb_language.specs.plain.Pass.{plain_action, plain_run, work_calls}
 use Rattle.pb_language.proofs.WithSlot.{record_models}
 use Rattle.pb_language.proofs.After.{shape_well}
 use Rattle.pb_language.proofs.GivenFields.{at_put_field, failed_field}
-use Rattle.pb_language.proofs.PlainMachine.{before, away, PlainRun, on_admitted, answered}
-use Rattle.pb_language.proofs.PlainPass.{plain_action, plain_run, work_calls}
-
--- how a plain task ended: ok, changed or not; skipped; failed; or its host couldn't be reached
-pub data Came : Type 0 where
-  came_went : Bool → Came
-  came_skipped : Came
-  came_failed : Came
-  came_unreached : Came
-
-abbrev pub came_recap : Came → Recap → Recap
-came_recap (came_went c) r = ok_recap c r
-came_recap came_skipped r = record r { skipped = suc r.skipped }
-came_recap came_failed r = record r { failed = suc r.failed }
-came_recap came_unreached r = record r { unreachable = suc r.unreachable }
-
--- the host goes on to its next task
-abbrev pub goes_on : Came → Bool
-goes_on (came_went c) = true
-goes_on came_skipped = true
-goes_on came_failed = false
-goes_on came_unreached = false
-
--- the variables once these are written, one after the other
-abbrev pub put_all : Fields → Fields → Fields
-put_all no_fields vars = vars
-put_all (field n d ws) vars = put_all ws (put_field n d vars)
-
--- what is written: the result under the name that the task registers, then what it sets
-abbrev pub result_writes : Option Name → Data → Fields → Fields
-result_writes None d sets = sets
-result_writes (Some n) d sets = field n d sets
-
--- the run once the task came to that and these were written; the text is that of its failure
-abbrev pub after_came : Came → Fields → List ℕ → List PlainTask → PlainRun → PlainRun
-after_came c ws message ts r = record r {
-  place = cond (goes_on c) (suc r.place) r.place;
-  tasks = cond (goes_on c) ts r.tasks;
-  standing = cond (goes_on c) before away;
-  variables = put_all ws r.variables;
-  failure = message;
-  recap = came_recap c r.recap;
-}
-
--- the result of an action, and of a task that was skipped, with its final statuses
-abbrev pub action_fields : Fields
-action_fields = field (codes "changed") (boolean false) (field (codes "failed") (boolean false) no_fields)
-
-abbrev pub a_pass : Entry → List Pass
-a_pass x = record { item = None; entry = x } ∷ []
 
 changes_put : (fs vars : Fields) → with_changes (all_changes fs) vars ≡ put_all fs vars
 changes_put no_fields vars = refl

@@ -15,12 +15,13 @@ use Rattle.pb_language.specs.Tables.{HostWalk, first_laters, all_walked, with_vi
 use Rattle.pb_language.specs.Verdict.{accepted, visits_offence, first_offence, offence_verdict, walked_verdict, laters_verdict, found_laters, flow_verdict}
 use Rattle.pb_language.specs.Rules.{rules_offence}
 use Rattle.pb_language.specs.Judged.{judged}
-use Rattle.pb_language.specs.Plain.{PlainTask, plain_play, lone_host, are_plain_tasks, are_lined}
+use Rattle.pb_language.specs.plain.Books.{PlainTask, plain_play, lone_host, are_plain_tasks, are_lined}
+use Rattle.pb_language.specs.plain.Flow.{plain_writes}
+use Rattle.pb_language.specs.plain.Pass.{plain_flow, plain_calls, plain_verdict}
 use Rattle.pb_language.proofs.After.{after_claim}
 use Rattle.pb_language.proofs.Rounds.{views_well}
-use Rattle.pb_language.proofs.PlainPass.{plain_flow, plain_calls, plain_verdict}
 use Rattle.pb_language.proofs.PlainLines.{lesser_last, earlier_last}
-use Rattle.pb_language.proofs.PlainFlow.{plain_setting, plain_row, plain_visits, plain_writes, walked_visits, first_fault, visits_writes, visits_settled}
+use Rattle.pb_language.proofs.PlainFlow.{plain_setting, plain_row, plain_visits, walked_visits, first_fault, visits_writes, visits_settled}
 use Rattle.pb_language.proofs.PlainViews.{writes_settled, well_writes}
 use Rattle.pb_language.proofs.PlainRows.{plain_tail, plain_play_row, tail_visits, plain_row_calls}
 use Rattle.pb_language.proofs.PlainRules.{plain_rules_offence}

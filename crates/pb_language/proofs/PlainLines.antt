@@ -4,7 +4,7 @@ use Rattle.std.proofs.lemmas.Bool.Decides.{nat_tests}
 use Rattle.pb_language.specs.Expression.{Name}
 use Rattle.pb_language.specs.Fit.{Fault}
 use Rattle.pb_language.specs.Verdict.{Refusal, code_of, is_lesser, lesser, earlier}
-use Rattle.pb_language.proofs.PlainPass.{fault_or}
+use Rattle.pb_language.specs.plain.Pass.{fault_or}
 
 -- it is at that line or a later one
 abbrev pub IsFrom : ℕ → Option Refusal → Type 0

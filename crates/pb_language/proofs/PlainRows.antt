@@ -7,12 +7,12 @@ use Rattle.pb_language.specs.Simple.{is_simple, are_simple, parts_simple}
 use Rattle.pb_language.specs.Task.{Handlers, no_handlers, Row, end, flush}
 use Rattle.pb_language.specs.Book.{Work, module_work, debug_work, set_fact_work, assert_work, fail_work, Registry}
 use Rattle.pb_language.specs.Plays.{Surroundings, argument_or, action_of, task_at, row_of, play_row}
-use Rattle.pb_language.specs.Plain.{PlainTask, task_data, plain_steps, plain_play, is_plain_work, is_plain_task, are_plain_tasks}
 use Rattle.pb_language.specs.Setting.{Setting}
 use Rattle.pb_language.specs.Judgement.{Exit}
 use Rattle.pb_language.specs.Walk.{Visit, walk}
 use Rattle.pb_language.specs.Tables.{place_calls, row_calls}
-use Rattle.pb_language.proofs.PlainPass.{plain_action, plain_run, work_calls, plain_calls}
+use Rattle.pb_language.specs.plain.Books.{PlainTask, task_data, plain_steps, plain_play, is_plain_work, is_plain_task, are_plain_tasks}
+use Rattle.pb_language.specs.plain.Pass.{plain_action, plain_run, work_calls, plain_calls}
 use Rattle.pb_language.proofs.PlainFlow.{simple_argument, plain_row}
 
 -- without `vars` a simple expression stays as it is

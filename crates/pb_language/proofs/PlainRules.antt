@@ -11,10 +11,10 @@ use Rattle.pb_language.specs.Book.{Work, module_work, debug_work, set_fact_work,
 use Rattle.pb_language.specs.Program.{Inventory}
 use Rattle.pb_language.specs.Plays.{append_expressions}
 use Rattle.pb_language.specs.Sites.{Site, a_play, a_task, site, sites_in, sites_of, steps_in}
-use Rattle.pb_language.specs.Plain.{PlainTask, task_data, plain_steps, plain_play, lone_host, is_plain_work, is_plain_task, are_plain_tasks, are_lined}
 use Rattle.pb_language.specs.Rules.{is_well_formed, breaks_parameters, reserved_names, written_names, any_among, vars_names, breaks_names, breaks_chains, names_known, all_names_known, parts_names_known, expanded_known, part_expressions, work_expressions, breaks_known, breaks_notify, breaks_order, breaks_give, first_line, too_many_steps, sites_offence, rules_offence}
 use Rattle.pb_language.specs.Verdict.{Refusal, earlier}
-use Rattle.pb_language.proofs.PlainPass.{plain_rules}
+use Rattle.pb_language.specs.plain.Books.{PlainTask, task_data, plain_steps, plain_play, lone_host, is_plain_work, is_plain_task, are_plain_tasks, are_lined}
+use Rattle.pb_language.specs.plain.Pass.{plain_rules}
 use Rattle.pb_language.proofs.PlainLines.{IsFrom, from_later, same_line, earlier_last, earlier_first, earlier_second}
 use Rattle.pb_language.proofs.PlainRows.{simple_expanded}
 

@@ -1,6 +1,6 @@
 -- What the tables of a plain book say, up to meaning: of each name that is written the least kind above all its writes.
 use Rattle.std.proofs.Common.{◌≡◌, ℕ, zero, suc, List, [], ◌∷◌, Bool, true, false, ◌&&◌, ◌||◌, cond, bytes_eq, refl, sym, ap, ◌∙◌, subst}
-use Rattle.pb_semantics.specs.Kind.{KindData, Slots, Spot, no_slots, nowhere, spot, slot_at}
+use Rattle.pb_semantics.specs.Kind.{KindData, Slots, Spot, no_slots, nowhere, spot, slot_at, is_there}
 use Rattle.pb_semantics.specs.Below.{below}
 use Rattle.pb_semantics.specs.Join.{join}
 use Rattle.pb_semantics.specs.Well.{Well}
@@ -9,44 +9,22 @@ use Rattle.pb_semantics.proofs.JoinAbove.{joins_above}
 use Rattle.pb_semantics.proofs.JoinLeast.{joins_least}
 use Rattle.pb_semantics.proofs.JoinWell.{joins_well}
 use Rattle.pb_semantics.proofs.Names.{same_name, own_name}
-use Rattle.pb_semantics.proofs.Slots.{is_there}
 use Rattle.pb_semantics.proofs.Through.{never_below, through}
 use Rattle.pb_language.specs.Book.{Registry}
 use Rattle.pb_language.specs.Cases.{Sets, no_sets, sets, append_sets}
 use Rattle.pb_language.specs.Expression.{Name}
-use Rattle.pb_language.specs.Plain.{PlainTask, plain_play, lone_host, are_plain_tasks}
 use Rattle.pb_language.specs.Plays.{program_of}
 use Rattle.pb_language.specs.Program.{Program}
 use Rattle.pb_language.specs.Scope.{Later, View, spot_kind, view_of, with_spot}
 use Rattle.pb_language.specs.Tables.{next_round, views_after, with_writes, written_spot}
 use Rattle.pb_language.specs.Verdict.{found_laters}
+use Rattle.pb_language.specs.Wells.{WellSets, WellSpot}
+use Rattle.pb_language.specs.plain.Books.{PlainTask, plain_play, lone_host, are_plain_tasks}
+use Rattle.pb_language.specs.plain.Flow.{plain_writes}
+use Rattle.pb_language.specs.plain.Tables.{is_written, all_below, JoinedAt, Joins}
 use Rattle.pb_language.proofs.After.{well_append_sets}
-use Rattle.pb_language.proofs.Claims.{WellSets}
-use Rattle.pb_language.proofs.PlainFlow.{plain_writes}
 use Rattle.pb_language.proofs.PlainJudged.{program, plain_program, next_view}
 use Rattle.pb_language.proofs.PlainViews.{at_written, well_writes, written_above}
-use Rattle.pb_language.proofs.WellKinds.{WellSpot}
-
-abbrev pub is_written : Name → Sets → Bool
-is_written p no_sets = false
-is_written p (sets n a k r) = bytes_eq p n || is_written p r
-
--- each kind that the name is written with is below that one
-abbrev pub all_below : Name → Sets → KindData → Bool
-all_below p no_sets m = true
-all_below p (sets n a k r) m = cond (bytes_eq p n) (below k m) true && all_below p r m
-
--- a name that is there where it is written, with the least kind above its writes
-pub record JoinedAt (p : Name) (w : Sets) (s : Spot) : Type 0 where
-  pub well : WellSpot s
-  pub there : is_there s ≡ is_written p w
-  pub above : all_below p w (spot_kind s) ≡ true
-  pub least : (m : KindData) → Well m → all_below p w m ≡ true → below (spot_kind s) m ≡ true
-
--- each name is
-pub record Joins (w : Sets) (ss : Slots) : Type 0 where
-  pub wells : WellSets w
-  pub at : (p : Name) → JoinedAt p w (slot_at p ss)
 
 -- what two tables of the same writes say of a name is below each other
 pub alike : (p : Name) (w : Sets) (s t : Spot) → JoinedAt p w s → JoinedAt p w t → (is_there s ≡ is_there t) × (below (spot_kind s) (spot_kind t) ≡ true) × (below (spot_kind t) (spot_kind s) ≡ true)

@@ -12,17 +12,17 @@ use Rattle.pb_semantics.proofs.Through.{never_below, through}
 use Rattle.pb_language.specs.Expression.{Name}
 use Rattle.pb_language.specs.Scope.{spot_kind, with_spot}
 use Rattle.pb_language.specs.Book.{Registry}
-use Rattle.pb_language.specs.Plain.{PlainTask}
 use Rattle.pb_language.specs.Cases.{Sets, no_sets, sets}
 use Rattle.pb_language.specs.Judgement.{task_writes, going_slots}
 use Rattle.pb_language.specs.Tables.{written_spot, with_writes, writes_below}
-use Rattle.pb_language.proofs.Claims.{WellSets}
+use Rattle.pb_language.specs.Wells.{WellSets, WellSpot}
+use Rattle.pb_language.specs.plain.Books.{PlainTask}
+use Rattle.pb_language.specs.plain.Flow.{plain_writes}
+use Rattle.pb_language.specs.plain.Pass.{plain_run, lone_setting}
 use Rattle.pb_language.proofs.WithSlot.{at_with}
-use Rattle.pb_language.proofs.WellKinds.{WellSpot, well_slot}
+use Rattle.pb_language.proofs.WellKinds.{well_slot}
 use Rattle.pb_language.proofs.Rounds.{writes_well}
 use Rattle.pb_language.proofs.After.{after_claim, well_append_sets}
-use Rattle.pb_language.proofs.PlainPass.{plain_run, lone_setting}
-use Rattle.pb_language.proofs.PlainFlow.{plain_writes}
 
 -- a write is below what it is joined to, and so is what was there
 pub written_above : (s : Spot) (k : KindData) → WellSpot s → Well k → (below (spot_kind s) (spot_kind (written_spot s k)) ≡ true) × (below k (spot_kind (written_spot s k)) ≡ true)

@@ -23,9 +23,10 @@ use Rattle.pb_language.specs.Walk.{Visit, Walked, meet, visits_at, going_from, f
 use Rattle.pb_language.specs.Program.{Inventory, Play, Program, setting_of}
 use Rattle.pb_language.specs.Tables.{PlayWalk, first_laters, other_laters, plays_walked, hosts_walked, written_spot, with_writes, with_visits, with_plays, next_views, known_views, views_after}
 use Rattle.pb_language.specs.Theorem.{host_names, are_distinct}
-use Rattle.pb_language.proofs.Claims.{AfterClaim, WellSets}
+use Rattle.pb_language.specs.Wells.{WellSets, WellSpot}
+use Rattle.pb_language.proofs.Claims.{AfterClaim}
 use Rattle.pb_language.proofs.WithSlot.{models_with, record_models}
-use Rattle.pb_language.proofs.WellKinds.{WellSpot, well_slot, well_known_slots}
+use Rattle.pb_language.proofs.WellKinds.{well_slot, well_known_slots}
 use Rattle.pb_language.proofs.Taught.{well_with_spot}
 use Rattle.pb_language.proofs.Values.{kept_known_value}
 use Rattle.pb_language.proofs.Ways.{WellEnv, WellExit, meet_well, AllVisits}

@@ -13,9 +13,10 @@ use Rattle.pb_language.specs.World.{member_of}
 use Rattle.pb_language.specs.Scope.{Scope, View, Learned, nothing, taught, with_spot, view_of, put_view, learned_kind, host_spot, with_both_kinds, both_learned, both_names, with_both_spots, both_slots, both_views, both_scopes}
 use Rattle.pb_language.specs.Narrow.{cases_with, answers, on_results, changed_spot, changed_at, there_spot, defined_at, teach_host, teach_member, teach, teach_present, active_member, teach_active, any_teaches, where_taught, narrow, narrow_each, narrow_some}
 use Rattle.pb_language.specs.Knows.{WellScope}
+use Rattle.pb_language.specs.Wells.{WellSpot}
 use Rattle.pb_language.proofs.Same.{equal_expression}
 use Rattle.pb_language.proofs.WithSlot.{at_with, well_with}
-use Rattle.pb_language.proofs.WellKinds.{WellSpot, well_slot}
+use Rattle.pb_language.proofs.WellKinds.{well_slot}
 
 -- the views of hosts
 abbrev pub has_view : Name → List View → Bool

@@ -1,18 +1,19 @@
 -- What tests teach of a kind: a value that passes the test keeps the changed kind.
 use Rattle.std.proofs.Common.{◌≡◌, ℕ, List, [], ◌∷◌, Bool, true, false, ◌&&◌, cond, Option, Some, None, is_some, ⊎_elim, refl, sym, ◌∙◌, not, codes}
 use Rattle.pb_semantics.specs.Data.{Data, Fields, boolean, rec, field_value, bool_eq}
-use Rattle.pb_semantics.specs.Kind.{KindData, Slots, Cases, Shape, Spot, never, recs, results, anything, no_cases, one, nowhere, spot, slot_at, ok_shape, failure_shape, skipped_shape, is_skipped as is_skip}
+use Rattle.pb_semantics.specs.Kind.{KindData, Slots, Cases, Shape, Spot, never, recs, results, anything, no_cases, one, nowhere, spot, slot_at, ok_shape, failure_shape, skipped_shape, is_skipped as is_skip, is_there}
 use Rattle.pb_semantics.specs.Keeps.{keeps, cases_kept, has_status, flag_is, spot_ok}
 use Rattle.pb_semantics.specs.Well.{Well, WellCases, is_record}
 use Rattle.pb_semantics.proofs.Bools.{untrue, and-left, and-right, and-both, or-left, or-right, or-cases}
 use Rattle.pb_semantics.proofs.Names.{same_flag, own_flag}
-use Rattle.pb_semantics.proofs.Slots.{is_there, listed_is_there}
+use Rattle.pb_semantics.proofs.Slots.{listed_is_there}
 use Rattle.pb_language.specs.Expression.{Name, Status, is_failed, is_changed, is_skipped}
 use Rattle.pb_language.specs.Evaluation.{Stuck, no_field, Outcome, value, or_stuck, value_below, is_value, flag_of, status_of}
 use Rattle.pb_language.specs.Scope.{with_spot}
 use Rattle.pb_language.specs.Narrow.{cases_with, has_slot, answers, on_results, changed_spot, changed_at, may_step, can_have, there_spot, with_step, cases_stepped, defined_at}
+use Rattle.pb_language.specs.Wells.{WellSpot}
 use Rattle.pb_language.proofs.WithSlot.{well_with, record_models, kept_with}
-use Rattle.pb_language.proofs.WellKinds.{WellSpot, well_slot, well_results}
+use Rattle.pb_language.proofs.WellKinds.{well_slot, well_results}
 
 abbrev pub Wells : (KindData → KindData) → Type 0
 Wells f = (k : KindData) → Well k → Well (f k)

@@ -13,15 +13,12 @@ use Rattle.pb_semantics.proofs.JoinLeast.{joins_least}
 use Rattle.pb_semantics.proofs.JoinWell.{joins_well}
 use Rattle.pb_language.specs.Expression.{Name, Expression, literal, path, path_or, value_or, list_of, record_of, Root, variable, alias, other, member, Expressions, no_expressions, expression, Parts, no_parts, part, Term, named_host, this_host, item_host, group_member}
 use Rattle.pb_language.specs.World.{member_of}
-use Rattle.pb_language.specs.Scope.{Scope, Hosts, these, any_host, no_hosts, nobody, is_present, spot_kind, is_certain, below_spot, sure, view_of, later_of, is_later, learned_kind, hosts_of, host_spot, each_spot, spot_among, taught_spot, other_spot}
+use Rattle.pb_language.specs.Scope.{Scope, Hosts, these, any_host, no_hosts, nobody, is_present, is_certain, below_spot, sure, view_of, later_of, is_later, learned_kind, hosts_of, host_spot, each_spot, spot_among, taught_spot, other_spot}
 use Rattle.pb_language.specs.Kinds.{known_kind, known_items, known_slots, step_spot, path_spot, member_spot, shown_spot, default_kind, kind_of, root_spot, items_kind, parts_slots}
 use Rattle.pb_language.specs.Narrow.{least_record, results_of}
 use Rattle.pb_language.specs.Knows.{WellScope}
+use Rattle.pb_language.specs.Wells.{WellSpot}
 use Rattle.pb_language.proofs.WithSlot.{well_with}
-
--- what is known of a name is of a well formed kind
-abbrev pub WellSpot : Spot → Type 0
-WellSpot s = Well (spot_kind s)
 
 well_slot_step : (q : Bool) (a : Bool) (k : KindData) (s : Spot) → Well k → WellSpot s → WellSpot (cond q (spot a k) s)
 well_slot_step true a k s w v = w

@@ -1,12 +1,12 @@
 -- Slots with one in place of any other of its name.
 use Rattle.std.proofs.Common.{◌≡◌, ℕ, List, Bool, true, false, not, cond, bytes_eq, Option, Some, None, is_some, option_map, refl, sym, ap, ◌∙◌}
 use Rattle.pb_semantics.specs.Data.{Data, Fields, rec, no_fields, field, field_value}
-use Rattle.pb_semantics.specs.Kind.{KindData, Slots, Spot, recs, no_slots, slot, nowhere, spot, slot_at, is_listed}
+use Rattle.pb_semantics.specs.Kind.{KindData, Slots, Spot, recs, no_slots, slot, nowhere, spot, slot_at, is_listed, is_there}
 use Rattle.pb_semantics.specs.Keeps.{filled, all_listed, keeps, slots_kept, spot_ok, Models}
 use Rattle.pb_semantics.specs.Well.{are_once, Well, WellSlots}
 use Rattle.pb_semantics.proofs.Bools.{untrue, and-left, and-right, and-both, not-true, true-false}
 use Rattle.pb_semantics.proofs.Names.{same_name, own_name}
-use Rattle.pb_semantics.proofs.Slots.{is_there, listed_is_there, unlisted_nowhere}
+use Rattle.pb_semantics.proofs.Slots.{listed_is_there, unlisted_nowhere}
 use Rattle.pb_semantics.proofs.PutSlots.{at_put, once_put, well_put, is_not}
 use Rattle.pb_semantics.proofs.Kept.{kept_models}
 use Rattle.pb_language.specs.Scope.{without_slot, with_slot, with_spot}

@@ -31,7 +31,8 @@ pub mod Drive
 pub mod Builtins
 pub mod Theorem
 pub mod Simple
-pub mod Plain
+pub mod Wells
+pub mod plain
 pub mod Tokens
 pub mod Grammar
 pub mod Derivations

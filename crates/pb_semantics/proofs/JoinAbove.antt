@@ -2,13 +2,13 @@
 use Rattle.std.proofs.Common.{◌≡◌, ℕ, List, Bool, true, false, not, ◌&&◌, ◌||◌, nat_le, max, refl, sym, ap, ◌∙◌, arith}
 use Rattle.std.proofs.lemmas.Bool.Decides.{nat_tests}
 use Rattle.std.proofs.Math.Nat.{le-max_left, le-max_right}
-use Rattle.pb_semantics.specs.Kind.{KindData, Slots, Spot, Cases, never, nulls, booleans, ints, texts, hosts, lists, recs, results, no_slots, slot, nowhere, spot, slot_at}
+use Rattle.pb_semantics.specs.Kind.{KindData, Slots, Spot, Cases, never, nulls, booleans, ints, texts, hosts, lists, recs, results, no_slots, slot, nowhere, spot, slot_at, is_there}
 use Rattle.pb_semantics.specs.Below.{names_among, spot_below, all_cases, record_below, below, slots_below}
 use Rattle.pb_semantics.specs.Join.{join, join_slots, join_spot}
 use Rattle.pb_semantics.specs.Well.{Well, WellCases, LeastAbove, is_record}
 use Rattle.pb_semantics.proofs.Bools.{untrue, and-both, or-right}
 use Rattle.pb_semantics.proofs.Hosts.{own_among}
-use Rattle.pb_semantics.proofs.Slots.{Each, each_at, from_among, from_slots, is_there, listed_is_there}
+use Rattle.pb_semantics.proofs.Slots.{Each, each_at, from_among, from_slots, listed_is_there}
 use Rattle.pb_semantics.proofs.PutSlots.{first_names, second_names}
 use Rattle.pb_semantics.proofs.JoinSlots.{at_join, once_join}
 use Rattle.pb_semantics.proofs.JoinCases.{first_cases, second_cases}

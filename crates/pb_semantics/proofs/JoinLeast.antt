@@ -1,12 +1,12 @@
 -- A join is below each kind above both.
 use Rattle.std.proofs.Common.{◌≡◌, ℕ, List, Bool, true, false, not, ◌&&◌, ◌||◌, nat_le, max, ⊎_elim, ◌⊎◌, inl, inr, refl, sym, ap, ◌∙◌, arith}
 use Rattle.std.proofs.lemmas.Bool.Decides.{nat_tests}
-use Rattle.pb_semantics.specs.Kind.{KindData, Slots, Spot, Cases, never, nulls, booleans, ints, texts, hosts, lists, recs, results, anything, no_slots, slot, nowhere, spot, slot_at}
+use Rattle.pb_semantics.specs.Kind.{KindData, Slots, Spot, Cases, never, nulls, booleans, ints, texts, hosts, lists, recs, results, anything, no_slots, slot, nowhere, spot, slot_at, is_there}
 use Rattle.pb_semantics.specs.Below.{names_among, spot_below, record_below, below, slots_below, is_covered}
 use Rattle.pb_semantics.specs.Join.{join, join_slots, join_spot}
 use Rattle.pb_semantics.specs.Well.{Well, LeastAbove}
 use Rattle.pb_semantics.proofs.Bools.{untrue, and-left, and-right, and-both}
-use Rattle.pb_semantics.proofs.Slots.{Each, each_at, among, from_among, is_there, listed_is_there}
+use Rattle.pb_semantics.proofs.Slots.{Each, each_at, among, from_among, listed_is_there}
 use Rattle.pb_semantics.proofs.PutSlots.{least_names}
 use Rattle.pb_semantics.proofs.JoinSlots.{at_join}
 use Rattle.pb_semantics.proofs.JoinCases.{all_add}

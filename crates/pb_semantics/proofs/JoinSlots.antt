@@ -1,11 +1,11 @@
 -- What the join of two slots says of each name.
 use Rattle.std.proofs.Common.{◌≡◌, ℕ, List, Bool, true, false, not, cond, bytes_eq, refl, ap, ◌∙◌}
-use Rattle.pb_semantics.specs.Kind.{KindData, Slots, Spot, no_slots, slot, nowhere, spot, slot_at, is_listed, put_slot}
+use Rattle.pb_semantics.specs.Kind.{KindData, Slots, Spot, no_slots, slot, nowhere, spot, slot_at, is_listed, put_slot, is_there}
 use Rattle.pb_semantics.specs.Join.{with_others, presence_with, kind_with, join, joined, join_slots, join_spot}
 use Rattle.pb_semantics.specs.Well.{are_once, Well, WellSlots}
 use Rattle.pb_semantics.proofs.Bools.{untrue, and-left, and-right, and-both, not-true, true-false}
 use Rattle.pb_semantics.proofs.Names.{same_name, own_name}
-use Rattle.pb_semantics.proofs.Slots.{Each, each_at, is_there, listed_is_there, unlisted_nowhere}
+use Rattle.pb_semantics.proofs.Slots.{Each, each_at, listed_is_there, unlisted_nowhere}
 use Rattle.pb_semantics.proofs.PutSlots.{at_put, listed_put, once_put, well_put}
 use Rattle.pb_semantics.proofs.Order.{well_each}
 

@@ -5,7 +5,7 @@ use Rattle.std.specs.declared.cmp.Ordering.{Ordering}
 use Rattle.std.specs.declared.cmp.Ordering.TheVariants.{Less, Equal, Greater}
 use Rattle.std.specs.Cmp.Lexicographic.{slice_cmp}
 use Rattle.std.proofs.lemmas.Map.Text.{is_eq-slice_cmp}
-use Rattle.pb_semantics.specs.Kind.{KindData, Slots, Spot, no_slots, slot, spot, slot_at, is_listed, put_slot}
+use Rattle.pb_semantics.specs.Kind.{KindData, Slots, Spot, no_slots, slot, spot, slot_at, is_listed, put_slot, is_there}
 use Rattle.pb_semantics.specs.Keeps.{is_among}
 use Rattle.pb_semantics.specs.Below.{are_among}
 use Rattle.pb_semantics.specs.Join.{put_name, add_names}
@@ -13,7 +13,7 @@ use Rattle.pb_semantics.specs.Well.{are_once, Well, WellSlots}
 use Rattle.pb_semantics.proofs.Bools.{and-left, and-right, and-both, or-left, or-right, or-cases, not-true, true-false}
 use Rattle.pb_semantics.proofs.Names.{same_name, own_name}
 use Rattle.pb_semantics.proofs.Hosts.{among_up, all_among}
-use Rattle.pb_semantics.proofs.Slots.{is_there, listed_is_there}
+use Rattle.pb_semantics.proofs.Slots.{listed_is_there}
 
 -- names that compare as equal are
 pub equal_name : (n m : List ℕ) → slice_cmp nat_cmp n m ≡ Equal → n ≡ m

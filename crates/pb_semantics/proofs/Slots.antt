@@ -1,6 +1,6 @@
 -- What slots say of each name.
 use Rattle.std.proofs.Common.{◌≡◌, ℕ, List, Bool, true, false, not, cond, bytes_eq, refl, sym, subst, ◌∙◌, true≢false}
-use Rattle.pb_semantics.specs.Kind.{KindData, Slots, Spot, no_slots, slot, nowhere, spot, slot_at, is_listed}
+use Rattle.pb_semantics.specs.Kind.{KindData, Slots, Spot, no_slots, slot, nowhere, spot, slot_at, is_listed, is_there}
 use Rattle.pb_semantics.specs.Below.{names_among, spot_below, below, slots_below}
 use Rattle.pb_semantics.specs.Well.{are_once}
 use Rattle.pb_semantics.proofs.Bools.{untrue, and-left, and-right, and-both, not-true}
@@ -34,11 +34,6 @@ unlisted_at false a c s b later h = later h
 pub unlisted_nowhere : (n : List ℕ) (ss : Slots) → is_listed n ss ≡ false → slot_at n ss ≡ nowhere
 unlisted_nowhere n no_slots h = refl
 unlisted_nowhere n (slot m a c ss) h = unlisted_at (bytes_eq n m) a c (slot_at n ss) (is_listed n ss) (unlisted_nowhere n ss) h
-
--- whether something is known
-abbrev pub is_there : Spot → Bool
-is_there nowhere = false
-is_there (spot a k) = true
 
 there_at : (q : Bool) (a : Bool) (k : KindData) (s : Spot) (b : Bool) → b ≡ is_there s → cond q true b ≡ is_there (cond q (spot a k) s)
 there_at true a k s b h = refl

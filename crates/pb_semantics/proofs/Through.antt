@@ -1,12 +1,12 @@
 -- What is below a kind is below each kind above that one, by recursion over the highest.
 use Rattle.std.proofs.Common.{◌≡◌, ℕ, List, Bool, true, not, ◌&&◌, ◌||◌, nat_le, ⊎_elim, refl}
-use Rattle.pb_semantics.specs.Kind.{KindData, Slots, Spot, Cases, Shape, never, nulls, booleans, ints, texts, hosts, lists, recs, results, anything, no_cases, one, no_slots, slot, nowhere, spot, slot_at}
+use Rattle.pb_semantics.specs.Kind.{KindData, Slots, Spot, Cases, Shape, never, nulls, booleans, ints, texts, hosts, lists, recs, results, anything, no_cases, one, no_slots, slot, nowhere, spot, slot_at, is_there}
 use Rattle.pb_semantics.specs.Below.{names_among, spot_below, all_cases, record_below, same_case, below, slots_below, is_covered}
 use Rattle.pb_semantics.specs.Well.{Well, WellSlots, WellCases, is_record}
 use Rattle.pb_semantics.proofs.Bools.{untrue, and-left, and-right, and-both, or-left, or-right, or-cases, weak_presence, presence_through}
 use Rattle.pb_semantics.proofs.Names.{case_action, case_shape, case_flag}
 use Rattle.pb_semantics.proofs.Hosts.{among_through}
-use Rattle.pb_semantics.proofs.Slots.{each_at, among, from_among, slot_below, is_there, listed_is_there}
+use Rattle.pb_semantics.proofs.Slots.{each_at, among, from_among, slot_below, listed_is_there}
 use Rattle.pb_semantics.proofs.KeepsUp.{le_through}
 use Rattle.pb_semantics.proofs.Order.{well_each, covered_from}
 

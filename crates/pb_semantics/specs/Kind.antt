@@ -41,6 +41,11 @@ pub data Spot : Type 0 where
   nowhere : Spot
   spot : Bool → KindData → Spot
 
+-- whether something is known
+abbrev pub is_there : Spot → Bool
+is_there nowhere = false
+is_there (spot a k) = true
+
 abbrev pub slot_at : List ℕ → Slots → Spot
 slot_at n no_slots = nowhere
 slot_at n (slot m a k ss) = cond (bytes_eq n m) (spot a k) (slot_at n ss)

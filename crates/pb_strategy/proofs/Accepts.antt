@@ -5,11 +5,12 @@ use Rattle.pb_language.specs.Expression.{Name}
 use Rattle.pb_language.specs.Book.{Registry}
 use Rattle.pb_language.specs.Machine as machine
 use Rattle.pb_language.specs.Machine.{State, run, run_from, enabled, history, opening}
-use Rattle.pb_language.specs.Plain.{lone_host, plain_play}
 use Rattle.pb_language.specs.Plays.{program_of}
 use Rattle.pb_language.specs.Program.{Inventory}
+use Rattle.pb_language.specs.plain.Books.{lone_host, plain_play}
+use Rattle.pb_language.specs.plain.Books.{are_plain_tasks}
+use Rattle.pb_language.specs.plain.Machine.{PlainRun, plain_state, plain_run_from, plain_is_enabled}
 use Rattle.pb_language.proofs.PlainEval.{no_play_runs}
-use Rattle.pb_language.proofs.PlainMachine.{PlainRun, plain_state, plain_run_from, plain_is_enabled}
 use Rattle.pb_language.proofs.PlainSteps.{plain_runs, plain_enabled}
 use Rattle.pb_sig.specs.Modules.{modules_of}
 use Rattle.pb_inventory.specs.Hosts.{HostData}
@@ -22,7 +23,6 @@ use Rattle.pb_verify.specs.Judges.{run_of_accepted}
 use Rattle.pb_verify.specs.Meaning.{inventory_of}
 use Rattle.pb_verify.specs.declared.checked.Accepted.{Accepted}
 use Rattle.pb_verify.proofs.Lone.{alone}
-use Rattle.pb_language.specs.Plain.{are_plain_tasks}
 use Rattle.pb_strategy.specs.Events.{event_data}
 use Rattle.pb_strategy.specs.Standing.{tasks_in, first_name, host_of, opening_run, plain_after}
 use Rattle.pb_strategy.specs.declared.event.Event.{Event}

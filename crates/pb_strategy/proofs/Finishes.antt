@@ -12,10 +12,11 @@ use Rattle.pb_language.specs.Cases.{is_setup}
 use Rattle.pb_language.specs.Judgement.{is_lawful}
 use Rattle.pb_language.specs.Give.{Answer as AnswerData}
 use Rattle.pb_language.specs.Start.{calls}
-use Rattle.pb_language.proofs.PlainGives.{a_pass, result_writes, taken_record, taken_fields, taken_gives, failed_record, failed_fields, failed_gives, breach_gives, missing_gives}
+use Rattle.pb_language.specs.plain.Gives.{a_pass, result_writes}
+use Rattle.pb_language.proofs.PlainGives.{taken_record, taken_fields, taken_gives, failed_record, failed_fields, failed_gives, breach_gives, missing_gives}
 use Rattle.pb_value.specs.View.{view, fields_view}
 use Rattle.pb_value.proofs.Fields.{Entry}
-use Rattle.pb_value.proofs.Projections.{append_fields}
+use Rattle.pb_value.specs.Append.{append_fields}
 use Rattle.pb_book.specs.Meaning.{plain_task}
 use Rattle.pb_book.specs.declared.book.Task.{Task}
 use Rattle.pb_strategy.specs.Events.{answer_data}

@@ -7,7 +7,7 @@ use Rattle.pb_language.specs.Drive.{next_start}
 use Rattle.pb_language.specs.Machine as machine
 use Rattle.pb_language.specs.Machine.{State, Host, enabled, start, turn, step}
 use Rattle.pb_language.specs.Program.{Batch}
-use Rattle.pb_language.proofs.PlainMachine.{PlainRun, plain_step, plain_is_enabled, are_left, is_through, can_begin}
+use Rattle.pb_language.specs.plain.Machine.{PlainRun, plain_step, plain_is_enabled, are_left, is_through, can_begin}
 use Rattle.pb_language.proofs.PlainSteps.{plain_enabled, plain_follows}
 use Rattle.pb_sig.specs.Modules.{modules_of}
 use Rattle.pb_inventory.specs.Inventory.{inventory_view}

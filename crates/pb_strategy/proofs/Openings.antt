@@ -4,7 +4,7 @@ use Rattle.pb_semantics.specs.Data.{Data, Fields, text, list, no_fields, field, 
 use Rattle.pb_language.specs.Expression.{Name}
 use Rattle.pb_language.specs.Machine.{empty_recap}
 use Rattle.pb_language.specs.Setting.{names_list}
-use Rattle.pb_language.proofs.PlainMachine.{PlainRun, before}
+use Rattle.pb_language.specs.plain.Machine.{PlainRun, before}
 use Rattle.pb_value.specs.View.{view, fields_view}
 use Rattle.pb_sig.specs.Modules.{modules_of}
 use Rattle.pb_inventory.specs.Hosts.{HostData}

@@ -4,7 +4,6 @@ use Rattle.std.proofs.Math.Bool.{and-false}
 use Rattle.pb_semantics.proofs.Bools.{and-right}
 use Rattle.pb_language.specs.Expression.{Name}
 use Rattle.pb_language.specs.Book.{Book, Registry}
-use Rattle.pb_language.specs.Plain.{PlainTask}
 use Rattle.pb_language.specs.Plays.{program_of}
 use Rattle.pb_language.specs.Program.{Inventory, all_batches}
 use Rattle.pb_language.specs.Start.{Pass, Plan, planned, halted, plan_of, call_count}
@@ -14,13 +13,14 @@ use Rattle.pb_language.specs.Drive.{Starting, lower, next_start}
 use Rattle.pb_language.specs.Verdict.{accepted}
 use Rattle.pb_language.specs.Judged.{judged}
 use Rattle.pb_language.specs.Theorem.{host_names, are_distinct, occurrences}
+use Rattle.pb_language.specs.plain.Books.{PlainTask}
+use Rattle.pb_language.specs.plain.Machine.{Standing, before, inside, PlainRun, plain_state, plain_world, on_plan, started, answered, is_before, are_left, is_inside, can_begin, is_going, given_to, plain_step, plain_is_enabled}
+use Rattle.pb_language.specs.plain.Pass.{plain_run}
 use Rattle.pb_language.proofs.After.{after_claim}
 use Rattle.pb_language.proofs.Given.{give_claim}
 use Rattle.pb_language.proofs.Started.{start_claim}
 use Rattle.pb_language.proofs.Sound.{never_stuck_from}
 use Rattle.pb_language.proofs.Short.{short_history_from}
-use Rattle.pb_language.proofs.PlainPass.{plain_run}
-use Rattle.pb_language.proofs.PlainMachine.{Standing, before, inside, PlainRun, plain_state, plain_world, on_plan, started, answered, is_before, are_left, is_inside, can_begin, is_going, given_to, plain_step, plain_is_enabled}
 use Rattle.pb_language.proofs.PlainSteps.{plain_enabled}
 
 only_one : (q : Bool) (x : Starting) → lower (cond q (Some x) None) None ≡ cond q (Some x) None

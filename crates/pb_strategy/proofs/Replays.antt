@@ -7,8 +7,8 @@ use Rattle.pb_semantics.proofs.Bools.{untrue}
 use Rattle.pb_language.specs.Give as language
 use Rattle.pb_language.specs.Machine as machine
 use Rattle.pb_language.specs.Machine.{enabled, history, run_from, start, give, stop}
+use Rattle.pb_language.specs.plain.Machine.{PlainRun, plain_is_possible, is_inside, is_going}
 use Rattle.pb_language.proofs.PlainEval.{history_kept, history_more}
-use Rattle.pb_language.proofs.PlainMachine.{PlainRun, plain_is_possible, is_inside, is_going}
 use Rattle.pb_book.specs.Books.{plays_of}
 use Rattle.pb_verify.specs.declared.checked.Accepted.{Accepted}
 use Rattle.pb_strategy.specs.Events.{event_data}

@@ -3,7 +3,7 @@ use Rattle.std.proofs.Common.{◌≡◌, ◌+◌, ◌<◌, ◌^◌, ℕ, List, s
 use Rattle.std.proofs.lemmas.Option.{slice_get_within, slice_get-get_or}
 use Rattle.std.proofs.lemmas.List.{get_or-set_same, length-set, set-set}
 use Rattle.pb_semantics.specs.Data.{field_value}
-use Rattle.pb_language.proofs.PlainGives.{put_all, goes_on}
+use Rattle.pb_language.specs.plain.Gives.{put_all, goes_on}
 use Rattle.pb_value.specs.View.{fields_view}
 use Rattle.pb_strategy.specs.Endings.{came_of}
 use Rattle.pb_strategy.specs.Outcomes.{IsSettledHost}

@@ -6,12 +6,13 @@ use Rattle.pb_semantics.specs.Data.{field_value}
 use Rattle.pb_language.specs.Expression.{Name}
 use Rattle.pb_language.specs.Book.{Registry}
 use Rattle.pb_language.specs.Machine.{start, give}
-use Rattle.pb_language.specs.Plain.{PlainTask, is_plain_task}
 use Rattle.pb_language.specs.Start.{Entry, skips, calls, acts, Pass, plan_of, is_call, call_count}
+use Rattle.pb_language.specs.plain.Books.{PlainTask, is_plain_task}
+use Rattle.pb_language.specs.plain.Gives.{Came, after_came, goes_on, came_recap}
+use Rattle.pb_language.specs.plain.Machine.{before, away, PlainRun, answered, plain_world, plain_step, is_before, are_left, is_through}
+use Rattle.pb_language.specs.plain.Pass.{plain_run}
 use Rattle.pb_language.proofs.PlainEval.{SameMine, same_plan, lone_same}
-use Rattle.pb_language.proofs.PlainGives.{Came, after_came, goes_on, came_recap, put_all_at}
-use Rattle.pb_language.proofs.PlainMachine.{before, away, PlainRun, answered, plain_world, plain_step, is_before, are_left, is_through}
-use Rattle.pb_language.proofs.PlainPass.{plain_run}
+use Rattle.pb_language.proofs.PlainGives.{put_all_at}
 use Rattle.pb_value.specs.View.{view, fields_view}
 use Rattle.pb_expr.specs.OwnWorld.{own_world}
 use Rattle.pb_book.specs.Meaning.{plain_task, plain_tasks}

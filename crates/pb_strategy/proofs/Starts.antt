@@ -6,7 +6,7 @@ use Rattle.pb_semantics.specs.Data.{Data, boolean}
 use Rattle.pb_semantics.proofs.Bools.{and-left, and-right}
 use Rattle.pb_language.specs.Evaluation.{Outcome, value, stuck, then_go, and_then}
 use Rattle.pb_language.specs.Start.{skips, calls, Pass, Plan, planned, Made, made, made_with, on_condition, with_pass}
-use Rattle.pb_language.proofs.PlainGives.{a_pass}
+use Rattle.pb_language.specs.plain.Gives.{a_pass}
 use Rattle.pb_expr.specs.ExprView.{parts_view}
 use Rattle.pb_expr.specs.OwnWorld.{shown}
 use Rattle.pb_expr.specs.declared.expr.Expr.{Expr}

@@ -1,5 +1,5 @@
 -- How a task's ending is named by the definitions.
-use Rattle.pb_language.proofs.PlainGives.{Came, came_went, came_skipped, came_failed, came_unreached}
+use Rattle.pb_language.specs.plain.Gives.{Came, came_went, came_skipped, came_failed, came_unreached}
 use Rattle.pb_strategy.specs.declared.recap.Ending.{Ending}
 use Rattle.pb_strategy.specs.declared.recap.Ending.TheVariants as ending
 

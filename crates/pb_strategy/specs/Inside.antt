@@ -3,7 +3,7 @@ use Rattle.std.specs.Prelude.{◌≡◌, ◌<◌, ◌≤◌, ℕ, length, map, s
 use Rattle.pb_semantics.specs.Data.{rec}
 use Rattle.pb_language.specs.Give.{skip_fields}
 use Rattle.pb_language.specs.Machine.{history}
-use Rattle.pb_language.proofs.PlainGives.{action_fields}
+use Rattle.pb_language.specs.plain.Gives.{action_fields}
 use Rattle.pb_value.specs.View.{view}
 use Rattle.pb_sig.specs.Modules.{modules_of}
 use Rattle.pb_book.specs.Books.{plays_of}

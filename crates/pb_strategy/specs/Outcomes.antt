@@ -8,11 +8,11 @@ use Rattle.pb_language.specs.Cases.{is_setup}
 use Rattle.pb_language.specs.Judgement.{is_lawful}
 use Rattle.pb_language.specs.Give.{object}
 use Rattle.pb_language.specs.Give as language
-use Rattle.pb_language.specs.Plain.{PlainTask}
 use Rattle.pb_language.specs.Plays.{module_named}
 use Rattle.pb_language.specs.Start.{Pass, Plan, planned, calls}
-use Rattle.pb_language.proofs.PlainGives.{a_pass, after_came, put_all, goes_on}
-use Rattle.pb_language.proofs.PlainMachine.{PlainRun, answered}
+use Rattle.pb_language.specs.plain.Books.{PlainTask}
+use Rattle.pb_language.specs.plain.Gives.{a_pass, after_came, put_all, goes_on}
+use Rattle.pb_language.specs.plain.Machine.{PlainRun, answered}
 use Rattle.pb_value.specs.View.{fields_view}
 use Rattle.pb_book.specs.Meaning.{plain_task}
 use Rattle.pb_book.specs.declared.book.Task.{Task}

@@ -6,7 +6,7 @@ use Rattle.pb_language.specs.Expression.{Name}
 use Rattle.pb_language.specs.Cases.{action_name}
 use Rattle.pb_language.specs.Start.{Entry, skips, calls, acts, Pass, no_changes, unchanged, all_changes}
 use Rattle.pb_language.specs.Machine.{Stage, waits, runs, Host, State, host_at}
-use Rattle.pb_language.proofs.PlainGives.{a_pass}
+use Rattle.pb_language.specs.plain.Gives.{a_pass}
 use Rattle.pb_value.specs.View.{fields_view}
 use Rattle.pb_strategy.specs.Events.{CallData}
 use Rattle.pb_strategy.specs.declared.host.Pending.{Pending}

@@ -3,8 +3,7 @@ use Rattle.std.specs.Prelude.{◌≡◌, ℕ, List, [], ◌∷◌, map, drop, st
 use Rattle.pb_semantics.specs.Data.{text, list, no_items, item}
 use Rattle.pb_language.specs.Expression.{Name}
 use Rattle.pb_language.specs.Start.{Pass}
-use Rattle.pb_language.proofs.PlainEval.{ended_opening}
-use Rattle.pb_language.proofs.PlainMachine.{before, inside, away, PlainRun, plain_opening, plain_run_from, are_left}
+use Rattle.pb_language.specs.plain.Machine.{before, inside, away, PlainRun, plain_opening, plain_run_from, are_left, ended_opening}
 use Rattle.pb_value.specs.View.{view, fields_view}
 use Rattle.pb_sig.specs.Modules.{modules_of}
 use Rattle.pb_inventory.specs.Hosts.{HostData}

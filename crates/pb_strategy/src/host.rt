@@ -1,14 +1,14 @@
 // What a run keeps of one host.
 ghost use Rattle.std.specs.Prelude.{◌≡◌, ◌<◌, ◌≤◌, ◌+◌, ◌^◌, ℕ, IfOk, None, cond, is_some, length, map, string_bytes};
-ghost use Rattle.pb_semantics.specs.Data.{list};
 ghost use Rattle.indexmap.specs.IndexMap.{spare};
+ghost use Rattle.pb_semantics.specs.Data.{list};
 ghost use Rattle.pb_language.specs.Setting.{names_list};
-ghost use Rattle.pb_language.proofs.PlainGives.{put_all, goes_on};
+ghost use Rattle.pb_language.specs.plain.Gives.{put_all, goes_on};
 ghost use Rattle.pb_value.specs.View.{view, fields_view};
 ghost use Rattle.pb_expr.specs.OwnWorld.{own_world};
-ghost use Rattle.pb_strategy.specs.OwnNames.{AreSame, own_fields, names_fields};
 ghost use Rattle.pb_strategy.specs.Endings.{came_of};
 ghost use Rattle.pb_strategy.specs.Jobs.{ticket_in, is_ticket};
+ghost use Rattle.pb_strategy.specs.OwnNames.{AreSame, own_fields, names_fields};
 ghost use Rattle.pb_strategy.specs.Recaps.{nothing, counted, Counts};
 
 use crate::recap::{Ending, Recap};

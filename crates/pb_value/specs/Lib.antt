@@ -2,3 +2,4 @@ pub mod View
 pub mod KindView
 pub mod FromJson
 pub mod Found
+pub mod Append

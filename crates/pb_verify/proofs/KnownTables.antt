@@ -1,16 +1,16 @@
 -- What was written on the host's way is what the table says.
 use Rattle.std.proofs.Common.{◌≡◌, ◌<◌, arith, ℕ, zero, suc, List, [], ◌∷◌, length, true, Option, Some, option_map, slice_get, refl, sym, ap, subst, true≢false}
 use Rattle.pb_semantics.specs.Below.{below}
-use Rattle.pb_semantics.specs.Kind.{Slots, Spot, nowhere, spot, slot_at, no_slots}
-use Rattle.pb_semantics.proofs.Slots.{is_there}
+use Rattle.pb_semantics.specs.Kind.{Slots, Spot, nowhere, spot, slot_at, no_slots, is_there}
 use Rattle.pb_semantics.proofs.Bools.{and-left}
 use Rattle.pb_language.specs.Book.{Registry}
 use Rattle.pb_language.specs.Expression.{Name}
-use Rattle.pb_language.specs.Plain.{lone_host, are_plain_tasks}
 use Rattle.pb_language.specs.Program.{Inventory}
 use Rattle.pb_language.specs.Scope.{spot_kind, view_of}
-use Rattle.pb_language.proofs.PlainFlow.{plain_writes}
-use Rattle.pb_language.proofs.PlainTables.{Joins, alike, play_joined, nothing_known}
+use Rattle.pb_language.specs.plain.Books.{lone_host, are_plain_tasks}
+use Rattle.pb_language.specs.plain.Flow.{plain_writes}
+use Rattle.pb_language.specs.plain.Tables.{Joins}
+use Rattle.pb_language.proofs.PlainTables.{alike, play_joined, nothing_known}
 use Rattle.pb_inventory.specs.Hosts.{HostData}
 use Rattle.pb_inventory.specs.Inventory.{inventory_view}
 use Rattle.pb_book.specs.Meaning.{are_plain_plays, plain_tasks}

@@ -5,9 +5,9 @@ use Rattle.pb_semantics.specs.Data.{Fields, no_fields, field}
 use Rattle.pb_semantics.proofs.Bools.{untrue, and-left, and-right}
 use Rattle.pb_semantics.proofs.Names.{same_name}
 use Rattle.pb_language.specs.Expression.{Name}
-use Rattle.pb_language.specs.Plain.{lone_host}
 use Rattle.pb_language.specs.Program.{Inventory}
 use Rattle.pb_language.specs.World.{Group}
+use Rattle.pb_language.specs.plain.Books.{lone_host}
 use Rattle.pb_inventory.specs.Hosts.{HostData, GroupData, InventoryData, is_empty, are_names, is_zero_alone, holds_first, are_alone, are_first_groups, is_lone}
 use Rattle.pb_verify.specs.Meaning.{inventory_of, member_names}
 

@@ -6,12 +6,12 @@ use Rattle.pb_semantics.proofs.Bools.{untrue, and-left, and-right}
 use Rattle.pb_language.specs.Book.{Registry}
 use Rattle.pb_language.specs.Expression.{Name}
 use Rattle.pb_language.specs.Judged.{judged}
-use Rattle.pb_language.specs.Plain.{lone_host, are_plain_tasks, are_lined}
 use Rattle.pb_language.specs.Program.{Inventory}
 use Rattle.pb_language.specs.Verdict.{Verdict, Refusal, accepted, refused, offence_verdict}
 use Rattle.pb_language.specs.Theorem.{are_distinct, host_names}
+use Rattle.pb_language.specs.plain.Books.{lone_host, are_plain_tasks, are_lined}
+use Rattle.pb_language.specs.plain.Pass.{plain_rules, plain_flow, plain_calls}
 use Rattle.pb_language.proofs.PlainJudged.{plain_judged}
-use Rattle.pb_language.proofs.PlainPass.{plain_rules, plain_flow, plain_calls}
 use Rattle.pb_book.specs.Lines.{are_from, is_numbered}
 use Rattle.pb_book.specs.Meaning.{plain_tasks, are_plain_plays}
 use Rattle.pb_book.specs.declared.book.Play.{Play}

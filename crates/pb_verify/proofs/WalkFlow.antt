@@ -8,11 +8,11 @@ use Rattle.pb_language.specs.Cases.{is_setup}
 use Rattle.pb_language.specs.Expression.{Name, Parts}
 use Rattle.pb_language.specs.Fit.{Fault}
 use Rattle.pb_language.specs.Judgement.{is_lawful, going_slots}
-use Rattle.pb_language.specs.Plain.{PlainTask, task_data, is_plain_task, are_plain_tasks}
 use Rattle.pb_language.specs.Plays.{module_named}
 use Rattle.pb_language.specs.Rules.{is_well_formed, reserved_names, written_names, any_among}
 use Rattle.pb_language.specs.Verdict.{Refusal, code_of}
-use Rattle.pb_language.proofs.PlainPass.{plain_run, lone_setting, plain_rules, plain_flow, fault_or}
+use Rattle.pb_language.specs.plain.Books.{PlainTask, task_data, is_plain_task, are_plain_tasks}
+use Rattle.pb_language.specs.plain.Pass.{plain_run, lone_setting, plain_rules, plain_flow, fault_or}
 use Rattle.pb_sig.specs.ModuleView.{are_plain_modules}
 use Rattle.pb_sig.specs.Modules.{module_at}
 use Rattle.pb_book.specs.Lines.{is_known, are_known}

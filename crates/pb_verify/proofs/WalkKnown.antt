@@ -9,17 +9,19 @@ use Rattle.pb_language.specs.Cases.{Sets, no_sets, sets, append_sets, action_set
 use Rattle.pb_language.specs.Expression.{Name, Parts}
 use Rattle.pb_language.specs.Judgement.{is_lawful, going_slots, task_writes, task_sets, register_writes, has_case}
 use Rattle.pb_language.specs.Narrow.{results_of, cases_with}
-use Rattle.pb_language.specs.Plain.{PlainTask, task_data, is_plain_work, is_plain_task}
 use Rattle.pb_language.specs.Plays.{module_named}
 use Rattle.pb_language.specs.Rules.{reserved_names, written_names, any_among}
 use Rattle.pb_language.specs.Scope.{Scope}
 use Rattle.pb_language.specs.Setting.{action_scope}
 use Rattle.pb_language.specs.Simple.{are_simple}
 use Rattle.pb_language.specs.Tables.{written_spot}
-use Rattle.pb_language.proofs.Claims.{WellSets}
-use Rattle.pb_language.proofs.PlainFlow.{plain_writes, goes_on, work_sets_same}
-use Rattle.pb_language.proofs.PlainPass.{plain_action, plain_run, lone_setting}
-use Rattle.pb_language.proofs.PlainTables.{Covers, Joins, append_after, append_none, joins_one, nothing_joined, one_covers, two_cover}
+use Rattle.pb_language.specs.Wells.{WellSets}
+use Rattle.pb_language.specs.plain.Books.{PlainTask, task_data, is_plain_work, is_plain_task}
+use Rattle.pb_language.specs.plain.Flow.{plain_writes}
+use Rattle.pb_language.specs.plain.Pass.{plain_action, plain_run, lone_setting}
+use Rattle.pb_language.specs.plain.Tables.{Joins}
+use Rattle.pb_language.proofs.PlainFlow.{goes_on, work_sets_same}
+use Rattle.pb_language.proofs.PlainTables.{Covers, append_after, append_none, joins_one, nothing_joined, one_covers, two_cover}
 use Rattle.pb_language.proofs.PlainViews.{well_writes}
 use Rattle.pb_expr.specs.FitView.{own_scope}
 use Rattle.pb_verify.specs.Way.{Stands, own_sets, work_result, written_result, failed_result, put_spot, join_slot, register_joined, all_joined, known_after, written_after}

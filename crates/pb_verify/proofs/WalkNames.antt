@@ -11,8 +11,8 @@ use Rattle.pb_language.specs.Rules.{reserved_names, part_names, any_among}
 use Rattle.pb_language.specs.Scope.{Scope, with_spot}
 use Rattle.pb_language.specs.Setting.{group_slots, named_slots}
 use Rattle.pb_language.specs.Simple.{shared_names}
+use Rattle.pb_language.specs.plain.Pass.{lone_setting}
 use Rattle.pb_language.proofs.Opaque.{neither-left, neither-right}
-use Rattle.pb_language.proofs.PlainPass.{lone_setting}
 use Rattle.pb_language.proofs.WithSlot.{at_with}
 use Rattle.pb_verify.specs.Way.{Stands, put_spot, all_set}
 

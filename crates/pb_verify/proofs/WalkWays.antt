@@ -10,15 +10,15 @@ use Rattle.pb_language.specs.Expression.{Name}
 use Rattle.pb_language.specs.Fit.{Fault, first}
 use Rattle.pb_language.specs.Judgement.{is_lawful, action_fault, task_fault, going_slots}
 use Rattle.pb_language.specs.Narrow.{results_of, cases_with}
-use Rattle.pb_language.specs.Plain.{PlainTask, task_data, is_plain_work, is_plain_task}
 use Rattle.pb_language.specs.Plays.{module_named}
 use Rattle.pb_language.specs.Rules.{reserved_names, option_names, set_names, written_names, any_among}
 use Rattle.pb_language.specs.Setting.{item_scope, action_scope}
 use Rattle.pb_language.specs.Simple.{are_simple}
 use Rattle.pb_language.specs.Task.{Task}
+use Rattle.pb_language.specs.plain.Books.{PlainTask, task_data, is_plain_work, is_plain_task}
+use Rattle.pb_language.specs.plain.Pass.{plain_action, plain_run, lone_setting}
 use Rattle.pb_language.proofs.Opaque.{neither-left, neither-right}
 use Rattle.pb_language.proofs.PlainFlow.{work_fault_same, work_sets_same}
-use Rattle.pb_language.proofs.PlainPass.{plain_action, plain_run, lone_setting}
 use Rattle.pb_language.proofs.SameOwn.{SameOwn, any_untaught, same_conditions}
 use Rattle.pb_language.proofs.Untaught.{narrow_each_untaught}
 use Rattle.pb_expr.specs.FitView.{own_scope}

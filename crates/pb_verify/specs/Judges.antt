@@ -6,9 +6,9 @@ use Rattle.pb_language.specs.Book.{Registry}
 use Rattle.pb_language.specs.Judged.{judged}
 use Rattle.pb_language.specs.Machine.{Event, State}
 use Rattle.pb_language.specs.Theorem.{run_of}
-use Rattle.pb_language.specs.Plain.{PlainTask}
 use Rattle.pb_language.specs.Verdict.{Verdict, accepted, refused, offence_verdict}
-use Rattle.pb_language.proofs.PlainPass.{plain_rules, plain_flow, plain_calls}
+use Rattle.pb_language.specs.plain.Books.{PlainTask}
+use Rattle.pb_language.specs.plain.Pass.{plain_rules, plain_flow, plain_calls}
 use Rattle.pb_sig.specs.Modules.{modules_of}
 use Rattle.pb_inventory.specs.Inventory.{inventory_view}
 use Rattle.pb_book.specs.Books.{book_of}

@@ -5,12 +5,12 @@ use Rattle.pb_semantics.specs.Below.{below}
 use Rattle.pb_semantics.specs.Kind.{Slots, Spot, nowhere, spot, slot_at, no_slots}
 use Rattle.pb_language.specs.Book.{Book, Registry}
 use Rattle.pb_language.specs.Expression.{Name}
-use Rattle.pb_language.specs.Plain.{lone_host}
 use Rattle.pb_language.specs.Plays.{program_of}
 use Rattle.pb_language.specs.Program.{Inventory}
 use Rattle.pb_language.specs.Scope.{View, spot_kind, view_of}
 use Rattle.pb_language.specs.Tables.{views_after}
 use Rattle.pb_language.specs.Verdict.{found_laters}
+use Rattle.pb_language.specs.plain.Books.{lone_host}
 use Rattle.pb_value.specs.KindView.{kind_view, slots_view}
 use Rattle.pb_value.specs.declared.kind.Kind.{Kind}
 use Rattle.pb_sig.specs.Modules.{modules_of}

@@ -17,9 +17,9 @@ use Rattle.pb_language.specs.Setting.{named_slots}
 use Rattle.pb_language.specs.Simple.{shared_names}
 use Rattle.pb_semantics.specs.Keeps.{is_among}
 use Rattle.pb_language.specs.Narrow.{results_of}
-use Rattle.pb_language.specs.Plain.{PlainTask}
 use Rattle.pb_language.specs.Plays.{module_named}
-use Rattle.pb_language.proofs.PlainPass.{plain_action, lone_setting}
+use Rattle.pb_language.specs.plain.Books.{PlainTask}
+use Rattle.pb_language.specs.plain.Pass.{plain_action, lone_setting}
 use Rattle.pb_value.specs.KindView.{kind_view}
 use Rattle.pb_value.specs.declared.kind.Kind.{Kind}
 use Rattle.pb_expr.specs.FitView.{own_scope, Fails}

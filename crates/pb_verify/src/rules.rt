@@ -1,7 +1,8 @@
 // The rules that need no following of hosts: parameters and reserved names.
 ghost use Rattle.std.specs.Prelude.{◌≡◌, ◌&&◌, ◌∷◌, [], List, true, Some, codes, map, option_map};
+ghost use Rattle.pb_semantics.specs.Keeps.{is_among};
+ghost use Rattle.pb_semantics.specs.Signature.{ModuleData};
 ghost use Rattle.pb_language.specs.Book.{set_fact_work};
-ghost use Rattle.pb_language.specs.Plain.{task_data};
 ghost use Rattle.pb_language.specs.Rules.{
   any_among,
   are_known as are_among,
@@ -16,9 +17,8 @@ ghost use Rattle.pb_language.specs.Rules.{
   set_names,
   written_names,
 };
-ghost use Rattle.pb_language.proofs.PlainPass.{plain_rules};
-ghost use Rattle.pb_semantics.specs.Keeps.{is_among};
-ghost use Rattle.pb_semantics.specs.Signature.{ModuleData};
+ghost use Rattle.pb_language.specs.plain.Books.{task_data};
+ghost use Rattle.pb_language.specs.plain.Pass.{plain_rules};
 ghost use Rattle.pb_sig.specs.Modules.{modules_of};
 ghost use Rattle.pb_sig.specs.Views.{parameter_view};
 ghost use Rattle.pb_book.specs.Lines.{are_known, is_known};

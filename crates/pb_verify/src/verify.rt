@@ -1,25 +1,25 @@
 // The verdict on a book.
 ghost use Rattle.std.specs.Prelude.{◌≡◌, true, None, IfOk, IfErr, option_map};
+ghost use Rattle.pb_semantics.specs.Kind.{no_slots};
 ghost use Rattle.pb_language.specs.Expression.{Name};
 ghost use Rattle.pb_language.specs.Judged.{judged};
-ghost use Rattle.pb_language.specs.Plain.{are_plain_tasks, lone_host};
 ghost use Rattle.pb_language.specs.Verdict.{accepted, code_of as number_of};
-ghost use Rattle.pb_expr.specs.FitView.{fault_view};
-ghost use Rattle.pb_verify.specs.Faults.{fault_refusal};
-ghost use Rattle.pb_language.proofs.PlainFlow.{plain_writes};
-ghost use Rattle.pb_language.proofs.PlainPass.{plain_rules, plain_flow};
-ghost use Rattle.pb_language.proofs.PlainTables.{Joins};
+ghost use Rattle.pb_language.specs.plain.Books.{are_plain_tasks, lone_host};
+ghost use Rattle.pb_language.specs.plain.Flow.{plain_writes};
+ghost use Rattle.pb_language.specs.plain.Pass.{plain_rules, plain_flow};
+ghost use Rattle.pb_language.specs.plain.Tables.{Joins};
 ghost use Rattle.pb_value.specs.KindView.{slots_view};
-ghost use Rattle.pb_verify.specs.Known.{IsTable};
-ghost use Rattle.pb_verify.specs.Way.{Stands};
-ghost use Rattle.pb_semantics.specs.Kind.{no_slots};
+ghost use Rattle.pb_expr.specs.FitView.{fault_view};
 ghost use Rattle.pb_sig.specs.Modules.{modules_of};
 ghost use Rattle.pb_inventory.specs.Inventory.{inventory_view};
 ghost use Rattle.pb_book.specs.Books.{plays_of, book_of, plain_plays};
 ghost use Rattle.pb_book.specs.Lines.{are_known, is_numbered, names_known};
 ghost use Rattle.pb_book.specs.Meaning.{are_plain_plays, plain_tasks};
+ghost use Rattle.pb_verify.specs.Faults.{fault_refusal};
 ghost use Rattle.pb_verify.specs.Judges.{Judges, Refuses, tasks_verdict};
+ghost use Rattle.pb_verify.specs.Known.{IsTable};
 ghost use Rattle.pb_verify.specs.Meaning.{code_number, inventory_of, refusal_of, or_later};
+ghost use Rattle.pb_verify.specs.Way.{Stands};
 
 use crate::budget::calls_in;
 use crate::checked::{Accepted, Checked};

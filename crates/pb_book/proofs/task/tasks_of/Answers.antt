@@ -5,7 +5,7 @@ use Rattle.pb_semantics.specs.Data.{list}
 use Rattle.pb_value.specs.View.{view, items_view}
 use Rattle.pb_value.specs.declared.value.Value.{Value}
 use Rattle.pb_sig.specs.Modules.{modules_of}
-use Rattle.pb_language.specs.Plain.{are_plain_tasks}
+use Rattle.pb_language.specs.plain.Books.{are_plain_tasks}
 use Rattle.pb_book.specs.Lines.{are_from, are_known, are_ordered}
 use Rattle.pb_book.specs.Meaning.{plain_task, plain_tasks}
 use Rattle.pb_book.specs.Reading.{few_tasks, task_of, with_task}

@@ -2,7 +2,7 @@ use Rattle.std.proofs.Common.{◌≡◌, ◌+◌, ◌≤◌, length, true}
 use Rattle.std.specs.Vec.Iter.{into_iter_items, into_iter_len}
 use Rattle.pb_value.specs.View.{items_view}
 use Rattle.pb_sig.specs.Modules.{modules_of}
-use Rattle.pb_language.specs.Plain.{are_plain_tasks}
+use Rattle.pb_language.specs.plain.Books.{are_plain_tasks}
 use Rattle.pb_book.specs.Lines.{are_from, are_known, are_ordered}
 use Rattle.pb_book.specs.Meaning.{plain_tasks}
 use Rattle.pb_book.specs.Reading as definition

@@ -1,6 +1,7 @@
 use Rattle.std.proofs.Common.{◌≡◌, [], ap, sym, ◌∙◌}
 use Rattle.pb_value.specs.View.{fields_view}
-use Rattle.pb_value.proofs.Projections.{append_fields, append_fields-none}
+use Rattle.pb_value.proofs.Projections.{append_fields-none}
+use Rattle.pb_value.specs.Append.{append_fields}
 use Rattle.pb_strategy.proofs.Finishes.{written_more}
 use Rattle.pb_strategy.proofs.outcome.add_all.Goals as goal
 

@@ -1,6 +1,6 @@
 use Rattle.std.proofs.Common.{◌≡◌}
+use Rattle.pb_value.specs.Append.{append_fields}
 use Rattle.pb_value.specs.View.{fields_view}
-use Rattle.pb_value.proofs.Projections.{append_fields}
 use Rattle.pb_strategy.proofs.outcome.add_all.Given as goal
 
 abbrev pub invariant-loop-name : goal.invariant-loop-name

@@ -2,10 +2,11 @@ use Rattle.std.proofs.Common.{◌≡◌, map, String, BTreeMap, Global, ap, ◌�
 use Rattle.pb_semantics.specs.Data.{rec, no_fields}
 use Rattle.pb_semantics.specs.Kind.{ok_shape}
 use Rattle.pb_language.specs.Start.{skips, acts, unchanged, no_changes, all_changes}
-use Rattle.pb_language.proofs.PlainGives.{a_pass, action_fields, result_writes, skip_gives, act_gives}
+use Rattle.pb_language.specs.plain.Gives.{a_pass, action_fields, result_writes}
+use Rattle.pb_language.proofs.PlainGives.{skip_gives, act_gives}
+use Rattle.pb_value.specs.Append.{append_fields}
 use Rattle.pb_value.specs.View.{fields_view}
 use Rattle.pb_value.specs.declared.value.Value.{Value}
-use Rattle.pb_value.proofs.Projections.{append_fields}
 use Rattle.pb_sig.specs.Modules.{modules_of}
 use Rattle.pb_book.specs.Meaning.{plain_task}
 use Rattle.pb_strategy.specs.Events.{answer_data}

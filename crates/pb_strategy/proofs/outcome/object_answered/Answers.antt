@@ -1,6 +1,6 @@
 use Rattle.std.proofs.Common.{◌≡◌, inl, inr, Some, String, Global, string_bytes, refl, sym, ap, ◌∙◌}
+use Rattle.pb_language.specs.plain.Pass.{work_calls}
 use Rattle.pb_language.proofs.PlainGives.{stranger_gives}
-use Rattle.pb_language.proofs.PlainPass.{work_calls}
 use Rattle.pb_value.specs.View.{view}
 use Rattle.pb_sig.specs.Modules.{modules_of, module_at}
 use Rattle.pb_sig.specs.ModuleView.{builtin_view}

@@ -14,8 +14,9 @@ use Rattle.pb_value.proofs.KindLemmas.{SlotEntry}
 use Rattle.pb_value.proofs.Views.{view-List, view-Rec, view-Text, kind_view-List, kind_view-Rec}
 use Rattle.pb_value.proofs.KindLemmas.{kind_view-Host}
 use Rattle.pb_value.proofs.KeptLists.{projected-short, projected-long}
-use Rattle.pb_value.proofs.Projections.{each_step, items_view-push, and_items, and_fields, append_fields, append_items, append_items-none, and_fields-nothing, and_fields-step, append_fields-none, put_field-above, IsAbove, IsAbove-further, IsAbove-append, neighbours, projected_fields-there, projected_fields-missing}
+use Rattle.pb_value.proofs.Projections.{each_step, items_view-push, and_items, and_fields, append_items-none, and_fields-nothing, and_fields-step, append_fields-none, put_field-above, IsAbove, IsAbove-further, IsAbove-append, neighbours, projected_fields-there, projected_fields-missing}
 use Rattle.pb_value.proofs.project.+project.Goals as goal
+use Rattle.pb_value.specs.Append.{append_fields, append_items}
 
 pub project_fields-loop-name-init : goal.project_fields-loop-name-init
 project_fields-loop-name-init t c =

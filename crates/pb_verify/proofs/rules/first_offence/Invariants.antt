@@ -1,5 +1,5 @@
 use Rattle.std.proofs.Common.{◌≡◌, drop, true}
-use Rattle.pb_language.proofs.PlainPass.{plain_rules}
+use Rattle.pb_language.specs.plain.Pass.{plain_rules}
 use Rattle.pb_sig.specs.Modules.{modules_of}
 use Rattle.pb_book.specs.Lines.{are_known}
 use Rattle.pb_book.specs.Meaning.{plain_tasks}

@@ -1,8 +1,8 @@
 use Rattle.std.proofs.Common.{◌≡◌, ap, ◌∙◌, subst, option_map, string_bytes}
 use Rattle.std.proofs.lemmas.Result.{IfOk-weaker}
-use Rattle.pb_language.proofs.PlainFlow.{plain_writes}
-use Rattle.pb_language.proofs.PlainPass.{plain_rules, plain_flow}
-use Rattle.pb_language.proofs.PlainTables.{Joins}
+use Rattle.pb_language.specs.plain.Flow.{plain_writes}
+use Rattle.pb_language.specs.plain.Pass.{plain_rules, plain_flow}
+use Rattle.pb_language.specs.plain.Tables.{Joins}
 use Rattle.pb_semantics.specs.Kind.{no_slots}
 use Rattle.pb_value.specs.KindView.{slots_view}
 use Rattle.pb_sig.specs.Modules.{modules_of}

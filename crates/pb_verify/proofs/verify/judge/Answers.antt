@@ -1,8 +1,6 @@
 use Rattle.std.proofs.Common.{ap, ◌≡◌, List, sym, subst, ◌∙◌, true}
 use Rattle.std.proofs.lemmas.Result.{MatchResult-weaker}
 use Rattle.pb_semantics.specs.Kind.{no_slots}
-use Rattle.pb_language.proofs.PlainFlow.{plain_writes}
-use Rattle.pb_language.proofs.PlainTables.{Joins}
 use Rattle.pb_value.specs.KindView.{slots_view}
 use Rattle.pb_verify.specs.Known.{IsTable}
 use Rattle.pb_verify.proofs.KnownTables.{play_table}
@@ -10,6 +8,8 @@ use Rattle.pb_sig.specs.Modules.{modules_of}
 use Rattle.pb_inventory.specs.Inventory.{inventory_view}
 use Rattle.pb_language.specs.Judged.{judged}
 use Rattle.pb_language.specs.Verdict.{Verdict}
+use Rattle.pb_language.specs.plain.Flow.{plain_writes}
+use Rattle.pb_language.specs.plain.Tables.{Joins}
 use Rattle.pb_book.specs.Lines.{is_numbered}
 use Rattle.pb_book.specs.Meaning.{are_plain_plays, plain_tasks}
 use Rattle.pb_book.specs.declared.book.Play.{Play}

@@ -3,7 +3,8 @@ use Rattle.std.proofs.lemmas.Grind.{common_steps}
 use Rattle.std.specs.String.{string_eq}
 use Rattle.indexmap.specs.IndexMap.{spare, insert_entry}
 use Rattle.pb_semantics.specs.Data.{field_value}
-use Rattle.pb_language.proofs.PlainGives.{put_all, put_all_at}
+use Rattle.pb_language.specs.plain.Gives.{put_all}
+use Rattle.pb_language.proofs.PlainGives.{put_all_at}
 use Rattle.pb_value.specs.View.{fields_view}
 use Rattle.pb_strategy.proofs.HostFields.{insert_same}
 use Rattle.pb_strategy.proofs.host.HostVars.write.Goals as goal

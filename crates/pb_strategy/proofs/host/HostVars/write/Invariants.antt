@@ -1,6 +1,6 @@
 use Rattle.std.proofs.Common.{◌≡◌, ◌≤◌, length}
+use Rattle.pb_language.specs.plain.Gives.{put_all}
 use Rattle.indexmap.specs.IndexMap.{spare}
-use Rattle.pb_language.proofs.PlainGives.{put_all}
 use Rattle.pb_value.specs.View.{fields_view}
 use Rattle.pb_strategy.specs.OwnNames.{AreSame}
 use Rattle.pb_strategy.proofs.host.HostVars.write.Given as goal

@@ -6,14 +6,14 @@ use Rattle.pb_language.specs.World.{World}
 use Rattle.pb_language.specs.Task.{Task}
 use Rattle.pb_language.specs.Rest.{Rest, done, left, next}
 use Rattle.pb_language.specs.Book.{Registry}
-use Rattle.pb_language.specs.Plain.{PlainTask, plain_play, lone_host}
 use Rattle.pb_language.specs.Plays.{play_with}
 use Rattle.pb_language.specs.Program.{Batch}
 use Rattle.pb_language.specs.Setting.{named_fields}
 use Rattle.pb_language.specs.Start.{Pass, Plan, planned, halted, plan_of, call_count}
 use Rattle.pb_language.specs.Give.{Answer, Ended, Results, results_are, no_results, Admitted, admitted, breached, unreached, admit_passes, end_all, any_failed, message_of, written_variables}
 use Rattle.pb_language.specs.Machine.{Event, start, give, turn, stop, Ready, over, begins, Stage, waits, runs, Recap, Host, State, gone, empty_recap, task_recap}
-use Rattle.pb_language.proofs.PlainPass.{plain_run, lone_setting}
+use Rattle.pb_language.specs.plain.Books.{PlainTask, plain_play, lone_host}
+use Rattle.pb_language.specs.plain.Pass.{plain_run, lone_setting}
 
 -- where the host stands: before its next task, in it with these passes, or gone
 pub data Standing : Type 0 where
@@ -93,6 +93,10 @@ plain_opening ts = record {
   is_over = false;
   is_stopped = false;
 }
+
+-- a run of a book without plays has ended before it begins
+abbrev pub ended_opening : PlainRun
+ended_opening = record (plain_opening []) { is_over = true }
 
 -- the world of the host's task
 abbrev pub plain_world : Name → Fields → World

@@ -6,12 +6,12 @@ use Rattle.pb_language.specs.Expansion.{part_named}
 use Rattle.pb_language.specs.Task.{Action, call_of, debug, set_fact, Task}
 use Rattle.pb_language.specs.Book.{Work, module_work, debug_work, set_fact_work, assert_work, fail_work, Registry}
 use Rattle.pb_language.specs.Plays.{argument_or, module_named}
-use Rattle.pb_language.specs.Plain.{PlainTask, task_data, lone_host}
 use Rattle.pb_language.specs.Setting.{Setting}
 use Rattle.pb_language.specs.Fit.{Fault}
 use Rattle.pb_language.specs.Judgement.{task_fault, going_slots}
 use Rattle.pb_language.specs.Rules.{is_well_formed, written_names, any_among, reserved_names}
 use Rattle.pb_language.specs.Verdict.{Refusal, Verdict, accepted, code_of, offence_verdict}
+use Rattle.pb_language.specs.plain.Books.{PlainTask, task_data, lone_host}
 
 abbrev pub plain_action : Registry → Work → Action
 plain_action ms (module_work n ps) = call_of (module_named n ms) ps

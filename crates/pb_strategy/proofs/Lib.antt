@@ -12,4 +12,5 @@ pub mod Nexts
 pub mod Openings
 pub mod Settled
 pub mod Replays
+pub mod Drives
 pub mod Scripts

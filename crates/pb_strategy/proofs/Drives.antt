@@ -1,9 +1,8 @@
 -- Calls that are answered one after the other, and runs that are driven.
-use Rattle.std.proofs.Common.{◌≡◌, ◌==◌, ℕ, List, [], ◌∷◌, ◌++◌, Bool, true, false, cond, length, Option, Some, None, refl, sym, ap, ◌∙◌}
+use Rattle.std.proofs.Common.{◌≡◌, ◌==◌, ℕ, List, [], ◌∷◌, ◌++◌, Bool, true, false, ◌||◌, cond, length, Option, Some, None, refl, sym, ap, ◌∙◌, ◌⊎◌, inl, inr}
 use Rattle.std.specs.Global.{Vec}
-use Rattle.pb_verify.specs.declared.checked.Accepted.{Accepted}
 use Rattle.pb_strategy.specs.Drives.{AreAnswered, Drives, IsJobDone, ends, goes_on}
-use Rattle.pb_strategy.specs.History.{RunState, after, IsAfterGive, IsAfterTake, is_job, is_stopped}
+use Rattle.pb_strategy.specs.History.{RunState, after, IsAfterGive, IsAfterTake, is_ended, is_job, is_over, is_stopped}
 use Rattle.pb_strategy.specs.Jobs.{ticket_out}
 use Rattle.pb_strategy.specs.declared.answer.Answer.{Answer}
 use Rattle.pb_strategy.specs.declared.answer.Call.{Call}
@@ -12,7 +11,6 @@ use Rattle.pb_strategy.specs.declared.event.Event.{Event}
 use Rattle.pb_strategy.specs.declared.event.Event.TheVariants.{Start, Give, Turn}
 use Rattle.pb_strategy.specs.declared.event.Taken.{Taken}
 use Rattle.pb_strategy.specs.declared.event.Taken.TheVariants as taken
-use Rattle.pb_strategy.specs.declared.recap.Recap.{Recap}
 use Rattle.pb_strategy.proofs.Histories.{is_stopped-more, or-false}
 use Rattle.pb_strategy.proofs.Jobs.{ticket_more}
 
@@ -91,3 +89,13 @@ module _ {R : Type 0} (answers : R → Call → Answer → R → Type 0) where
   drives_others old r new s (ends t none e) k p out = sym ((quiet old new t none e).out k) ∙ out
   drives_others old r new s (goes_on {mid} {q = q} d more) k p out =
       out_before k p old.history d.job.host d.given (ap (ticket_out k) (sym (job_events old r mid q d)) ∙ drives_others mid q new s more k p out)
+
+  -- a run in which nothing had happened is driven to its end
+  pub to_the_end : (old : RunState) (r : R) (new : RunState) (s : R) → old.history ≡ [] → Drives answers old r new s → (is_over new ≡ true) ⊎ ((k : ℕ) × (p : ℕ) × (ticket_out k new.history ≡ Some p))
+      → (is_ended new ≡ true) × (is_stopped new.history ≡ false)
+  to_the_end old r new s none d over =
+      let going : is_stopped new.history ≡ false = drives_going_on old r new s d ∙ ap is_stopped none in
+      elim over [
+        | inl ended ↦ (ap (λ b. b || is_ended new) (sym going) ∙ ended, going)
+        | inr out ↦ let no : ◌≡◌ {A = Option ℕ} None (Some out.1) = ap (ticket_out out.0) (sym none) ∙ drives_others old r new s d out.0 out.1 out.2 in cc
+      ]

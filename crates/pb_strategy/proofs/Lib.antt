@@ -13,4 +13,5 @@ pub mod Openings
 pub mod Settled
 pub mod Replays
 pub mod Drives
+pub mod Scripted
 pub mod Scripts

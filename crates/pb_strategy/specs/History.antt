@@ -1,14 +1,16 @@
 -- A run as its callers see it: the accepted book, the fork count, what has happened, and what it came to.
-use Rattle.std.specs.Prelude.{◌≡◌, ℕ, ◌+◌, List, [], ◌∷◌, ◌++◌, Bool, true, false, ◌||◌, cond, length, map}
+use Rattle.std.specs.Prelude.{◌≡◌, ℕ, ◌+◌, List, [], ◌∷◌, ◌++◌, Bool, true, false, ◌||◌, cond, length, map, replicate}
 use Rattle.std.specs.Global.{Vec}
 use Rattle.pb_language.specs.Machine as language
 use Rattle.pb_language.specs.Machine.{State, enabled, step}
+use Rattle.pb_inventory.specs.Inventory.{inventory_view}
 use Rattle.pb_book.specs.Books.{plays_of}
 use Rattle.pb_book.specs.declared.book.Play.{Play}
 use Rattle.pb_verify.specs.Judges.{run_of_accepted}
 use Rattle.pb_verify.specs.declared.checked.Accepted.{Accepted}
 use Rattle.pb_strategy.specs.Events.{event_data, event_view, call_data}
 use Rattle.pb_strategy.specs.Passes.{job_calls}
+use Rattle.pb_strategy.specs.Recaps.{nothing}
 use Rattle.pb_strategy.specs.declared.answer.Answer.{Answer}
 use Rattle.pb_strategy.specs.declared.answer.Job.{Job}
 use Rattle.pb_strategy.specs.declared.event.Event.{Event}
@@ -25,6 +27,10 @@ pub record RunState : Type 0 where
   pub recaps : List Recap
   -- how many calls of modules were handed out
   pub handed : ℕ
+
+-- a run in which nothing has happened yet
+abbrev pub opened : Accepted → ℕ → RunState
+opened a forks = record { checked = a; forks = forks; history = []; recaps = replicate (length (inventory_view a.inventory).hosts) nothing; handed = 0 }
 
 -- where the definitions' machine stands after these events
 abbrev pub state_after : RunState → List Event → State

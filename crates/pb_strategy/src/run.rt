@@ -23,7 +23,7 @@ ghost use Rattle.pb_strategy.specs.Sound.{IsSound, recap_in};
 ghost use Rattle.pb_strategy.specs.Standing.{can_run, is_done, tasks_in};
 ghost use Rattle.pb_inventory.specs.Inventory.{inventory_view};
 ghost use Rattle.pb_book.specs.Books.{plays_of};
-ghost use Rattle.pb_strategy.specs.History.{RunState, after, enabled_of, Follows, IsAfterJob, IsAfterTake, has_no_plays, is_stopped, is_ended, is_over, state_after, state_of};
+ghost use Rattle.pb_strategy.specs.History.{RunState, after, enabled_of, Follows, IsAfterJob, IsAfterTake, has_no_plays, is_stopped, is_ended, is_over, opened, state_after, state_of};
 ghost use Rattle.pb_strategy.specs.Inside.{recaps_of, tickets_of, handed_of, is_phase_ended, is_phase_over, is_phase_stopped};
 ghost use Rattle.pb_strategy.specs.Jobs.{ticket_in, ticket_out, is_job_out};
 ghost use Rattle.pb_strategy.specs.Recaps.{nothing, counted, Counts};
@@ -84,13 +84,7 @@ impl Run {
     pub fn open(alloc: Global, checked: &Checked, forks: usize) -> Result<Run, AllocError>
         requires { 0 < forks }
         ensures sound { IfOk result (λ r. IsSound r) }
-        ensures opening { IfOk result (λ r. r ≡ record {
-          checked = checked.now;
-          forks = forks;
-          history = [];
-          recaps = replicate (length (inventory_view checked.now.inventory).hosts) nothing;
-          handed = 0;
-        }) }
+        ensures opening { IfOk result (λ r. r ≡ opened checked.now forks) }
     {
         let run = Run {
             checked: checked.clone()?,

@@ -12,4 +12,6 @@ pub mod Nexts
 pub mod Openings
 pub mod Settled
 pub mod Replays
+pub mod Drives
+pub mod Scripted
 pub mod Scripts

@@ -1,18 +1,18 @@
 -- Which events a run follows, by where its one host stands; and the history of a replay.
 use Rattle.std.proofs.Common.{◌≡◌, ℕ, zero, suc, ◌==◌, List, [], ◌∷◌, ◌++◌, length, map, Bool, true, false, not, ◌&&◌, nat_lt, cond, Option, Some, None, is_some, get_or, refl, sym, ap, ap₂, ◌∙◌, ◌⊎◌, inl, inr, append-nil}
-use Rattle.std.proofs.lemmas.List.{map_push}
+use Rattle.std.proofs.lemmas.List.{map-append, map_push}
 use Rattle.std.proofs.Math.Bool.{and-true, and-false}
 use Rattle.std.proofs.Math.Dec.{eqb-suc-zero}
 use Rattle.pb_semantics.proofs.Bools.{untrue}
 use Rattle.pb_language.specs.Give as language
 use Rattle.pb_language.specs.Machine as machine
-use Rattle.pb_language.specs.Machine.{enabled, history, run_from, start, give, stop}
+use Rattle.pb_language.specs.Machine.{State, enabled, history, run_from, start, give, step, stop}
 use Rattle.pb_language.specs.plain.Machine.{PlainRun, plain_is_possible, is_inside, is_going}
-use Rattle.pb_language.proofs.PlainEval.{history_kept, history_more}
+use Rattle.pb_language.proofs.PlainEval.{history_kept}
 use Rattle.pb_book.specs.Books.{plays_of}
 use Rattle.pb_verify.specs.declared.checked.Accepted.{Accepted}
-use Rattle.pb_strategy.specs.Events.{event_data}
-use Rattle.pb_strategy.specs.History.{RunState, after, Follows, is_over, is_stopped, state_of}
+use Rattle.pb_strategy.specs.Events.{event_data, event_view}
+use Rattle.pb_strategy.specs.History.{RunState, after, enabled_of, Follows, is_over, is_stopped, state_of}
 use Rattle.pb_strategy.specs.Inside.{IsMachine, IsRun, run_state, tickets_of, is_phase_ended, is_phase_over, is_phase_stopped}
 use Rattle.pb_strategy.specs.Jobs.{is_ticket, ticket_in, ticket_out}
 use Rattle.pb_strategy.specs.Standing.{tasks_in, plain_after, IsStanding, can_run, is_waiting}
@@ -78,25 +78,55 @@ is_answerable false k (Some p) e h = refl
 is_answerable false k None e h = untrue h
 
 -- an event that isn't enabled leaves the run as it was, and one that is enabled is one more
-pub passed_over : (e : machine.Event) (old new : RunState) → enabled (state_of old) e ≡ false → new ≡ old → Follows e old new
-passed_over e old new off same = rw (off, same) (sym (append-nil (map event_data old.history)))
+pub passed_over : (e : Event) (old new : RunState) → enabled (state_of old) (event_data e) ≡ false → new ≡ old → Follows e old new
+passed_over e old new off same = rw (off, same) (sym (append-nil (map event_view old.history)))
 
-pub one_more : (e : machine.Event) (x : Event) (old new : RunState) → enabled (state_of old) e ≡ true → event_data x ≡ e → new.history ≡ old.history ++ x ∷ [] → Follows e old new
-one_more e x old new on same more = rw (on, more, ← same) (map_push event_data old.history x)
+pub one_more : (e x : Event) (old new : RunState) → enabled (state_of old) (event_data e) ≡ true → event_view x ≡ event_view e → new.history ≡ old.history ++ x ∷ [] → Follows e old new
+one_more e x old new on same more = rw (on, more, ← same) (map_push event_view old.history x)
 
 -- a Stop is one more until the run is over
-pub stop_follows : (old new : RunState) (over : Bool) → is_over old ≡ over → enabled (state_of old) stop ≡ not over → (is_over old ≡ false → new ≡ after old Stop) → (is_over old ≡ true → new ≡ old) → Follows stop old new
-stop_follows old new true e on going past = passed_over stop old new on (past e)
-stop_follows old new false e on going past = one_more stop Stop old new on refl (ap (λ r. r.history) (going e))
+pub stop_follows : (old new : RunState) (over : Bool) → is_over old ≡ over → enabled (state_of old) stop ≡ not over → (is_over old ≡ false → new ≡ after old Stop) → (is_over old ≡ true → new ≡ old) → Follows Stop old new
+stop_follows old new true e on going past = passed_over Stop old new on (past e)
+stop_follows old new false e on going past = one_more Stop Stop old new on refl (ap (λ r. r.history) (going e))
 
--- a run that followed events is the history of them, and of one more that it follows then
-pub history_follows : (a : Accepted) (forks : ℕ) (xs : List Event) (x : Event) (old new : RunState) → old.checked ≡ a → old.forks ≡ forks → map event_data old.history ≡ history (there a forks []) (map event_data xs)
-    → Follows (event_data x) old new → map event_data new.history ≡ history (there a forks []) (map event_data (xs ++ x ∷ []))
-history_follows a forks xs x old new book same kept follows =
+data_of_views : (es : List Event) → map (λ v. v.0) (map event_view es) ≡ map event_data es
+data_of_views [] = refl
+data_of_views (e ∷ es) = ap (λ ds. event_data e ∷ ds) (data_of_views es)
+
+same_data : (es fs : List Event) → map event_view es ≡ map event_view fs → map event_data es ≡ map event_data fs
+same_data es fs same = sym (data_of_views es) ∙ ap (map (λ v. v.0)) same ∙ data_of_views fs
+
+map-cond : {X Y : Type 0} (f : X → Y) (q : Bool) (x : X) (xs ys : List X) → map f (cond q (x ∷ xs) ys) ≡ cond q (f x ∷ map f xs) (map f ys)
+map-cond f true x xs ys = refl
+map-cond f false x xs ys = refl
+
+-- the enabled events are those that the definitions keep
+enabled_data : (s : State) (es : List Event) → map event_data (enabled_of s es) ≡ history s (map event_data es)
+enabled_data s [] = refl
+enabled_data s (e ∷ es) =
+    let more = step s (event_data e) in
+    map-cond event_data (enabled s (event_data e)) e (enabled_of more es) (enabled_of more es)
+    ∙ ap (λ ds. cond (enabled s (event_data e)) (event_data e ∷ ds) ds) (enabled_data more es)
+
+enabled_more : (s : State) (es : List Event) (e : Event) → enabled_of s (es ++ e ∷ []) ≡ enabled_of s es ++ cond (enabled (run_from s (map event_data es)) (event_data e)) (e ∷ []) []
+enabled_more s [] e = refl
+enabled_more s (x ∷ es) e = rw (enabled_more (step s (event_data x)) es e) (first (enabled s (event_data x)) (enabled_of (step s (event_data x)) es) (cond (enabled (run_from (step s (event_data x)) (map event_data es)) (event_data e)) (e ∷ []) [])) where
+  first : (q : Bool) (xs ys : List Event) → cond q (x ∷ (xs ++ ys)) (xs ++ ys) ≡ cond q (x ∷ xs) xs ++ ys
+  first true xs ys = refl
+  first false xs ys = refl
+
+-- a run that followed events has those that were enabled, and one more that it follows then
+pub enabled_follows : (a : Accepted) (forks : ℕ) (xs : List Event) (x : Event) (old new : RunState) → old.checked ≡ a → old.forks ≡ forks → map event_view old.history ≡ map event_view (enabled_of (there a forks []) xs)
+    → Follows x old new → map event_view new.history ≡ map event_view (enabled_of (there a forks []) (xs ++ x ∷ []))
+enabled_follows a forks xs x old new book same kept follows =
     let first = there a forks [] in
     let here : state_of old ≡ run_from first (map event_data xs) =
-    ap₂ (λ b n. there b n old.history) book same ∙ ap (run_from first) kept ∙ history_kept first (map event_data xs) in
+    ap₂ (λ b n. there b n old.history) book same
+    ∙ ap (run_from first) (same_data old.history (enabled_of first xs) kept ∙ enabled_data first xs)
+    ∙ history_kept first (map event_data xs) in
+    let on = enabled (run_from first (map event_data xs)) (event_data x) in
     follows
-    ∙ ap₂ (λ es s. es ++ cond (enabled s (event_data x)) (event_data x ∷ []) []) kept here
-    ∙ sym (history_more first (map event_data xs) (event_data x))
-    ∙ ap (history first) (sym (map_push event_data xs x))
+    ∙ ap₂ (λ vs s. vs ++ cond (enabled s (event_data x)) (event_view x ∷ []) []) kept here
+    ∙ ap (λ vs. map event_view (enabled_of first xs) ++ vs) (sym (map-cond event_view on x [] []))
+    ∙ sym (map-append event_view (enabled_of first xs) (cond on (x ∷ []) []))
+    ∙ ap (map event_view) (sym (enabled_more first xs x))

@@ -1,5 +1,5 @@
 -- What the events of a run and the calls of a job stand for.
-use Rattle.std.specs.Prelude.{ℕ, map, string_bytes}
+use Rattle.std.specs.Prelude.{ℕ, List, [], map, Option, Some, None, string_bytes}
 use Rattle.pb_semantics.specs.Data.{Data}
 use Rattle.pb_language.specs.Expression.{Name}
 use Rattle.pb_language.specs.Give as language
@@ -8,6 +8,7 @@ use Rattle.pb_value.specs.View.{view}
 use Rattle.pb_strategy.specs.declared.answer.Answer.{Answer}
 use Rattle.pb_strategy.specs.declared.answer.Answer.TheVariants.{Object, Unreachable, Broken}
 use Rattle.pb_strategy.specs.declared.answer.Call.{Call}
+use Rattle.pb_strategy.specs.declared.answer.Why.{Why}
 use Rattle.pb_strategy.specs.declared.event.Event.{Event}
 use Rattle.pb_strategy.specs.declared.event.Event.TheVariants.{Start, Give, Turn, Stop}
 use Rattle.pb_strategy.specs.declared.recap.Recap.{Recap}
@@ -22,6 +23,23 @@ event_data (Start k) = machine.start k
 event_data (Give k answers) = machine.give k (map answer_data answers.items)
 event_data Turn = machine.turn
 event_data Stop = machine.stop
+
+-- why an answer is broken, where it is
+abbrev pub why_of : Answer → Option Why
+why_of (Object v) = None
+why_of Unreachable = None
+why_of (Broken why) = Some why
+
+-- the same of each answer of a Give
+abbrev pub whys_of : Event → List (Option Why)
+whys_of (Start k) = []
+whys_of (Give k answers) = map why_of answers.items
+whys_of Turn = []
+whys_of Stop = []
+
+-- an event, up to the data that its values stand for
+abbrev pub event_view : Event → machine.Event × List (Option Why)
+event_view e = (event_data e, whys_of e)
 
 abbrev pub recap_data : Recap → machine.Recap
 recap_data r = record { ok = r.ok; changed = r.changed; unreachable = r.unreachable; failed = r.failed; skipped = r.skipped; rescued = r.rescued; ignored = r.ignored }

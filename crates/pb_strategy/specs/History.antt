@@ -1,13 +1,17 @@
 -- A run as its callers see it: the accepted book, the fork count, what has happened, and what it came to.
-use Rattle.std.specs.Prelude.{◌≡◌, ℕ, ◌+◌, List, [], ◌∷◌, ◌++◌, Bool, true, false, ◌||◌, cond, length, map}
+use Rattle.std.specs.Prelude.{◌≡◌, ℕ, ◌+◌, List, [], ◌∷◌, ◌++◌, Bool, true, false, ◌||◌, cond, length, map, replicate}
+use Rattle.std.specs.Global.{Vec}
 use Rattle.pb_language.specs.Machine as language
-use Rattle.pb_language.specs.Machine.{State, enabled}
+use Rattle.pb_language.specs.Machine.{State, enabled, step}
+use Rattle.pb_inventory.specs.Inventory.{inventory_view}
 use Rattle.pb_book.specs.Books.{plays_of}
 use Rattle.pb_book.specs.declared.book.Play.{Play}
 use Rattle.pb_verify.specs.Judges.{run_of_accepted}
 use Rattle.pb_verify.specs.declared.checked.Accepted.{Accepted}
-use Rattle.pb_strategy.specs.Events.{event_data, call_data}
+use Rattle.pb_strategy.specs.Events.{event_data, event_view, call_data}
 use Rattle.pb_strategy.specs.Passes.{job_calls}
+use Rattle.pb_strategy.specs.Recaps.{nothing}
+use Rattle.pb_strategy.specs.declared.answer.Answer.{Answer}
 use Rattle.pb_strategy.specs.declared.answer.Job.{Job}
 use Rattle.pb_strategy.specs.declared.event.Event.{Event}
 use Rattle.pb_strategy.specs.declared.event.Event.TheVariants.{Start, Give, Turn, Stop}
@@ -23,6 +27,10 @@ pub record RunState : Type 0 where
   pub recaps : List Recap
   -- how many calls of modules were handed out
   pub handed : ℕ
+
+-- a run in which nothing has happened yet
+abbrev pub opened : Accepted → ℕ → RunState
+opened a forks = record { checked = a; forks = forks; history = []; recaps = replicate (length (inventory_view a.inventory).hosts) nothing; handed = 0 }
 
 -- where the definitions' machine stands after these events
 abbrev pub state_after : RunState → List Event → State
@@ -82,6 +90,21 @@ IsAfterTake taken.Idle old new = new ≡ old
 IsAfterTake taken.Stopped old new = new ≡ old
 IsAfterTake taken.Finished old new = new ≡ cond (enabled (state_of old) language.turn) (after old Turn) old
 
+abbrev pub is_job : Taken → Bool
+is_job (taken.Job j) = true
+is_job taken.Idle = false
+is_job taken.Finished = false
+is_job taken.Stopped = false
+
+-- what a Give records: its event, and the recap that it comes to
+abbrev pub IsAfterGive : ℕ → Vec Answer → RunState → RunState → Type 0
+IsAfterGive h answers old new = new ≡ record (after old (Give h answers)) { recaps = new.recaps }
+
+-- those of the events that are enabled where they come
+abbrev pub enabled_of : State → List Event → List Event
+enabled_of s [] = []
+enabled_of s (e ∷ es) = cond (enabled s (event_data e)) (e ∷ enabled_of (step s (event_data e)) es) (enabled_of (step s (event_data e)) es)
+
 -- the event is one more where it was enabled, and else passed over
-abbrev pub Follows : language.Event → RunState → RunState → Type 0
-Follows e old new = map event_data new.history ≡ map event_data old.history ++ cond (enabled (state_of old) e) (e ∷ []) []
+abbrev pub Follows : Event → RunState → RunState → Type 0
+Follows e old new = map event_view new.history ≡ map event_view old.history ++ cond (enabled (state_of old) (event_data e)) (event_view e ∷ []) []

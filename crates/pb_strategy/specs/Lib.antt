@@ -1,6 +1,7 @@
 pub mod Events
 pub mod Passes
 pub mod History
+pub mod Drives
 pub mod Next
 pub mod Sound
 pub mod OwnNames

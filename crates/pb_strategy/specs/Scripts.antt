@@ -1,5 +1,5 @@
 -- Files of answers: an object from host names to lists of objects.
-use Rattle.std.specs.Prelude.{◌≡◌, ◌⊎◌, ℕ, zero, suc, List, Bool, true, false, ◌&&◌, cond, Option, Some, None, codes}
+use Rattle.std.specs.Prelude.{◌≡◌, ◌⊎◌, ℕ, zero, suc, List, Bool, true, false, ◌&&◌, cond, Option, Some, None, codes, string_bytes}
 use Rattle.pb_semantics.specs.Data.{Data, list, rec, Items, no_items, item, Fields, no_fields, field, field_value}
 use Rattle.pb_semantics.specs.Keeps.{flag_is}
 use Rattle.pb_language.specs.Expression.{Name}
@@ -9,6 +9,7 @@ use Rattle.pb_value.specs.View.{fields_view}
 use Rattle.pb_strategy.specs.Events.{answer_data}
 use Rattle.pb_strategy.specs.declared.answer.Answer.{Answer}
 use Rattle.pb_strategy.specs.declared.answer.Answer.TheVariants.{Unreachable, Broken}
+use Rattle.pb_strategy.specs.declared.answer.Call.{Call}
 use Rattle.pb_strategy.specs.declared.answer.Why.TheVariants.{NoAnswer}
 use Rattle.pb_strategy.specs.declared.script.ScriptRunner.{ScriptRunner}
 
@@ -67,8 +68,18 @@ IsScript bs fs = (json_data bs ≡ Some (rec fs)) × (are_lists_of_objects fs �
 abbrev pub IsNoScript : List ℕ → Type 0
 IsNoScript bs = (d : Data) × ((json_data bs ≡ Some d) × (is_script d ≡ false))
 
--- it is that answer; an object for which there is no memory isn't there
+-- it is that answer; where there is none, it says so
 abbrev pub Answers : Answer → language.Answer → Type 0
-Answers a (language.object d) = (answer_data a ≡ language.object d) ⊎ (a ≡ Broken NoAnswer)
+Answers a (language.object d) = answer_data a ≡ language.object d
 Answers a language.unreachable = a ≡ Unreachable
 Answers a language.broken = a ≡ Broken NoAnswer
+
+-- the file's answer to the call, whoever gives it
+abbrev pub IsFromFile : {R : Type 0} → Fields → R → Call → Answer → R → Type 0
+IsFromFile fs r c a s = Answers a (scripted fs (string_bytes c.name.value) c.number)
+
+-- asked the call, the runner gives its file's answer; or none for want of memory, and then it is short from there on
+pub record IsScripted (r : ScriptRunner) (c : Call) (a : Answer) (s : ScriptRunner) : Type 0 where
+  pub answer : IsFromFile (answers_in r) r c a s ⊎ ((a ≡ Broken NoAnswer) × (s.is_short ≡ true))
+  pub short : r.is_short ≡ true → s.is_short ≡ true
+  pub answers : answers_in s ≡ answers_in r

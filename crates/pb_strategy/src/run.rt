@@ -3,7 +3,7 @@ ghost use Rattle.std.specs.Prelude.{◌≡◌, ◌==◌, ◌<◌, ◌≤◌, ◌
 ghost use Rattle.pb_semantics.specs.Data.{rec};
 ghost use Rattle.pb_language.specs.Book.{Registry as Modules};
 ghost use Rattle.pb_language.specs.Give.{skip_fields};
-ghost use Rattle.pb_language.specs.Machine.{enabled, give, history as history_of, start, turn};
+ghost use Rattle.pb_language.specs.Machine.{enabled, start, turn};
 ghost use Rattle.pb_language.specs.Start.{plan_of};
 ghost use Rattle.pb_language.specs.plain.Gives.{action_fields};
 ghost use Rattle.pb_language.specs.plain.Pass.{plain_run};
@@ -16,8 +16,8 @@ ghost use Rattle.pb_book.specs.Books.{plays_of};
 ghost use Rattle.pb_book.specs.Lines.{are_ascending, are_known, are_ordered, argument_names, names_known};
 ghost use Rattle.pb_book.specs.Meaning.{plain_task};
 ghost use Rattle.pb_verify.specs.Judges.{is_accepted};
-ghost use Rattle.pb_strategy.specs.Events.{answer_data, event_data, recap_data};
-ghost use Rattle.pb_strategy.specs.History.{RunState, after, Follows, IsAfterJob, IsAfterTake, has_no_plays, is_stopped, is_ended, is_over, state_after, state_of};
+ghost use Rattle.pb_strategy.specs.Events.{answer_data, event_view, recap_data, why_of};
+ghost use Rattle.pb_strategy.specs.History.{RunState, after, enabled_of, Follows, IsAfterJob, IsAfterTake, has_no_plays, is_stopped, is_ended, is_over, opened, state_after, state_of};
 ghost use Rattle.pb_strategy.specs.Inside.{recaps_of, tickets_of, handed_of, is_phase_ended, is_phase_over, is_phase_stopped};
 ghost use Rattle.pb_strategy.specs.Jobs.{ticket_in, ticket_out, is_job_out};
 ghost use Rattle.pb_strategy.specs.Next.{next_of, taken_next, waits};
@@ -84,13 +84,7 @@ impl Run {
     pub fn open(alloc: Global, checked: &Checked, forks: usize) -> Result<Run, AllocError>
         requires { 0 < forks }
         ensures sound { IfOk result (λ r. IsSound r) }
-        ensures opening { IfOk result (λ r. r ≡ record {
-          checked = checked.now;
-          forks = forks;
-          history = [];
-          recaps = replicate (length (inventory_view checked.now.inventory).hosts) nothing;
-          handed = 0;
-        }) }
+        ensures opening { IfOk result (λ r. r ≡ opened checked.now forks) }
     {
         let run = Run {
             checked: checked.clone()?,
@@ -416,7 +410,7 @@ impl Run {
     // Follows one recorded event, where it is enabled.
     fn follow(&mut self, event: &Event) -> Result<(), AllocError>
         ensures book { (self.new.checked ≡ self.old.checked) × (self.new.forks ≡ self.old.forks) }
-        ensures followed { OnOk result (Follows (event_data event.now) self.old self.new) }
+        ensures followed { OnOk result (Follows event.now self.old self.new) }
     {
         match event {
             Event::Start(host) => {
@@ -442,7 +436,7 @@ impl Run {
 
     fn give_again(&mut self, host: usize, answers: &Vec<Answer>) -> Result<(), AllocError>
         ensures book { (self.new.checked ≡ self.old.checked) × (self.new.forks ≡ self.old.forks) }
-        ensures followed { OnOk result (Follows (give host (map answer_data answers.now.items)) self.old self.new) }
+        ensures followed { OnOk result (Follows (Event.Give host answers.now) self.old self.new) }
     {
         let Some(ticket) = ticket_of(&self.hosts, host) else {
             return Ok(());
@@ -497,7 +491,8 @@ impl Run {
     }
 }
 
-/// The run that these events lead to, those that aren't enabled left out.
+/// The run that these events lead to, those that aren't enabled left out: its history is the others, up to what values
+/// stand for.
 pub fn replay(
     alloc: Global,
     checked: &Checked,
@@ -506,8 +501,8 @@ pub fn replay(
 ) -> Result<Run, AllocError>
     requires { 0 < forks }
     ensures book { IfOk result (λ r. (r.checked ≡ checked.now) × (r.forks ≡ forks)) }
-    ensures events { IfOk result (λ r. map event_data r.history
-        ≡ history_of (state_after r []) (map event_data events.now)) }
+    ensures events { IfOk result (λ r. map event_view r.history
+        ≡ map event_view (enabled_of (state_after r []) events.now)) }
     ensures sound { IfOk result (λ r. IsSound r) }
 {
     let mut run = Run::open(alloc, checked, forks)?;
@@ -519,7 +514,8 @@ pub fn replay(
 }
 
 fn copied(answers: &Vec<Answer>) -> Result<Vec<Answer>, AllocError>
-    ensures { IfOk result (λ copies. map answer_data copies.items ≡ map answer_data answers.now.items) }
+    ensures same { IfOk result (λ copies. map answer_data copies.items ≡ map answer_data answers.now.items) }
+    ensures whys { IfOk result (λ copies. map why_of copies.items ≡ map why_of answers.now.items) }
 {
     let mut copies = Vec::with_capacity(*answers.allocator(), answers.len())?;
     for answer in answers {

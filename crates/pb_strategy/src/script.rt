@@ -1,13 +1,15 @@
 // Answers from a file, in place of modules.
-ghost use Rattle.std.specs.Prelude.{◌≡◌, ◌↔◌, ◌+◌, ◌^◌, ◌<◌, Err, IfOk, IsTrue, None, codes, length, option_map, string_bytes, true};
+ghost use Rattle.std.specs.Prelude.{◌≡◌, ◌↔◌, ◌<◌, Err, IfOk, IsTrue, None, codes, false, length, option_map, true};
 ghost use Rattle.pb_value.specs.FromJson.{json_data};
 ghost use Rattle.pb_semantics.specs.Data.{field_value};
+ghost use Rattle.pb_semantics.specs.Limits.{most_answer_bytes};
 ghost use Rattle.pb_semantics.specs.Keeps.{flag_is};
 ghost use Rattle.pb_value.specs.View.{view, items_view, fields_view};
 ghost use Rattle.pb_strategy.specs.Scripts.{
   Answers,
   IsNoScript,
   IsScript,
+  IsScripted,
   answers_in,
   are_lists_of_objects as all_lists_of_objects,
   are_objects as all_objects,
@@ -22,7 +24,7 @@ use crate::answer::{Answer, Call, Why};
 use crate::drive::Runner;
 use pb_value::read::{JsonFault, read_json};
 use pb_value::value::{Fields, Value, field_of};
-use std::alloc::Global;
+use std::alloc::{AllocError, Global};
 use std::sync::Arc;
 use thiserror::Error;
 
@@ -63,6 +65,7 @@ impl From<JsonFault> for ScriptFault {
 pub struct ScriptRunner {
     answers: Arc<Fields>,
     made: u64,
+    is_short: bool,
 }
 
 impl ScriptRunner {
@@ -71,9 +74,10 @@ impl ScriptRunner {
         ensures read { IfOk result (λ r. IsScript bytes.now (answers_in r)) }
         ensures shape { result ≡ Err ScriptFault.Shape → IsNoScript bytes.now }
         ensures not_json { result ≡ Err ScriptFault.NotJson → json_data bytes.now ≡ None }
-        ensures large { 67108864 < length bytes.now → result ≡ Err ScriptFault.Limit }
-        ensures limit { result ≡ Err ScriptFault.Limit → 67108864 < length bytes.now }
+        ensures large { most_answer_bytes < length bytes.now → result ≡ Err ScriptFault.Limit }
+        ensures limit { result ≡ Err ScriptFault.Limit → most_answer_bytes < length bytes.now }
         ensures made { IfOk result (λ r. r.made ≡ 0) }
+        ensures fine { IfOk result (λ r. r.is_short ≡ false) }
     {
         if is_too_long(bytes) {
             return Err(ScriptFault::Limit);
@@ -83,15 +87,26 @@ impl ScriptRunner {
                 if !are_lists_of_objects(&answers) {
                     return Err(ScriptFault::Shape);
                 }
-                Ok(ScriptRunner { answers, made: 0 })
+                Ok(ScriptRunner {
+                    answers,
+                    made: 0,
+                    is_short: false,
+                })
             }
             _ => Err(ScriptFault::Shape),
         }
     }
+
+    /// Whether there was no memory to give an answer out, and none was given in its place.
+    pub fn is_short(&self) -> bool
+        ensures { result ≡ self.now.is_short }
+    {
+        self.is_short
+    }
 }
 
 fn is_too_long(bytes: &[u8]) -> bool
-    ensures { IsTrue result ↔ 67108864 < length bytes.now }
+    ensures { IsTrue result ↔ most_answer_bytes < length bytes.now }
 {
     bytes.len() > ANSWERS_LIMIT
 }
@@ -130,15 +145,17 @@ fn are_objects(items: &Vec<Value>) -> bool
 impl Runner for ScriptRunner {
     ghost calls = { λ r. r.made };
 
-    fn call(&mut self, call: &Call) -> Answer
-        requires { self.old.made + 1 < 2 ^ 64 }
-        ensures made { self.new.made ≡ self.old.made + 1 }
-        ensures answered { Answers result
-            (scripted (answers_in self.old) (string_bytes call.now.name.value) call.now.number) }
-        ensures answers { answers_in self.new ≡ answers_in self.old }
-    {
+    ghost answers = { IsScripted };
+
+    fn call(&mut self, call: &Call) -> Answer {
         self.made += 1;
-        answer_of(&self.answers, call.name.as_str(), call.number)
+        match answer_of(&self.answers, call.name.as_str(), call.number) {
+            Ok(answer) => answer,
+            Err(_) => {
+                self.is_short = true;
+                Answer::Broken(Why::NoAnswer)
+            }
+        }
     }
 
     fn made(&self) -> u64 {
@@ -146,19 +163,17 @@ impl Runner for ScriptRunner {
     }
 }
 
-fn answer_of(answers: &Fields, host: &str, number: u64) -> Answer
-    ensures { Answers result (scripted (fields_view answers.now.entries) host.now number) }
+// The file's answer to the call of that number on the host.
+fn answer_of(answers: &Fields, host: &str, number: u64) -> Result<Answer, AllocError>
+    ensures { IfOk result (λ a. Answers a (scripted (fields_view answers.now.entries) host.now number)) }
 {
     let Some(entry) = entry_in(answers, host, number) else {
-        return Answer::Broken(Why::NoAnswer);
+        return Ok(Answer::Broken(Why::NoAnswer));
     };
     if is_unreachable(entry) {
-        return Answer::Unreachable;
+        return Ok(Answer::Unreachable);
     }
-    match entry.clone() {
-        Ok(entry) => Answer::Object(entry),
-        Err(_) => Answer::Broken(Why::NoAnswer),
-    }
+    Ok(Answer::Object(entry.clone()?))
 }
 
 // The entry of that number in the host's list.

@@ -1,4 +1,4 @@
-use Rattle.std.proofs.Common.{◌≡◌, ◌&&◌, not, is_some, map, get_or, None, refl, sym, ap, ◌∙◌}
+use Rattle.std.proofs.Common.{◌≡◌, ◌&&◌, not, is_some, map, get_or, None, refl, sym, ap, ap₂, ◌∙◌}
 use Rattle.std.proofs.Math.Bool.{and-false}
 use Rattle.pb_language.specs.Machine.{give}
 use Rattle.pb_strategy.specs.Events.{answer_data}
@@ -18,7 +18,7 @@ returns-in_default-clause-followed c =
     ap (λ (r : RunState). ticket_out host r.history) (sym c.self.view_is) ∙ sym (c.self.invariant.tickets host)
     ∙ ap (λ hs. get_or (tickets_of hs) host None) (sym c.deref.ensures.value) ∙ sym c.in_default.ensures in
     let off = give_possible c.self.inside c.self.invariant old c.self.view_is host xs ∙ ap (λ out. not (is_stopped old.history) && is_some out) none ∙ and-false (not (is_stopped old.history)) in
-    passed_over (give host xs) old old off refl
+    passed_over (Give host c.args.answers.now) old old off refl
 
 pub returns-in-Ok-clause-followed : goal.returns-in-Ok-clause-followed
 returns-in-Ok-clause-followed c =
@@ -27,7 +27,8 @@ returns-in-Ok-clause-followed c =
     let xs = map answer_data c.args.answers.now.items in
     let on = give_possible c.self.inside c.self.invariant old c.self.view_is host xs
     ∙ is_answerable (is_stopped old.history) c.in-Some.ticket (ticket_out host old.history) c.in-Ok.ensures.refused c.in-Ok.ensures.done_only in
-    one_more (give host xs) (Give host c.in_ok-answers.answers) old c.give.new.self on (ap (give host) c.in_ok-answers.ensures) c.in-Ok.ensures.done
+    one_more (Give host c.args.answers.now) (Give host c.in_ok-answers.answers) old c.give.new.self on
+    (ap₂ (λ ds whys. (give host ds, whys)) c.in_ok-answers.ensures.same c.in_ok-answers.ensures.whys) c.in-Ok.ensures.done
 
 pub returns-in-Err-Stopped-default-default-clause-followed : goal.returns-in-Err-Stopped-default-default-clause-followed
 returns-in-Err-Stopped-default-default-clause-followed c =
@@ -37,4 +38,4 @@ returns-in-Err-Stopped-default-default-clause-followed c =
     let refused = c.in-Err-Stopped-default-default in
     let off = give_possible c.self.inside c.self.invariant old c.self.view_is host xs
     ∙ ap (λ stopped. not stopped && is_some (ticket_out host old.history)) (refused.ensures.stopped_only refused.field-0-0-is) in
-    passed_over (give host xs) old c.give.new.self off refused.ensures.err
+    passed_over (Give host c.args.answers.now) old c.give.new.self off refused.ensures.err

@@ -1,11 +1,15 @@
 -- What the program comes to: what it prints where, and its status.
 use Rattle.std.specs.Prelude.{◌≡◌, ◌⊎◌, ℕ, List, length, max, min, option_map, true, false, Result, Ok, Err, IsErr, string_bytes}
 use Rattle.std.specs.declared.alloc.AllocError.{AllocError}
+use Rattle.pb_semantics.specs.Data.{Fields}
 use Rattle.pb_inventory.specs.Inventory.{inventory_view}
 use Rattle.pb_verify.specs.declared.checked.Accepted.{Accepted}
-use Rattle.pb_strategy.specs.History.{RunState, is_ended, is_stopped}
+use Rattle.pb_strategy.specs.Drives.{Drives}
+use Rattle.pb_strategy.specs.History.{RunState, is_ended, is_stopped, opened}
+use Rattle.pb_strategy.specs.Scripts.{IsFromFile, IsScript}
 use Rattle.pb_strategy.specs.Sound.{IsSound}
 use Rattle.pb_strategy.specs.declared.script.ScriptFault.{ScriptFault}
+use Rattle.pb_strategy.specs.declared.script.ScriptRunner.{ScriptRunner}
 use Rattle.pb_cli.specs.Judged.{HasScriptFault, Judges, of_script}
 use Rattle.pb_cli.specs.Texts.{refusal_line, run_lines, status_for, verdict_line}
 use Rattle.pb_cli.specs.declared.judge.Fault.{Fault}
@@ -69,9 +73,22 @@ pub record IsWholeRun (most : ℕ) (a : Accepted) (r : RunState) : Type 0 where
   pub ended : is_ended r ≡ true
   pub going_on : is_stopped r.history ≡ false
 
--- what becomes of a run of an accepted book: the fault of the answers, or the whole run
+-- each Give of the run has just the file's answers to the calls of its job, in order
+pub record IsAnsweredBy (file : Fields) (a : Accepted) (r : RunState) : Type 0 where
+  pub first : ScriptRunner
+  pub last : ScriptRunner
+  pub driven : Drives (IsFromFile file) (opened a r.forks) first r last
+
+-- a run of that book to its end, with the answers that are in the bytes
+pub record IsScriptedRun (most : ℕ) (answers : List ℕ) (a : Accepted) (r : RunState) : Type 0 where
+  pub whole : IsWholeRun most a r
+  pub file : Fields
+  pub read : IsScript answers file
+  pub answered : IsAnsweredBy file a r
+
+-- what becomes of a run of an accepted book: the fault of the answers, or the run
 abbrev pub RunsAnswers : ℕ → List ℕ → Accepted → Result RunState Fault → Type 0
-RunsAnswers forks answers a (Ok r) = IsWholeRun forks a r
+RunsAnswers forks answers a (Ok r) = IsScriptedRun forks answers a r
 RunsAnswers forks answers a (Err f) = (s : ScriptFault) × ((f ≡ of_script s) × HasScriptFault answers s)
 
 -- the verdict comes first: its fault, or what becomes of the run of what it accepts

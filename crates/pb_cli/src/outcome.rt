@@ -1,8 +1,10 @@
 // What the words come to, of the bytes of the files that they name: what is printed where, and the status.
 ghost use Rattle.std.specs.Prelude.{◌≡◌, ◌<◌, ◌+◌, ◌^◌, IfOk, max, min};
+ghost use Rattle.pb_strategy.specs.Scripts.{answers_in};
 ghost use Rattle.pb_cli.specs.Options.{HasForks};
 ghost use Rattle.pb_cli.specs.Outcomes.{
   ChecksAs,
+  IsAnsweredBy,
   IsLineFault,
   IsOutcome,
   IsWholeRun,
@@ -217,19 +219,25 @@ fn workers_of(forks: u16, hosts: usize) -> usize
     (forks as usize).min(hosts).max(1)
 }
 
-// The run of the book to its end.
-fn ended_run<R: Runner>(
+// The run of the book to its end, whose calls the file answers; want of memory also where there was none to give an answer
+// out.
+fn ended_run(
     alloc: Global,
     checked: &Checked,
     forks: u16,
-    runner: &mut R,
+    runner: &mut ScriptRunner,
 ) -> Result<Run, AllocError>
-    requires few { R.calls runner.old < 2 ^ 63 }
+    requires few { ⟦<ScriptRunner as Runner>⟧.calls runner.old < 2 ^ 63 }
     requires forks { 0 < forks }
     ensures whole { IfOk result (IsWholeRun forks checked.now) }
-    ensures made { IfOk result (λ r. R.calls runner.new ≡ R.calls runner.old + r.handed) }
+    ensures answered { IfOk result (λ r. IsAnsweredBy (answers_in runner.old) checked.now r) }
+    ensures made { IfOk result (λ r. ⟦<ScriptRunner as Runner>⟧.calls runner.new
+        ≡ ⟦<ScriptRunner as Runner>⟧.calls runner.old + r.handed) }
 {
     let mut run = Run::open(alloc, checked, workers_of(forks, checked.hosts()))?;
     drive(&mut run, runner)?;
+    if runner.is_short() {
+        return Err(AllocError);
+    }
     Ok(run)
 }

@@ -6,9 +6,9 @@ use Rattle.pb_semantics.specs.Data.{Data, Fields, boolean, list, rec, opaque, no
 use Rattle.pb_language.specs.Expression.{Name}
 use Rattle.pb_language.specs.World.{World}
 use Rattle.pb_language.specs.Evaluation.{no_field, or_stuck, value_below, eval, eval_all, eval_any, eval_items, eval_parts}
-use Rattle.pb_value.specs.View.{view, items_view, fields_of}
+use Rattle.pb_value.specs.View.{truth, view, items_view, fields_of}
 use Rattle.pb_value.specs.declared.value.Value.{Value}
-use Rattle.pb_expr.specs.ExprView.{expr_view, exprs_view, parts_view, names_of, truth, field_in, is_unreadable}
+use Rattle.pb_expr.specs.ExprView.{expr_view, exprs_view, parts_view, names_of, field_in, is_unreadable}
 use Rattle.pb_expr.specs.OwnWorld.{shown}
 use Rattle.pb_expr.specs.declared.expr.Expr.{Expr}
 use Rattle.pb_value.proofs.Projections.{append_fields}

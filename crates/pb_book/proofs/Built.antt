@@ -6,6 +6,7 @@ use Rattle.std.specs.Result.{IsErrAnd}
 use Rattle.std.specs.BTreeMap.{insert_entry}
 use Rattle.std.specs.Cmp.Lexicographic.{slice_cmp}
 use Rattle.std.specs.Ordering.{is_lt, ordering_reverse}
+use Rattle.pb_semantics.specs.Gives.{FaultGives, Gives}
 use Rattle.pb_semantics.proofs.Bools.{and-left, and-right, untrue}
 use Rattle.pb_language.specs.Expression.{Expressions, no_expressions, expression, Parts, no_parts, part}
 use Rattle.pb_value.specs.View.{view, items_view}
@@ -13,9 +14,9 @@ use Rattle.pb_value.specs.declared.value.Value.{Value}
 use Rattle.pb_expr.specs.ExprView.{expr_view, exprs_view, parts_view}
 use Rattle.pb_expr.specs.declared.expr.Expr.{Expr}
 use Rattle.pb_book.specs.Lines.{is_below, are_ascending}
+use Rattle.pb_book.specs.Faults.{refused}
 use Rattle.pb_book.specs.Meaning.{argument_parts}
 use Rattle.pb_book.specs.Reading.{items_of, value_of, with_item, with_part}
-use Rattle.pb_book.specs.Results.{Gives}
 use Rattle.pb_book.specs.declared.book.Argument.{Argument}
 use Rattle.pb_book.specs.declared.fault.FormFault.{FormFault}
 use Rattle.pb_book.specs.declared.fault.FormFault.TheVariants as form
@@ -23,14 +24,14 @@ use Rattle.pb_expr.proofs.Ascending.{Ascending}
 use Rattle.pb_book.proofs.Ordered.{entry_names, are_ascending-entries}
 
 -- what isn't given within isn't given without
-refused : {X Y Z W : Type 0} (f : X → Y) (g : Z → W) (e : FormFault) (y : Option Y) (z : Option W) → Gives f (Err e) y → (y ≡ None → z ≡ None) → Gives g (Err e) z
-refused f g form.NotBuilt y z h k = k h
-refused f g form.NoMemory y z h k = tt
+refused-both : {Y W : Type 0} (e : FormFault) (y : Option Y) (z : Option W) → FaultGives (refused e) y → (y ≡ None → z ≡ None) → FaultGives (refused e) z
+refused-both form.NotBuilt y z h k = k h
+refused-both form.NoMemory y z h k = tt
 
-pub refused-exit : {X Y Z W : Type 0} (f : X → Y) (g : Z → W) (r : Result Z FormFault) (e : FormFault) (y : Option Y) (z : Option W) → IsErrAnd r (λ d. d ≡ e) → Gives f (Err e) y → (y ≡ None → z ≡ None) → Gives g r z
-refused-exit f g r e y z is h k =
+pub refused-exit : {Y Z W : Type 0} (g : Z → W) (r : Result Z FormFault) (e : FormFault) (y : Option Y) (z : Option W) → IsErrAnd r (λ d. d ≡ e) → FaultGives (refused e) y → (y ≡ None → z ≡ None) → Gives (λ x. Some (g x)) refused r z
+refused-exit g r e y z is h k =
     let p = err_from_is_err_and r is in
-    rw (p.1, p.2) (refused f g e y z h k)
+    rw (p.1, p.2) (refused-both e y z h k)
 
 -- ---- expressions
 

@@ -5,4 +5,3 @@ pub mod Openings
 pub mod Built
 pub mod Works
 pub mod Tasks
-pub mod Copies

@@ -10,9 +10,8 @@ use Rattle.pb_language.specs.Expression.{Name, Expressions, Parts}
 use Rattle.pb_value.specs.View.{view, fields_view}
 use Rattle.pb_value.specs.declared.value.Value as Value-of
 use Rattle.pb_value.specs.declared.value.Value.{Value}
-use Rattle.pb_book.specs.Reading.{condition_of, few_tasks, given_arguments, is_named, is_play, play_of, register_of, task_of, task_with, work_of, work_with, works_of}
-use Rattle.pb_book.specs.Results.{lone}
-use Rattle.pb_book.proofs.Copies.{view-fields}
+use Rattle.pb_book.specs.Reading.{condition_of, few_tasks, given_arguments, is_named, is_play, play_of, register_of, task_of, task_with, work_of, work_with, works_of, lone}
+use Rattle.pb_value.proofs.Views.{view-fields}
 
 abbrev Map : Type 0
 Map = BTreeMap (String Global) Value
@@ -34,16 +33,6 @@ work_of-lone ms (field l e no_fields) k d h =
     let same : ◌≡◌ {A = Name × Data} (l, e) (k, d) = cc in
     ap (λ (x : Name × Data). work_with ms x.0 (given_arguments x.0 x.1)) same
 work_of-lone ms (field l e (field m f fs)) k d h = absurd (cc)
-
-pub work_of-none : (ms : List ModuleData) (fs : Fields) → lone fs ≡ None → work_of ms fs ≡ None
-work_of-none ms no_fields h = refl
-work_of-none ms (field l e no_fields) h = absurd (cc)
-work_of-none ms (field l e (field m f fs)) h = refl
-
--- what has no name has none with any arguments
-pub work_with-none : (ms : List ModuleData) (k : Name) (o : Option Parts) → ((ps : Parts) → work_with ms k (Some ps) ≡ None) → work_with ms k o ≡ None
-work_with-none ms k None h = refl
-work_with-none ms k (Some ps) h = h ps
 
 -- a task whose name may stand has its work, its condition and its register
 pub task_of-named : (ms : List ModuleData) (l : ℕ) (v : Value) (fields : Arc Map Global) (m : Map) (b : Bool) → v ≡ Value-of.Rec fields → m ≡ fields.value

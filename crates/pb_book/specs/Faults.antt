@@ -1,4 +1,5 @@
 -- Which fault of a book a fault of its JSON, or of an expression in it, is.
+use Rattle.std.specs.Prelude.{Option, Some, None}
 use Rattle.pb_value.specs.declared.read.JsonFault.{JsonFault}
 use Rattle.pb_value.specs.declared.read.JsonFault.TheVariants as json
 use Rattle.pb_expr.specs.declared.fault.ExprFault.{ExprFault}
@@ -17,6 +18,11 @@ from_expr (expr.Unreadable i) = form.NotBuilt
 from_expr expr.TooDeep = form.NotBuilt
 from_expr expr.NotBuilt = form.NotBuilt
 from_expr expr.NoMemory = form.NoMemory
+
+-- the definition gives nothing, or it is want of memory
+abbrev pub refused : {D : Type 0} → FormFault → Option (Option D)
+refused form.NotBuilt = Some None
+refused form.NoMemory = None
 
 abbrev pub from_form : FormFault → BookFault
 from_form form.NotBuilt = NotBuilt

@@ -3,4 +3,3 @@ pub mod Meaning
 pub mod Books
 pub mod Faults
 pub mod Reading
-pub mod Results

@@ -2,6 +2,7 @@
 use Rattle.std.specs.Prelude.{ℕ, suc, List, [], ◌∷◌, length, map, Bool, true, false, ◌&&◌, ◌==◌, nat_le, is_some, string_bytes}
 use Rattle.std.specs.Cmp.Lexicographic.{slice_cmp}
 use Rattle.std.specs.Ordering.{is_lt, nat_cmp}
+use Rattle.pb_semantics.specs.Limits.{most_tasks}
 use Rattle.pb_semantics.specs.Signature.{ModuleData}
 use Rattle.pb_sig.specs.Modules.{module_at}
 use Rattle.pb_book.specs.declared.book.Argument.{Argument}
@@ -18,7 +19,7 @@ are_from n (t ∷ ts) = (t.line == n) && are_from (suc n) ts
 -- no play, or one at line 1, with its tasks behind it, at most 4,096 lines in all
 abbrev pub is_numbered : List Play → Bool
 is_numbered [] = true
-is_numbered (p ∷ []) = (p.line == 1) && (are_from 2 p.tasks.items && nat_le (length p.tasks.items) 4095)
+is_numbered (p ∷ []) = (p.line == 1) && (are_from 2 p.tasks.items && nat_le (length p.tasks.items) most_tasks)
 is_numbered (p ∷ q ∷ ps) = false
 
 -- a module that is named is one of these

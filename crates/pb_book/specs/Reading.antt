@@ -3,6 +3,7 @@ use Rattle.std.specs.Prelude.{◌≡◌, ℕ, zero, suc, List, [], ◌∷◌, le
 use Rattle.std.specs.Str.{bytes_eq}
 use Rattle.pb_semantics.specs.Data.{Data, null, boolean, int, text, list, rec, opaque, Items, no_items, item, count_of, Fields, no_fields, field, field_value}
 use Rattle.pb_semantics.specs.Keeps.{is_among}
+use Rattle.pb_semantics.specs.Limits.{most_expression_bytes, most_levels, most_tasks, most_template_bytes, most_text_bytes}
 use Rattle.pb_semantics.specs.Signature.{ModuleData}
 use Rattle.pb_sig.specs.Modules.{module_at}
 use Rattle.pb_value.specs.FromJson.{json_data}
@@ -17,7 +18,7 @@ use Rattle.pb_book.specs.declared.book.Book.{Book}
 
 -- a text that may be an expression is short; another may be longer
 abbrev pub text_fits : List ℕ → Bool
-text_fits bs = nat_le (length bs) 4100 || (nat_le (length bs) 65536 && not (has_opening bs))
+text_fits bs = nat_le (length bs) most_template_bytes || (nat_le (length bs) most_text_bytes && not (has_opening bs))
 
 abbrev mutual
   -- lists and records stand at most so many in one another, each text is short enough, and nothing is opaque
@@ -90,9 +91,8 @@ abbrev mutual
   parts_of no_fields = Some no_parts
   parts_of (field n d fs) = with_part n (value_of d) (parts_of fs)
 
--- with at most 32 levels
 abbrev pub argument_of : Data → Option Expression
-argument_of d = cond (fits 32 d) (value_of d) None
+argument_of d = cond (fits most_levels d) (value_of d) None
 
 abbrev pub arguments_of : Fields → Option Parts
 arguments_of no_fields = Some no_parts
@@ -121,6 +121,12 @@ abbrev pub works_of : Fields → Fields
 works_of no_fields = no_fields
 works_of (field k d fs) = cond (is_among k keywords) (works_of fs) (field k d (works_of fs))
 
+-- the one field, where there is exactly one
+abbrev pub lone : Fields → Option (Name × Data)
+lone no_fields = None
+lone (field k d no_fields) = Some (k, d)
+lone (field k d fs) = None
+
 -- exactly one of them is there
 abbrev pub work_of : List ModuleData → Fields → Option language.Work
 work_of ms no_fields = None
@@ -130,7 +136,7 @@ work_of ms (field k d fs) = None
 -- a text that isn't too long, if there is one
 abbrev pub is_named : Option Data → Bool
 is_named None = true
-is_named (Some (text bs)) = nat_le (length bs) 65536
+is_named (Some (text bs)) = nat_le (length bs) most_text_bytes
 is_named (Some d) = false
 
 abbrev pub one_condition : Option Expression → Option Expressions
@@ -141,7 +147,7 @@ one_condition (Some e) = Some (expression e no_expressions)
 abbrev pub condition_of : Option Data → Option Expressions
 condition_of None = Some no_expressions
 condition_of (Some (boolean b)) = Some (expression (literal (boolean b)) no_expressions)
-condition_of (Some (text bs)) = cond (nat_le (length bs) 4096) (one_condition (expression_of bs)) None
+condition_of (Some (text bs)) = cond (nat_le (length bs) most_expression_bytes) (one_condition (expression_of bs)) None
 condition_of (Some d) = None
 
 abbrev pub register_of : Option Data → Option (Option Name)
@@ -169,7 +175,7 @@ tasks_of ms l no_items = Some []
 tasks_of ms l (item d ds) = with_task (task_of ms l d) (tasks_of ms (suc l) ds)
 
 abbrev pub few_tasks : List ModuleData → Option Data → Option (List PlainTask)
-few_tasks ms (Some (list ds)) = cond (nat_le (count_of ds) 4095) (tasks_of ms 2 ds) None
+few_tasks ms (Some (list ds)) = cond (nat_le (count_of ds) most_tasks) (tasks_of ms 2 ds) None
 few_tasks ms d = None
 
 abbrev pub are_keys : List Name → Fields → Bool

@@ -1,10 +1,13 @@
 // The arguments of a task.
-ghost use Rattle.std.specs.Prelude.{◌≡◌, IfOk, Some, codes, true};
+ghost use Rattle.std.specs.Prelude.{◌≡◌, Err, IfOk, Some, codes, false, true};
+ghost use Rattle.pb_semantics.specs.Gives.{Gives};
+ghost use Rattle.pb_semantics.specs.Limits.{most_levels};
 ghost use Rattle.pb_language.specs.Expression.{no_parts};
 ghost use Rattle.pb_language.specs.Grammar.{has_opening, is_mark};
 ghost use Rattle.pb_language.specs.Simple.{is_simple, are_simple, parts_simple};
 ghost use Rattle.pb_value.specs.View.{view, items_view, fields_view};
 ghost use Rattle.pb_expr.specs.ExprView.{expr_view, exprs_view, parts_view};
+ghost use Rattle.pb_book.specs.Faults.{refused};
 ghost use Rattle.pb_book.specs.Lines.{are_ascending, argument_names};
 ghost use Rattle.pb_book.specs.Meaning.{argument_parts};
 ghost use Rattle.pb_book.specs.Reading.{
@@ -22,7 +25,6 @@ ghost use Rattle.pb_book.specs.Reading.{
   value_of,
   with_part,
 };
-ghost use Rattle.pb_book.specs.Results.{Gives};
 
 use crate::book::Argument;
 use crate::fault::FormFault;
@@ -47,7 +49,7 @@ const MOST_LEVELS: usize = 32;
 
 /// The arguments that a record lists, in the order of their names' bytes.
 pub(crate) fn arguments_of(alloc: Global, fields: &Fields) -> Result<Vec<Argument>, FormFault>
-    ensures given { Gives (λ found. argument_parts found.items) result
+    ensures given { Gives (λ found. Some (argument_parts found.items)) refused result
         (arguments_of (fields_view fields.now.entries)) }
     ensures simple { IfOk result (λ found. parts_simple (argument_parts found.items) ≡ true) }
     ensures ordered { IfOk result (λ found. are_ascending (argument_names found.items) ≡ true) }
@@ -64,7 +66,7 @@ pub(crate) fn arguments_of(alloc: Global, fields: &Fields) -> Result<Vec<Argumen
 
 /// The argument `cmd` with that value.
 pub(crate) fn command_line(alloc: Global, value: &Value) -> Result<Vec<Argument>, FormFault>
-    ensures given { Gives (λ found. argument_parts found.items) result
+    ensures given { Gives (λ found. Some (argument_parts found.items)) refused result
         (with_part (codes "cmd") (argument_of (view value.now)) (Some no_parts)) }
     ensures simple { IfOk result (λ found. parts_simple (argument_parts found.items) ≡ true) }
     ensures ordered { IfOk result (λ found. are_ascending (argument_names found.items) ≡ true) }
@@ -78,7 +80,8 @@ pub(crate) fn command_line(alloc: Global, value: &Value) -> Result<Vec<Argument>
 
 /// The expression that an argument's value is: the value itself where no text in it is a template.
 fn argument_value(alloc: Global, value: &Value) -> Result<Expr, FormFault>
-    ensures given { Gives expr_view result (argument_of (view value.now)) }
+    ensures given { Gives (λ e. Some (expr_view e)) refused result (argument_of (view value.now)) }
+    ensures large { fits most_levels (view value.now) ≡ false → result ≡ Err FormFault.NotBuilt }
     ensures simple { IfOk result (λ e. is_simple (expr_view e) ≡ true) }
 {
     if !fits(value, MOST_LEVELS) {
@@ -192,7 +195,7 @@ fn some_field_holds(fields: &Fields) -> bool
 
 #[cycle(expr_of)]
 fn expr_of(alloc: Global, value: &Value) -> Result<Expr, FormFault>
-    ensures given { Gives expr_view result (value_of (view value.now)) }
+    ensures given { Gives (λ e. Some (expr_view e)) refused result (value_of (view value.now)) }
     ensures simple { IfOk result (λ e. is_simple (expr_view e) ≡ true) }
 {
     if !holds_template(value) {
@@ -208,7 +211,7 @@ fn expr_of(alloc: Global, value: &Value) -> Result<Expr, FormFault>
 
 #[cycle(expr_of)]
 fn list_of(alloc: Global, items: &Vec<Value>) -> Result<Vec<Expr>, FormFault>
-    ensures given { Gives (λ parts. exprs_view parts.items) result
+    ensures given { Gives (λ parts. Some (exprs_view parts.items)) refused result
         (items_of (items_view items.now.items)) }
     ensures simple { IfOk result (λ parts. are_simple (exprs_view parts.items) ≡ true) }
 {
@@ -221,7 +224,7 @@ fn list_of(alloc: Global, items: &Vec<Value>) -> Result<Vec<Expr>, FormFault>
 
 #[cycle(expr_of)]
 fn record_of(alloc: Global, fields: &Fields) -> Result<BTreeMap<String, Expr>, FormFault>
-    ensures given { Gives (λ parts. parts_view parts.entries) result
+    ensures given { Gives (λ parts. Some (parts_view parts.entries)) refused result
         (parts_of (fields_view fields.now.entries)) }
     ensures simple { IfOk result (λ parts. parts_simple (parts_view parts.entries) ≡ true) }
 {

@@ -1,12 +1,16 @@
 // The book that a JSON text is.
-ghost use Rattle.std.specs.Prelude.{◌≡◌, ◌<◌, ◌≤◌, [], ◌∷◌, Err, IfOk, None, codes, length, option_map, true};
+ghost use Rattle.std.specs.Prelude.{◌≡◌, ◌<◌, ◌≤◌, [], ◌∷◌, Err, IfOk, None, Some, codes, false, length, option_map, true};
+ghost use Rattle.std.specs.Str.{is_utf8};
 ghost use Rattle.pb_semantics.specs.Data.{field_value};
+ghost use Rattle.pb_semantics.specs.Gives.{Gives};
 ghost use Rattle.pb_semantics.specs.Keeps.{is_among};
 ghost use Rattle.pb_language.specs.plain.Books.{are_plain_tasks};
-ghost use Rattle.pb_value.specs.FromJson.{json_data};
+ghost use Rattle.pb_semantics.specs.Limits.{most_book_bytes, most_tasks};
 ghost use Rattle.pb_value.specs.View.{fields_view, items_view, view};
+ghost use Rattle.pb_value.specs.FromJson.{json_data};
 ghost use Rattle.pb_sig.specs.Modules.{modules_of};
 ghost use Rattle.pb_book.specs.Books.{plain_plays, plays_of};
+ghost use Rattle.pb_book.specs.Faults.{refused};
 ghost use Rattle.pb_book.specs.Lines.{are_from, are_known, are_ordered, are_ordered_plays, is_numbered, names_known};
 ghost use Rattle.pb_book.specs.Meaning.{are_plain_plays, plain_tasks};
 ghost use Rattle.pb_book.specs.Reading.{
@@ -19,16 +23,14 @@ ghost use Rattle.pb_book.specs.Reading.{
   names_all,
   play_of,
 };
-ghost use Rattle.pb_book.specs.Results.{Gives};
 
 use crate::book::{Book, Play, Task};
 use crate::fault::{BookFault, FormFault};
 use crate::task::{is_named, tasks_of};
 use pb_sig::registry::Registry;
 use pb_value::read::read_json;
-use pb_value::value::{Fields, Value, field_of};
-use std::alloc::{AllocError, Global};
-use std::sync::Arc;
+use pb_value::value::{Fields, Value, field_of, own_fields, own_items};
+use std::alloc::Global;
 
 /// The most bytes of a playbook.
 pub const BOOK_LIMIT: usize = 4_194_304;
@@ -45,10 +47,12 @@ impl Book {
     pub fn read(alloc: Global, bytes: &[u8], registry: &Registry) -> Result<Book, BookFault>
         ensures book { IfOk result (λ b. IsBook (modules_of registry.now) bytes.now b) }
         ensures known { IfOk result (λ b. names_known (modules_of registry.now) (plays_of b) ≡ true) }
-        ensures not_built { result ≡ Err BookFault.NotBuilt → length bytes.now ≤ 4194304
+        ensures not_built { result ≡ Err BookFault.NotBuilt → length bytes.now ≤ most_book_bytes
             → IsNoBook (modules_of registry.now) bytes.now }
         ensures not_json { result ≡ Err BookFault.NotJson → json_data bytes.now ≡ None }
-        ensures large { 4194304 < length bytes.now → result ≡ Err BookFault.NotBuilt }
+        ensures large { most_book_bytes < length bytes.now → result ≡ Err BookFault.NotBuilt }
+        ensures no_text { is_utf8 bytes.now ≡ false → length bytes.now ≤ most_book_bytes
+            → result ≡ Err BookFault.NotJson }
     {
         if bytes.len() > BOOK_LIMIT {
             return Err(BookFault::NotBuilt);
@@ -60,7 +64,7 @@ impl Book {
 
 // What was read is used up, so that the tasks find its memory.
 fn plays_in(alloc: Global, value: Value, registry: &Registry) -> Result<Vec<Play>, FormFault>
-    ensures given { Gives (λ ps. plain_plays ps.items) result
+    ensures given { Gives (λ ps. Some (plain_plays ps.items)) refused result
         (book_from (modules_of registry.now) (view value)) }
     ensures numbered { IfOk result (λ ps. is_numbered ps.items ≡ true) }
     ensures known { IfOk result (λ ps. names_known (modules_of registry.now) ps.items ≡ true) }
@@ -81,7 +85,7 @@ fn plays_in(alloc: Global, value: Value, registry: &Registry) -> Result<Vec<Play
 }
 
 fn play_of(alloc: Global, value: Value, registry: &Registry) -> Result<Play, FormFault>
-    ensures given { Gives (λ p. plain_tasks p.tasks.items) result
+    ensures given { Gives (λ p. Some (plain_tasks p.tasks.items)) refused result
         (play_of (modules_of registry.now) (view value)) }
     ensures first { IfOk result (λ p. p.line ≡ 1) }
     ensures numbered { IfOk result (λ p. is_numbered (p ∷ []) ≡ true) }
@@ -109,10 +113,10 @@ fn tasks_in(
     tasks: Option<Value>,
     registry: &Registry,
 ) -> Result<Vec<Task>, FormFault>
-    ensures given { Gives (λ ts. plain_tasks ts.items) result
+    ensures given { Gives (λ ts. Some (plain_tasks ts.items)) refused result
         (few_tasks (modules_of registry.now) (option_map view tasks)) }
     ensures lines { IfOk result (λ ts. are_from 2 ts.items ≡ true) }
-    ensures few { IfOk result (λ ts. length ts.items ≤ 4095) }
+    ensures few { IfOk result (λ ts. length ts.items ≤ most_tasks) }
     ensures known { IfOk result (λ ts. are_known (modules_of registry.now) ts.items ≡ true) }
     ensures plain { IfOk result (λ ts. are_plain_tasks (plain_tasks ts.items) ≡ true) }
     ensures ordered { IfOk result (λ ts. are_ordered ts.items ≡ true) }
@@ -124,20 +128,6 @@ fn tasks_in(
         return Err(FormFault::NotBuilt);
     };
     tasks_of(alloc, own_items(items)?, registry)
-}
-
-/// The items, out of the block that their copies share.
-fn own_items(items: Arc<Vec<Value>>) -> Result<Vec<Value>, AllocError>
-    ensures { IfOk result (λ own. items_view own.items ≡ items_view items.value.items) }
-{
-    Arc::unwrap_or_clone(items)
-}
-
-/// The fields, out of the block that their copies share.
-fn own_fields(fields: Arc<Fields>) -> Result<Fields, AllocError>
-    ensures { IfOk result (λ own. fields_view own.entries ≡ fields_view fields.value.entries) }
-{
-    Arc::unwrap_or_clone(fields)
 }
 
 /// Whether the record's keys are `hosts`, whose value is `all`, and perhaps `tasks` and a `name`.

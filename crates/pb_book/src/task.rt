@@ -1,7 +1,11 @@
 // The tasks of a play.
-ghost use Rattle.std.specs.Prelude.{◌≡◌, ◌≤◌, IfOk, Some, codes, length, option_map, string_bytes, true};
+ghost use Rattle.std.specs.Prelude.{◌≡◌, ◌<◌, ◌≤◌, Err, IfOk, Some, codes, length, option_map, string_bytes, true};
 ghost use Rattle.pb_semantics.specs.Data.{field_value, list};
+ghost use Rattle.pb_semantics.specs.Gives.{Gives};
 ghost use Rattle.pb_semantics.specs.Keeps.{is_among};
+ghost use Rattle.pb_semantics.specs.Limits.{most_tasks};
+ghost use Rattle.pb_value.specs.View.{view, items_view, fields_view};
+ghost use Rattle.pb_sig.specs.Modules.{modules_of};
 ghost use Rattle.pb_language.specs.Expression.{Parts};
 ghost use Rattle.pb_language.specs.Rules.{
   are_name_bytes,
@@ -11,8 +15,7 @@ ghost use Rattle.pb_language.specs.Rules.{
 };
 ghost use Rattle.pb_language.specs.Simple.{are_simple, parts_simple};
 ghost use Rattle.pb_language.specs.plain.Books.{are_plain_tasks, is_plain_task};
-ghost use Rattle.pb_value.specs.View.{view, items_view, fields_view};
-ghost use Rattle.pb_sig.specs.Modules.{modules_of};
+ghost use Rattle.pb_book.specs.Faults.{refused};
 ghost use Rattle.pb_book.specs.Lines.{are_ascending, are_from, are_known, are_ordered, argument_names, is_known};
 ghost use Rattle.pb_book.specs.Meaning.{argument_parts, condition_view, plain_task, plain_tasks, work_of};
 ghost use Rattle.pb_book.specs.Reading.{
@@ -21,13 +24,13 @@ ghost use Rattle.pb_book.specs.Reading.{
   given_arguments,
   is_named,
   keywords,
+  lone,
   register_of,
   task_of,
   work_of as work_in,
   work_with,
   works_of,
 };
-ghost use Rattle.pb_book.specs.Results.{Gives, lone};
 
 use crate::argument::{MOST_EXPRESSION_BYTES, MOST_TEXT_BYTES, arguments_of, command_line};
 use crate::book::{Argument, Task, Work};
@@ -54,13 +57,14 @@ pub(crate) fn tasks_of(
     items: Vec<Value>,
     registry: &Registry,
 ) -> Result<Vec<Task>, FormFault>
-    ensures given { Gives (λ ts. plain_tasks ts.items) result
+    ensures given { Gives (λ ts. Some (plain_tasks ts.items)) refused result
         (few_tasks (modules_of registry.now) (Some (list (items_view items.items)))) }
     ensures lines { IfOk result (λ ts. are_from 2 ts.items ≡ true) }
-    ensures few { IfOk result (λ ts. length ts.items ≤ 4095) }
+    ensures few { IfOk result (λ ts. length ts.items ≤ most_tasks) }
     ensures known { IfOk result (λ ts. are_known (modules_of registry.now) ts.items ≡ true) }
     ensures plain { IfOk result (λ ts. are_plain_tasks (plain_tasks ts.items) ≡ true) }
     ensures ordered { IfOk result (λ ts. are_ordered ts.items ≡ true) }
+    ensures crowded { most_tasks < length items.items → result ≡ Err FormFault.NotBuilt }
 {
     if items.len() > MOST_TASKS {
         return Err(FormFault::NotBuilt);
@@ -76,7 +80,7 @@ pub(crate) fn tasks_of(
 
 /// The task that a record describes, which is let go.
 fn task_of(alloc: Global, value: Value, line: u32, registry: &Registry) -> Result<Task, FormFault>
-    ensures given { Gives plain_task result (task_of (modules_of registry.now) line (view value)) }
+    ensures given { Gives (λ t. Some (plain_task t)) refused result (task_of (modules_of registry.now) line (view value)) }
     ensures line { IfOk result (λ t. t.line ≡ line) }
     ensures known { IfOk result (λ t. is_known (modules_of registry.now) t.work ≡ true) }
     ensures plain { IfOk result (λ t. is_plain_task (plain_task t) ≡ true) }
@@ -104,7 +108,7 @@ fn work_in(
     fields: &Fields,
     registry: &Registry,
 ) -> Result<(Work, Vec<Argument>), FormFault>
-    ensures given { Gives (λ w. work_of w.0 (argument_parts w.1.items)) result
+    ensures given { Gives (λ w. Some (work_of w.0 (argument_parts w.1.items))) refused result
         (work_in (modules_of registry.now) (works_of (fields_view fields.now.entries))) }
     ensures known { IfOk result (λ w. is_known (modules_of registry.now) w.0 ≡ true) }
     ensures simple { IfOk result (λ w. parts_simple (argument_parts w.1.items) ≡ true) }
@@ -152,7 +156,7 @@ fn is_keyword(key: &str) -> bool
 
 /// The action or the module of that name.
 fn work_of(key: &str, registry: &Registry) -> Result<Work, FormFault>
-    ensures given { (ps : Parts) → Gives (λ w. work_of w ps) result
+    ensures given { (ps : Parts) → Gives (λ w. Some (work_of w ps)) refused result
         (work_with (modules_of registry.now) key.now (Some ps)) }
     ensures known { IfOk result (λ w. is_known (modules_of registry.now) w ≡ true) }
 {
@@ -170,7 +174,7 @@ fn work_of(key: &str, registry: &Registry) -> Result<Work, FormFault>
 
 /// The arguments that stand at the key of a module or an action.
 fn given_arguments(alloc: Global, key: &str, given: &Value) -> Result<Vec<Argument>, FormFault>
-    ensures given { Gives (λ found. argument_parts found.items) result
+    ensures given { Gives (λ found. Some (argument_parts found.items)) refused result
         (given_arguments key.now (view given.now)) }
     ensures simple { IfOk result (λ found. parts_simple (argument_parts found.items) ≡ true) }
     ensures ordered { IfOk result (λ found. are_ascending (argument_names found.items) ≡ true) }
@@ -185,7 +189,7 @@ fn given_arguments(alloc: Global, key: &str, given: &Value) -> Result<Vec<Argume
 
 /// The condition of a task: a text that is an expression, or a truth value.
 fn condition_of(alloc: Global, fields: &Fields) -> Result<Option<Expr>, FormFault>
-    ensures given { Gives condition_view result
+    ensures given { Gives (λ when. Some (condition_view when)) refused result
         (condition_of (field_value (codes "when") (fields_view fields.now.entries))) }
     ensures simple { IfOk result (λ when. are_simple (condition_view when) ≡ true) }
 {
@@ -201,7 +205,7 @@ fn condition_of(alloc: Global, fields: &Fields) -> Result<Option<Expr>, FormFaul
 
 /// The variable that keeps the result.
 fn register_of(fields: &Fields) -> Result<Option<Arc<String>>, FormFault>
-    ensures { Gives (λ register. option_map (λ n. string_bytes n.value) register) result
+    ensures { Gives (λ register. Some (option_map (λ n. string_bytes n.value) register)) refused result
         (register_of (field_value (codes "register") (fields_view fields.now.entries))) }
 {
     match field_of(fields, "register") {

@@ -5,9 +5,9 @@ use Rattle.pb_language.specs.Expression.{Expressions, no_expressions, expression
 use Rattle.pb_language.specs.World.{World}
 use Rattle.pb_language.specs.Evaluation.{Outcome, Stuck, value, stuck, wrong_sort, then_go, only_boolean, negated, and_then, or_then, holds_opaque, equal_values, found_in, put_item, put_part, eval, eval_all, eval_any}
 use Rattle.pb_value.specs.Append.{append_fields}
-use Rattle.pb_value.specs.View.{view, items_view}
+use Rattle.pb_value.specs.View.{view, items_view, truth}
 use Rattle.pb_value.specs.declared.value.Value.{Value}
-use Rattle.pb_expr.specs.ExprView.{truth, is_unreadable}
+use Rattle.pb_expr.specs.ExprView.{is_unreadable}
 use Rattle.pb_expr.specs.OwnWorld.{shown}
 
 or_right : (b : Bool) → (b || true) ≡ true

@@ -1,7 +1,7 @@
 -- The expression that an `Expr` stands for.
 use Rattle.std.specs.Prelude.{ℕ, List, [], ◌∷◌, map, String, string_bytes, Bool, true, false, Option, Some, None}
 use Rattle.std.specs.declared.alloc.Global.{Global}
-use Rattle.pb_semantics.specs.Data.{Data, boolean, rec, opaque, field_value}
+use Rattle.pb_semantics.specs.Data.{Data, rec, opaque, field_value}
 use Rattle.pb_language.specs.Expression.{Name, equal, Expression, literal, path, negation, conjunction, disjunction, comparison, membership, list_of, record_of, variable, Expressions, no_expressions, expression, Parts, no_parts, part}
 use Rattle.pb_value.specs.View.{view}
 use Rattle.pb_expr.specs.declared.expr.Expr.{Expr, fold-Expr}
@@ -39,11 +39,6 @@ exprs_view es = exprs_of (map expr_view es)
 
 abbrev pub parts_view : List (String Global × Expr) → Parts
 parts_view ms = parts_of (map (λ m. (m.0, expr_view m.1)) ms)
-
--- a truth value, where it is one
-abbrev pub truth : Data → Option Bool
-truth (boolean b) = Some b
-truth d = None
 
 -- a field, where the value is a record that has it
 abbrev pub field_in : List ℕ → Data → Option Data

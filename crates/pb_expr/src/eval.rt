@@ -1,6 +1,6 @@
 // The value of an expression.
-ghost use Rattle.std.specs.Prelude.{◌≡◌, true, false, IfOk, MatchOption, OnOk, is_some, option_map, string_bytes};
-ghost use Rattle.pb_semantics.specs.Data.{boolean, list, field_value, put_field};
+ghost use Rattle.std.specs.Prelude.{◌≡◌, true, false, IfOk, MatchOption, is_some, option_map, string_bytes};
+ghost use Rattle.pb_semantics.specs.Data.{boolean, list, field_value};
 ghost use Rattle.pb_semantics.specs.Equal.{is_part};
 ghost use Rattle.pb_language.specs.Evaluation.{
   value,
@@ -19,13 +19,13 @@ ghost use Rattle.pb_language.specs.Evaluation.{
   eval_parts,
 };
 ghost use Rattle.pb_value.specs.View.{view, items_view, fields_view};
-ghost use Rattle.pb_expr.specs.ExprView.{expr_view, exprs_view, parts_view, names_of, truth, field_in, is_unreadable};
+ghost use Rattle.pb_expr.specs.ExprView.{expr_view, exprs_view, parts_view, names_of, field_in, is_unreadable};
 ghost use Rattle.pb_expr.specs.OwnWorld.{shown};
 
 use crate::equal::{equal, has_item, holds_opaque, items_hold_opaque};
 use crate::expr::{Expr, Path};
 use crate::vars::Vars;
-use pb_value::value::{Fields, Value, field_of};
+use pb_value::value::{Fields, Value, field_of, put_field};
 use std::alloc::{AllocError, Global};
 use std::collections::BTreeMap;
 
@@ -81,7 +81,7 @@ fn all_of<V: Vars>(alloc: Global, operands: &Vec<Expr>, vars: &V) -> Result<Valu
 {
     for operand in operands {
         let found = eval(alloc, operand, vars)?;
-        match truth_of(found) {
+        match found.as_bool() {
             Some(true) => {}
             Some(false) => return Ok(Value::Bool(false)),
             None => return Ok(Value::Opaque),
@@ -96,7 +96,7 @@ fn any_of<V: Vars>(alloc: Global, operands: &Vec<Expr>, vars: &V) -> Result<Valu
 {
     for operand in operands {
         let found = eval(alloc, operand, vars)?;
-        match truth_of(found) {
+        match found.as_bool() {
             Some(false) => {}
             Some(true) => return Ok(Value::Bool(true)),
             None => return Ok(Value::Opaque),
@@ -132,18 +132,11 @@ fn record_of<V: Vars>(
     for (name, field) in fields.iter() {
         let found = eval(alloc, field, vars)?;
         match readable(found) {
-            Some(found) => put(&mut values, name, found)?,
+            Some(found) => put_field(&mut values, name.clone()?, found)?,
             None => return Ok(Value::Opaque),
         }
     }
     Value::of_fields(alloc, values)
-}
-
-fn put(fields: &mut Fields, name: &String, found: Value) -> Result<(), AllocError>
-    ensures { OnOk result (fields_view fields.new.entries ≡ put_field (string_bytes name.now) (view found) (fields_view fields.old.entries)) }
-{
-    fields.insert(name.clone()?, found)?;
-    Ok(())
 }
 
 fn value_of_path<V: Vars>(path: &Path, vars: &V) -> Result<Value, AllocError>
@@ -174,15 +167,6 @@ fn field_inside<'v>(outer: &'v Value, name: &str) -> Option<&'v Value>
 {
     match outer {
         Value::Rec(fields) => field_of(fields, name),
-        _ => None,
-    }
-}
-
-fn truth_of(found: Value) -> Option<bool>
-    ensures { result ≡ truth (view found) }
-{
-    match found {
-        Value::Bool(holds) => Some(holds),
         _ => None,
     }
 }

@@ -43,7 +43,7 @@ ghost use Rattle.pb_expr.specs.FitView.{Finds, FindsBeside, own_scope, fault_vie
 use crate::expr::{Expr, Path};
 use pb_value::below::find;
 use pb_value::join::join;
-use pb_value::kind::{Case, Kind, Presence, Slot, Slots};
+use pb_value::kind::{Case, Kind, Slot, Slots, put_slot};
 use pb_value::value::{Fields, Value};
 use std::alloc::{AllocError, AllocFailed, Global};
 use std::collections::BTreeMap;
@@ -134,7 +134,7 @@ fn chain_kind(alloc: Global, operands: &Vec<Expr>, slots: &Slots) -> Result<Kind
     let mut are_bool = true;
     for operand in operands {
         let kind = kind_of(alloc, operand, slots)?;
-        are_bool = are_bool & is_bool(kind);
+        are_bool = are_bool & kind.is_bool();
     }
     asked(are_bool)
 }
@@ -180,10 +180,10 @@ fn part_kind(alloc: Global, expr: &Expr, slots: &Slots) -> Result<Kind, KindFaul
 fn not_any(kind: Kind) -> Result<Kind, KindFault>
     ensures { Finds result (asks wrong_kind (not (is_anything (kind_view kind)))) (kind_view kind) }
 {
-    match kind {
-        Kind::Any => Err(KindFault::Unfit(Unfit::WrongKind)),
-        kind => Ok(kind),
+    if kind.is_any() {
+        return Err(KindFault::Unfit(Unfit::WrongKind));
     }
+    Ok(kind)
 }
 
 // The least kind above all of these, from the last to the first.
@@ -200,14 +200,7 @@ fn join_all(alloc: Global, kinds: Vec<Kind>) -> Result<Kind, AllocError>
 fn put(kinds: &mut Slots, name: &String, kind: Kind) -> Result<(), AllocError>
     ensures { OnOk result (slots_view kinds.new.entries ≡ put_slot (string_bytes name.now) true (kind_view kind) (slots_view kinds.old.entries)) }
 {
-    kinds.insert(
-        name.clone()?,
-        Slot {
-            presence: Presence::Always,
-            kind,
-        },
-    )?;
-    Ok(())
+    put_slot(kinds, name.clone()?, Slot::always(kind))
 }
 
 fn path_kind(path: &Path, slots: &Slots) -> Result<Kind, KindFault>
@@ -274,12 +267,11 @@ fn kind_among<'k>(slots: &'k Slots, name: &str) -> Result<&'k Kind, Unfit>
 fn certain_kind<'k>(slots: &'k Slots, name: &str) -> Option<&'k Kind>
     ensures { option_map (λ k. kind_view k.now) result ≡ certain (spot_at name.now (slots_view slots.now.entries)) }
 {
-    match find(slots, name) {
-        Some(slot) => match slot.presence {
-            Presence::Always => Some(&slot.kind),
-            Presence::Maybe => None,
-        },
-        None => None,
+    let slot = find(slots, name)?;
+    if slot.presence.is_always() {
+        Some(&slot.kind)
+    } else {
+        None
     }
 }
 
@@ -297,7 +289,7 @@ fn asked(is_fit: bool) -> Result<Kind, KindFault>
 fn negation_kind(operand: Kind) -> Result<Kind, KindFault>
     ensures { Finds result (asks wrong_kind (is_boolean (kind_view operand))) booleans }
 {
-    asked(is_bool(operand))
+    asked(operand.is_bool())
 }
 
 // What `==` and `!=` give between operands of these kinds.
@@ -326,7 +318,7 @@ fn may_hold(whole: &Kind, part: &Kind) -> bool
     ensures { result ≡ can_find (kind_view part.now) (kind_view whole.now) }
 {
     match whole {
-        Kind::Never => !is_any(part),
+        Kind::Never => !part.is_any(),
         Kind::List(item, _) => are_comparable(part, item),
         Kind::Text => is_text(part),
         Kind::Host(_) => is_text(part),
@@ -336,29 +328,11 @@ fn may_hold(whole: &Kind, part: &Kind) -> bool
     }
 }
 
-fn is_bool(kind: Kind) -> bool
-    ensures { result ≡ is_boolean (kind_view kind) }
-{
-    match kind {
-        Kind::Bool | Kind::Never => true,
-        _ => false,
-    }
-}
-
 fn is_text(kind: &Kind) -> bool
     ensures { result ≡ is_textual (kind_view kind.now) }
 {
     match kind {
         Kind::Text | Kind::Host(_) | Kind::Never => true,
-        _ => false,
-    }
-}
-
-fn is_any(kind: &Kind) -> bool
-    ensures { result ≡ is_anything (kind_view kind.now) }
-{
-    match kind {
-        Kind::Any => true,
         _ => false,
     }
 }

@@ -1,10 +1,10 @@
 -- A record of one field, and a list of one item.
-use Rattle.std.proofs.Common.{◌≡◌, ◌≢◌, ℕ, List, [], ◌∷◌, length, get_or, Some, None, refl}
+use Rattle.std.proofs.Common.{◌≡◌, ◌≢◌, ℕ, List, [], ◌∷◌, length, Some, None, refl}
 use Rattle.pb_semantics.specs.Data.{list, rec, field_value}
-use Rattle.pb_value.specs.View.{view, fields_view, items_view}
+use Rattle.pb_value.specs.View.{fields_view, items_view}
 use Rattle.pb_value.specs.declared.value.Value.{Value}
 use Rattle.pb_value.proofs.Fields.{Entry}
-use Rattle.pb_inventory.specs.Hosts.{only_field, only_text, text_in}
+use Rattle.pb_inventory.specs.Hosts.{only_field, only_text}
 
 pub only_field-one : (name : List ℕ) (es : List Entry) → length es ≡ 1 → only_field name (Some (rec (fields_view es))) ≡ field_value name (fields_view es)
 only_field-one name [] h = (cc)
@@ -15,11 +15,6 @@ pub only_field-other : (name : List ℕ) (es : List Entry) → length es ≢ 1 �
 only_field-other name [] h = refl
 only_field-other name (e ∷ []) h = absurd (h refl)
 only_field-other name (e ∷ f ∷ es) h = refl
-
-pub only_text-one : (vs : List Value) (v : Value) → length vs ≡ 1 → only_text (Some (list (items_view vs))) ≡ text_in (view (get_or vs 0 v))
-only_text-one [] v h = (cc)
-only_text-one (u ∷ []) v h = refl
-only_text-one (u ∷ w ∷ vs) v h = (cc)
 
 pub only_text-other : (vs : List Value) → length vs ≢ 1 → only_text (Some (list (items_view vs))) ≡ None
 only_text-other [] h = refl

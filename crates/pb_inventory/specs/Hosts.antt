@@ -1,6 +1,7 @@
 -- Which inventory a JSON value describes: `{"all":{"hosts":[NAME]}}` with one host.
 use Rattle.std.specs.Prelude.{ℕ, zero, List, [], ◌∷◌, length, Bool, true, false, ◌&&◌, ◌||◌, cond, nat_le, ◌==◌, Option, Some, None, option_map, codes}
 use Rattle.std.specs.Str.{bytes_eq}
+use Rattle.pb_semantics.specs.Limits.{most_host_name_bytes}
 use Rattle.pb_semantics.specs.Data.{Data, Fields, text, list, rec, no_items, item, no_fields, field}
 
 pub record HostData : Type 0 where
@@ -26,9 +27,9 @@ abbrev pub are_host_bytes : List ℕ → Bool
 are_host_bytes [] = true
 are_host_bytes (b ∷ bs) = is_host_byte b && are_host_bytes bs
 
--- of 1 to 253 such bytes
+-- of such bytes, at least one and not too many
 abbrev pub is_host_name : List ℕ → Bool
-is_host_name s = nat_le 1 (length s) && (nat_le (length s) 253 && are_host_bytes s)
+is_host_name s = nat_le 1 (length s) && (nat_le (length s) most_host_name_bytes && are_host_bytes s)
 
 -- the value of a record's one field, if it has that name
 abbrev pub only_field : List ℕ → Option Data → Option Data

@@ -23,6 +23,7 @@ ghost use Rattle.std.specs.declared.alloc.Global.{Global};
 ghost use Rattle.std.specs.Str.{bytes_eq};
 ghost use Rattle.indexmap.specs.IndexMap.{index_map_len, insert_entry};
 ghost use Rattle.pb_semantics.specs.Data.{no_fields};
+ghost use Rattle.pb_semantics.specs.Limits.{most_hosts};
 ghost use Rattle.pb_value.specs.View.{fields_view};
 ghost use Rattle.pb_inventory.specs.Hosts.{is_lone, one_host};
 ghost use Rattle.pb_inventory.specs.Views.{host_view, group_view};
@@ -46,7 +47,7 @@ struct Host {
 pub struct Inventory {
     hosts: IndexMap<String, Host>,
     groups: IndexMap<String, Vec<usize>>,
-    ghost few: { index_map_len hosts ≤ 1024 },
+    ghost few: { index_map_len hosts ≤ most_hosts },
     ghost lone: { is_lone (record { hosts = map host_view hosts.entries; groups = map group_view groups.entries })
         ≡ true },
 }
@@ -57,7 +58,7 @@ impl Inventory {
     /// How many hosts there are.
     pub fn hosts(&self) -> usize
         ensures count { result ≡ length (inventory_view self.now).hosts }
-        ensures few { result ≤ 1024 }
+        ensures few { result ≤ most_hosts }
         ensures lone { is_lone (inventory_view self.now) ≡ true }
     {
         self.hosts.len()

@@ -9,10 +9,13 @@ ghost use Rattle.std.specs.Prelude.{
   None,
   OnOk,
   Some,
+  false,
   length,
   option_map,
 };
+ghost use Rattle.std.specs.Str.{is_utf8};
 ghost use Rattle.pb_semantics.specs.Data.{Data, field_value};
+ghost use Rattle.pb_semantics.specs.Limits.{most_inventory_bytes};
 ghost use Rattle.pb_value.specs.FromJson.{json_data};
 ghost use Rattle.pb_value.specs.View.{view, fields_view};
 ghost use Rattle.pb_inventory.specs.Hosts.{
@@ -86,9 +89,11 @@ impl Inventory {
             × (inventory_of d ≡ Some (inventory_view i))) }
         ensures one_host { IfOk result (λ i. length (inventory_view i).hosts ≡ 1) }
         ensures not_json { result ≡ Err InventoryFault.NotJson → json_data bytes.now ≡ None }
-        ensures not_built { result ≡ Err InventoryFault.NotBuilt → length bytes.now ≤ 4194304
+        ensures not_built { result ≡ Err InventoryFault.NotBuilt → length bytes.now ≤ most_inventory_bytes
             → (d : Data) × (json_data bytes.now ≡ Some d) × (inventory_of d ≡ None) }
-        ensures large { 4194304 < length bytes.now → result ≡ Err InventoryFault.NotBuilt }
+        ensures large { most_inventory_bytes < length bytes.now → result ≡ Err InventoryFault.NotBuilt }
+        ensures no_text { is_utf8 bytes.now ≡ false → length bytes.now ≤ most_inventory_bytes
+            → result ≡ Err InventoryFault.NotJson }
     {
         if bytes.len() > INVENTORY_LIMIT {
             return Err(InventoryFault::NotBuilt);

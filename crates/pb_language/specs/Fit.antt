@@ -1,7 +1,8 @@
 -- Which expressions have a value in every world that the scope describes (this project's own).
 use Rattle.std.specs.Prelude.{List, [], ◌∷◌, Bool, true, false, not, ◌&&◌, ◌||◌, Option, Some, None, is_some, codes}
-use Rattle.pb_semantics.specs.Kind.{KindData, Spot, never, booleans, ints, texts, hosts, lists, recs, results, anything, nowhere, spot, slot_at}
+use Rattle.pb_semantics.specs.Kind.{KindData, Spot, never, booleans, ints, texts, hosts, lists, recs, results, nowhere, spot, slot_at}
 use Rattle.pb_semantics.specs.Fit.{holds_any}
+pub use Rattle.pb_semantics.specs.Fit.{is_any, is_boolean}
 use Rattle.pb_language.specs.Expression.{Name, Comparison, equal, less, at_most, more, at_least, Term, named_host, this_host, item_host, group_member, Expression, literal, path, hostvars_alone, negation, conjunction, disjunction, comparison, membership, in_batch, defined, undefinable, path_status, value_status, path_or, value_or, length_of, joined_by, concatenation, list_of, record_of, Root, variable, alias, other, member, Expressions, no_expressions, expression, Parts, no_parts, part}
 use Rattle.pb_language.specs.World.{member_of}
 use Rattle.pb_language.specs.Scope.{Scope, Hosts, these, any_host, no_hosts, nobody, is_present, spot_kind, is_certain, hosts_of, other_spot}
@@ -26,15 +27,6 @@ first (Some f) g = Some f
 abbrev pub asks : Fault → Bool → Option Fault
 asks f true = None
 asks f false = Some f
-
-abbrev pub is_any : KindData → Bool
-is_any anything = true
-is_any k = false
-
-abbrev pub is_boolean : KindData → Bool
-is_boolean never = true
-is_boolean booleans = true
-is_boolean k = false
 
 abbrev pub is_int : KindData → Bool
 is_int never = true

@@ -1,6 +1,15 @@
--- Which kinds hold the kind of all values, at any depth.
+-- Which kinds are that of all values, hold it at any depth, or have truth values alone.
 use Rattle.std.specs.Prelude.{Bool, true, false, ◌||◌}
-use Rattle.pb_semantics.specs.Kind.{KindData, Slots, Cases, lists, recs, results, anything, no_slots, slot, no_cases, one}
+use Rattle.pb_semantics.specs.Kind.{KindData, Slots, Cases, never, booleans, lists, recs, results, anything, no_slots, slot, no_cases, one}
+
+abbrev pub is_any : KindData → Bool
+is_any anything = true
+is_any k = false
+
+abbrev pub is_boolean : KindData → Bool
+is_boolean never = true
+is_boolean booleans = true
+is_boolean k = false
 
 abbrev mutual
   pub holds_any : KindData → Bool

@@ -1,7 +1,7 @@
--- The limits of files, in bytes (this project's own).
+-- The limits of files, and of what stands in them (this project's own).
 use Rattle.std.specs.Prelude.{ℕ}
 
--- of a playbook, and of an inventory
+-- of files, in bytes: of a playbook, and of an inventory
 abbrev pub most_book_bytes : ℕ
 most_book_bytes = 4194304
 
@@ -13,3 +13,28 @@ most_signature_bytes = 1048576
 
 abbrev pub most_answer_bytes : ℕ
 most_answer_bytes = 67108864
+
+-- the tasks of a playbook: its lines but the first, which is the play's
+abbrev pub most_tasks : ℕ
+most_tasks = 4095
+
+-- how many lists and records of an argument stand inside one another
+abbrev pub most_levels : ℕ
+most_levels = 32
+
+-- of texts, in bytes
+abbrev pub most_text_bytes : ℕ
+most_text_bytes = 65536
+
+abbrev pub most_expression_bytes : ℕ
+most_expression_bytes = 4096
+
+-- an expression with its braces
+abbrev pub most_template_bytes : ℕ
+most_template_bytes = 4100
+
+abbrev pub most_host_name_bytes : ℕ
+most_host_name_bytes = 253
+
+abbrev pub most_hosts : ℕ
+most_hosts = 1024

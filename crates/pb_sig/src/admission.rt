@@ -10,7 +10,7 @@ ghost use Rattle.pb_sig.specs.AdmissionView.{admission_view};
 use crate::signature::Module;
 use pb_value::kind::Kind;
 use pb_value::project::project;
-use pb_value::value::{Fields, Value, field_of};
+use pb_value::value::{Fields, Value, field_of, own_fields, put_field};
 use std::alloc::{AllocError, Global};
 use std::sync::Arc;
 
@@ -63,8 +63,7 @@ fn failed_in(fields: &Fields) -> Option<bool>
 {
     match field_of(fields, "failed") {
         None => Some(false),
-        Some(Value::Bool(failed)) => Some(*failed),
-        Some(_) => None,
+        Some(flag) => flag.as_bool(),
     }
 }
 
@@ -95,7 +94,10 @@ fn kept_as(alloc: Global, failed: bool, kept: Value) -> Result<Admission, AllocE
 {
     match kept {
         Value::Rec(fields) => {
-            let value = Value::of_fields(alloc, put(alloc, owned(fields)?, "failed", failed)?)?;
+            let value = Value::of_fields(
+                alloc,
+                put(alloc, own_fields(fields)?, "failed", failed)?,
+            )?;
             Ok(admitted(failed, value))
         }
         _ => Ok(Admission::Breach),
@@ -118,18 +120,12 @@ fn put(alloc: Global, fields: Fields, name: &str, flag: bool) -> Result<Fields, 
         ≡ put_field name.now (boolean flag) (fields_view fields.entries)) }
 {
     let mut fields = fields;
-    drop(fields.insert(String::from_str(alloc, name)?, Value::Bool(flag))?);
+    put_field(
+        &mut fields,
+        String::from_str(alloc, name)?,
+        Value::Bool(flag),
+    )?;
     Ok(fields)
-}
-
-/// The fields, copied where someone else holds them too.
-fn owned(fields: Arc<Fields>) -> Result<Fields, AllocError>
-    ensures { IfOk result (λ m. fields_view m.entries ≡ fields_view fields.value.entries) }
-{
-    match Arc::try_unwrap(fields) {
-        Ok(fields) => Ok(fields),
-        Err(shared) => copy_of(&shared),
-    }
 }
 
 fn copy_of(fields: &Fields) -> Result<Fields, AllocError>

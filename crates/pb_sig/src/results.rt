@@ -20,7 +20,7 @@ ghost use Rattle.pb_sig.specs.Results.{result_cases, result_kind};
 use crate::rows::{must, shape_of};
 use crate::signature::shared_name;
 use pb_value::join::join;
-use pb_value::kind::{Case, Kind, Presence, Shape, Slot, Slots};
+use pb_value::kind::{Case, Kind, Shape, Slot, Slots, put_slot};
 use std::alloc::{AllocError, Global};
 use std::sync::Arc;
 
@@ -170,11 +170,8 @@ fn ended_slots(alloc: Global, shape: &Slots) -> Result<Slots, AllocError>
         ≡ put_slot (codes "failed") true booleans (slots_view shape.now.entries)) }
 {
     let mut slots = shape.clone()?;
-    let failed = Slot {
-        presence: Presence::Always,
-        kind: Kind::Bool,
-    };
-    drop(slots.insert(String::from_str(alloc, "failed")?, failed)?);
+    let name = String::from_str(alloc, "failed")?;
+    put_slot(&mut slots, name, Slot::always(Kind::Bool))?;
     Ok(slots)
 }
 

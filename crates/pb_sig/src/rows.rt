@@ -1,12 +1,12 @@
 // Records of kinds and lists of parameters, written as rows.
 ghost use Rattle.std.specs.Prelude.{◌≡◌, IfOk, map};
 ghost use Rattle.pb_semantics.specs.Kind.{lists, recs, texts, no_slots};
-ghost use Rattle.pb_value.specs.KindView.{kind_view, is_always};
+ghost use Rattle.pb_value.specs.KindView.{kind_view};
 ghost use Rattle.pb_sig.specs.Views.{parameter_view};
 ghost use Rattle.pb_sig.specs.Rows.{row_parameter, with_rows};
 
 use crate::signature::Parameter;
-use pb_value::kind::{Kind, Presence, Slot, Slots};
+use pb_value::kind::{Kind, Presence, Slot, Slots, put_slot};
 use std::alloc::{AllocError, Global};
 use std::sync::Arc;
 
@@ -32,7 +32,7 @@ pub fn shape_of(alloc: Global, rows: &[Row<'_>]) -> Result<Kind, AllocError>
             presence: row.presence,
             kind: row.kind.clone()?,
         };
-        drop(fields.insert(name, slot)?);
+        put_slot(&mut fields, name, slot)?;
     }
     Ok(Kind::Rec(Arc::new(alloc, fields)?))
 }
@@ -46,19 +46,10 @@ pub fn parameters_of(alloc: Global, rows: &[Row<'_>]) -> Result<Vec<Parameter>, 
         parameters.push(Parameter {
             name: String::from_str(alloc, row.name)?,
             kind: row.kind.clone()?,
-            required: is_required(row.presence),
+            required: row.presence.is_always(),
         })?;
     }
     Ok(parameters)
-}
-
-fn is_required(presence: Presence) -> bool
-    ensures { result ≡ is_always presence }
-{
-    match presence {
-        Presence::Always => true,
-        Presence::Maybe => false,
-    }
 }
 
 /// A field that is always there, or a required parameter.

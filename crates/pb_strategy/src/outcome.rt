@@ -29,7 +29,7 @@ use pb_expr::eval::eval;
 use pb_sig::admission::{Admission, admit};
 use pb_sig::builtin::Builtin;
 use pb_sig::registry::Registry;
-use pb_value::value::{Fields, Value};
+use pb_value::value::{Fields, Value, put_field};
 use std::alloc::{AllocError, Global};
 use std::sync::Arc;
 
@@ -77,8 +77,7 @@ fn skipped_fields(alloc: Global) -> Result<Fields, AllocError>
 fn put(alloc: Global, fields: &mut Fields, name: &str, value: Value) -> Result<(), AllocError>
     ensures { OnOk result (fields_view fields.new.entries ≡ put_field name.now (view value) (fields_view fields.old.entries)) }
 {
-    drop(fields.insert(String::from_str(alloc, name)?, value)?);
-    Ok(())
+    put_field(fields, String::from_str(alloc, name)?, value)
 }
 
 /// What a Start finds: what is waited for, and the call where there is one.

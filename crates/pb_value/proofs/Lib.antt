@@ -1,8 +1,8 @@
 pub mod Views
 pub mod Fields
 pub mod Reading
-pub mod Slots
 pub mod KeptLists
+pub mod Copies
 pub mod Projections
 pub mod KindLemmas
 pub mod JoinLemmas

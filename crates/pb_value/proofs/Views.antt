@@ -1,5 +1,5 @@
 -- What the layers of a value and of a kind mean.
-use Rattle.std.proofs.Common.{◌≡◌, Bool, ℕ, ℤ, Vec, BTreeMap, String, Global, string_bytes}
+use Rattle.std.proofs.Common.{◌≡◌, Bool, ℕ, ℤ, Vec, BTreeMap, String, Global, string_bytes, sym, ap, ◌∙◌}
 use Rattle.std.specs.declared.sync.Arc.{Arc}
 use Rattle.pb_semantics.specs.Data.{null, boolean, int, list, rec, text}
 use Rattle.pb_semantics.specs.Kind.{recs, lists, results}
@@ -20,6 +20,10 @@ view-List v = search (rules, value_lemmas)
 
 pub view-Rec : (m : Arc (BTreeMap (String Global) Value) Global) → view (Value-of.Rec m) ≡ rec (fields_view m.value.entries)
 view-Rec m = search (rules, value_lemmas)
+
+-- the record that a value is, read from its block
+pub view-fields : (v : Value) (fields : Arc (BTreeMap (String Global) Value) Global) (m : BTreeMap (String Global) Value) → v ≡ Value-of.Rec fields → m ≡ fields.value → view v ≡ rec (fields_view m.entries)
+view-fields v fields m is behind = ap view is ∙ view-Rec fields ∙ ap (λ (x : BTreeMap (String Global) Value). rec (fields_view x.entries)) (sym behind)
 
 pub kind_view-List : (k : Arc Kind Global) (n : ℕ) → kind_view (Kind-of.List k n) ≡ lists (kind_view k.value) n
 kind_view-List k n = search (rules, kind_lemmas)

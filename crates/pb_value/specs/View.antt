@@ -1,5 +1,5 @@
 -- The data that a `Value` stands for.
-use Rattle.std.specs.Prelude.{List, [], ◌∷◌, map, String, string_bytes}
+use Rattle.std.specs.Prelude.{List, [], ◌∷◌, map, String, string_bytes, Bool, Option, Some, None}
 use Rattle.std.specs.declared.alloc.Global.{Global}
 use Rattle.pb_semantics.specs.Data.{Data, null, boolean, int, text, list, rec, opaque, Items, no_items, item, Fields, no_fields, field}
 use Rattle.pb_value.specs.declared.value.Value.{Value, fold-Value}
@@ -31,3 +31,8 @@ items_view vs = items_of (map view vs)
 
 abbrev pub fields_view : List (String Global × Value) → Fields
 fields_view ms = fields_of (map (λ m. (m.0, view m.1)) ms)
+
+-- a truth value, where it is one
+abbrev pub truth : Data → Option Bool
+truth (boolean b) = Some b
+truth d = None

@@ -22,8 +22,8 @@ ghost use Rattle.pb_value.specs.KindView.{
 };
 ghost use Rattle.pb_value.specs.Found.{spot_view};
 
-use crate::below::{find, has_field, is_always, is_covered};
-use crate::kind::{Case, Kind, Presence, Slot, Slots};
+use crate::below::{find, has_field, is_covered};
+use crate::kind::{Case, Kind, Presence, Slot, Slots, put_slot};
 use std::alloc::{AllocError, Global};
 use std::collections::{BTreeMap, BTreeSet};
 use std::sync::Arc;
@@ -179,9 +179,7 @@ fn put_uncertain(slots: &mut Slots, name: &String, kind: &Kind) -> Result<(), Al
     ensures { OnOk result (slots_view slots.new.entries
         ≡ put_slot (string_bytes name.now) false (kind_view kind.now) (slots_view slots.old.entries)) }
 {
-    let kind = kind.clone()?;
-    let presence = Presence::Maybe;
-    put(slots, name, Slot { presence, kind })
+    put_slot(slots, name.clone()?, Slot::maybe(kind.clone()?))
 }
 
 /// The first's slots, each with what the second knows of it.
@@ -217,24 +215,15 @@ fn put_met(
         Some(other) => {
             let kind = join(alloc, kind, &other.kind)?;
             let presence = both(presence, other.presence);
-            put(slots, name, Slot { presence, kind })
+            put_slot(slots, name.clone()?, Slot { presence, kind })
         }
     }
-}
-
-fn put(slots: &mut Slots, name: &String, slot: Slot<Kind>) -> Result<(), AllocError>
-    ensures { OnOk result (slots_view slots.new.entries
-        ≡ put_slot (string_bytes name.now) (is_certain slot.presence) (kind_view slot.kind)
-        (slots_view slots.old.entries)) }
-{
-    let _ = slots.insert(name.clone()?, slot)?;
-    Ok(())
 }
 
 fn both(first: Presence, second: Presence) -> Presence
     ensures { is_certain result ≡ (is_certain first && is_certain second) }
 {
-    if is_always(first) {
+    if first.is_always() {
         second
     } else {
         Presence::Maybe

@@ -1,6 +1,8 @@
 // A kind: which values a variable can hold.
-ghost use Rattle.std.specs.Prelude.{◌≡◌};
-ghost use Rattle.pb_value.specs.KindView.{kind_view};
+ghost use Rattle.std.specs.Prelude.{◌≡◌, OnOk, string_bytes};
+ghost use Rattle.pb_semantics.specs.Fit.{is_any, is_boolean};
+ghost use Rattle.pb_semantics.specs.Kind.{put_slot};
+ghost use Rattle.pb_value.specs.KindView.{is_always, kind_view, slots_view};
 
 use std::alloc::AllocError;
 use std::collections::{BTreeMap, BTreeSet};
@@ -11,6 +13,18 @@ use std::sync::Arc;
 pub enum Presence {
     Always,
     Maybe,
+}
+
+impl Presence {
+    /// Whether the field is certainly there.
+    pub fn is_always(self) -> bool
+        ensures { result ≡ is_always self }
+    {
+        match self {
+            Presence::Always => true,
+            Presence::Maybe => false,
+        }
+    }
 }
 
 /// How a task ended, as far as the fields of its result go.
@@ -28,6 +42,30 @@ pub struct Slot<K> {
     pub kind: K,
 }
 
+impl<K> Slot<K> {
+    /// A field that is certainly there.
+    pub fn always(kind: K) -> Slot<K>
+        ensures presence { result.presence ≡ Presence.Always }
+        ensures kind { result.kind ≡ kind }
+    {
+        Slot {
+            presence: Presence::Always,
+            kind,
+        }
+    }
+
+    /// A field that may be missing.
+    pub fn maybe(kind: K) -> Slot<K>
+        ensures presence { result.presence ≡ Presence.Maybe }
+        ensures kind { result.kind ≡ kind }
+    {
+        Slot {
+            presence: Presence::Maybe,
+            kind,
+        }
+    }
+}
+
 /// One case of a result: the module or action, the shape, the final failed status and the fields,
 /// a `Kind::Rec`.
 #[derive(Drop)]
@@ -40,6 +78,19 @@ pub struct Case<K> {
 
 /// The fields of a record, in the order of their names' bytes.
 pub type Slots = BTreeMap<String, Slot<Kind>>;
+
+/// Puts the slot under that name, in place of what stood there.
+///
+/// # Errors
+///
+/// Want of memory.
+pub fn put_slot(slots: &mut Slots, name: String, slot: Slot<Kind>) -> Result<(), AllocError>
+    ensures { OnOk result (slots_view slots.new.entries ≡ put_slot (string_bytes name)
+        (is_always slot.presence) (kind_view slot.kind) (slots_view slots.old.entries)) }
+{
+    drop(slots.insert(name, slot)?);
+    Ok(())
+}
 
 /// Which values are meant. A copy shares what lies inside.
 #[derive(Drop)]
@@ -57,6 +108,28 @@ pub enum Kind {
     /// One of these cases, and beside them the least record above each, `Never` where there is no case.
     Result(Arc<Vec<Case<Kind>>>, Arc<Kind>),
     Any,
+}
+
+impl Kind {
+    /// Whether it is the kind of all values.
+    pub fn is_any(&self) -> bool
+        ensures { result ≡ is_any (kind_view self.now) }
+    {
+        match self {
+            Kind::Any => true,
+            _ => false,
+        }
+    }
+
+    /// Whether each of its values is a truth value.
+    pub fn is_bool(&self) -> bool
+        ensures { result ≡ is_boolean (kind_view self.now) }
+    {
+        match self {
+            Kind::Bool | Kind::Never => true,
+            _ => false,
+        }
+    }
 }
 
 impl Clone for Kind {

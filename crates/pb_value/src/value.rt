@@ -1,7 +1,7 @@
 // A value of a variable, its inner parts shared.
-ghost use Rattle.std.specs.Prelude.{◌≡◌, IfOk, option_map, string_bytes};
-ghost use Rattle.pb_semantics.specs.Data.{field_value, list, rec, text};
-ghost use Rattle.pb_value.specs.View.{view, items_view, fields_view};
+ghost use Rattle.std.specs.Prelude.{◌≡◌, IfOk, OnOk, option_map, string_bytes};
+ghost use Rattle.pb_semantics.specs.Data.{field_value, list, put_field, rec, text};
+ghost use Rattle.pb_value.specs.View.{truth, view, items_view, fields_view};
 
 use std::alloc::{AllocError, Global};
 use std::collections::BTreeMap;
@@ -29,6 +29,41 @@ pub fn field_of<'f>(fields: &'f Fields, name: &str) -> Option<&'f Value>
         ≡ field_value name.now (fields_view fields.now.entries) }
 {
     fields.get(name)
+}
+
+/// Puts the value under that name, in place of what stood there.
+///
+/// # Errors
+///
+/// Want of memory.
+pub fn put_field(fields: &mut Fields, name: String, value: Value) -> Result<(), AllocError>
+    ensures { OnOk result (fields_view fields.new.entries
+        ≡ put_field (string_bytes name) (view value) (fields_view fields.old.entries)) }
+{
+    drop(fields.insert(name, value)?);
+    Ok(())
+}
+
+/// The items, out of the block that their copies share.
+///
+/// # Errors
+///
+/// Want of memory.
+pub fn own_items(items: Arc<Vec<Value>>) -> Result<Vec<Value>, AllocError>
+    ensures { IfOk result (λ own. items_view own.items ≡ items_view items.value.items) }
+{
+    Arc::unwrap_or_clone(items)
+}
+
+/// The fields, out of the block that their copies share.
+///
+/// # Errors
+///
+/// Want of memory.
+pub fn own_fields(fields: Arc<Fields>) -> Result<Fields, AllocError>
+    ensures { IfOk result (λ own. fields_view own.entries ≡ fields_view fields.value.entries) }
+{
+    Arc::unwrap_or_clone(fields)
 }
 
 impl Clone for Value {
@@ -67,5 +102,15 @@ impl Value {
         ensures { IfOk result (λ v. view v ≡ rec (fields_view fields.entries)) }
     {
         Ok(Value::Rec(Arc::new(alloc, fields)?))
+    }
+
+    /// The truth value, where it is one.
+    pub fn as_bool(&self) -> Option<bool>
+        ensures { result ≡ truth (view self.now) }
+    {
+        match self {
+            Value::Bool(holds) => Some(*holds),
+            _ => None,
+        }
     }
 }

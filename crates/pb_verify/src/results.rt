@@ -20,7 +20,7 @@ use pb_sig::registry::Registry;
 use pb_sig::results::{Results, failed_kind};
 use pb_sig::signature::Module;
 use pb_value::join::join;
-use pb_value::kind::{Kind, Presence, Slot, Slots};
+use pb_value::kind::{Kind, Slot, Slots, put_slot};
 use std::alloc::{AllocError, Global};
 use std::sync::Arc;
 
@@ -180,10 +180,7 @@ fn changed_alone(alloc: Global) -> Result<Slots, AllocError>
     ensures { IfOk result (λ s. slots_view s.entries ≡ changed_slots) }
 {
     let mut slots = Slots::new(alloc);
-    let changed = Slot {
-        presence: Presence::Always,
-        kind: Kind::Bool,
-    };
-    drop(slots.insert(String::from_str(alloc, "changed")?, changed)?);
+    let name = String::from_str(alloc, "changed")?;
+    put_slot(&mut slots, name, Slot::always(Kind::Bool))?;
     Ok(slots)
 }

@@ -36,7 +36,7 @@ use pb_sig::registry::Registry;
 use pb_sig::signature::{Module, Parameter};
 use pb_value::below::{below, find};
 use pb_value::join::join;
-use pb_value::kind::{Kind, Presence, Slot, Slots};
+use pb_value::kind::{Kind, Slot, Slots, put_slot};
 use std::alloc::{AllocError, Global};
 use std::collections::BTreeSet;
 use std::sync::Arc;
@@ -170,7 +170,11 @@ fn put_certain(
     ensures { OnOk result (slots_view environment.new.entries
         ≡ put_slot name.now true (kind_view kind) (slots_view environment.old.entries)) }
 {
-    put(environment, String::from_str(alloc, name)?, certain(kind))
+    put_slot(
+        environment,
+        String::from_str(alloc, name)?,
+        Slot::always(kind),
+    )
 }
 
 type Sets = Vec<(Arc<String>, Kind)>;
@@ -226,7 +230,7 @@ fn condition_asked(alloc: Global, condition: &Expr, environment: &Slots) -> Resu
         (expression (expr_view condition.now) no_expressions)) }
 {
     let kind = kind_of(alloc, condition, environment)?;
-    if is_bool(&kind) {
+    if kind.is_bool() {
         Ok(())
     } else {
         Err(KindFault::Unfit(Unfit::WrongKind))
@@ -306,7 +310,7 @@ fn value_asked(alloc: Global, value: &Expr, environment: &Slots) -> Result<Kind,
     ensures kind { IfOk result (λ k. kind_view k ≡ kind_found (own_scope (slots_view environment.now.entries)) (expr_view value.now)) }
 {
     let kind = kind_of(alloc, value, environment)?;
-    if is_any(&kind) {
+    if kind.is_any() {
         return Err(KindFault::Unfit(Unfit::WrongKind));
     }
     Ok(kind)
@@ -322,24 +326,6 @@ fn is_of(kind: &Kind, name: &str, parameters: &[Parameter]) -> bool
         }
     }
     below(kind, &Kind::Never)
-}
-
-fn is_bool(kind: &Kind) -> bool
-    ensures { result ≡ is_boolean (kind_view kind.now) }
-{
-    match kind {
-        Kind::Bool | Kind::Never => true,
-        _ => false,
-    }
-}
-
-fn is_any(kind: &Kind) -> bool
-    ensures { result ≡ is_anything (kind_view kind.now) }
-{
-    match kind {
-        Kind::Any => true,
-        _ => false,
-    }
 }
 
 // What is written by the tasks up to this one: what it registers, be it failed or not, then what it sets.
@@ -372,7 +358,7 @@ fn add(alloc: Global, name: &String, kind: Kind, known: &mut Slots) -> Result<()
         ≡ join_slot (string_bytes name.now) (kind_view kind) (slots_view known.old.entries)) }
 {
     let slot = joined(alloc, find(known, name.as_str()), kind)?;
-    put(known, name.clone()?, slot)
+    put_slot(known, name.clone()?, slot)
 }
 
 // A write that leaves what was there before possible.
@@ -387,10 +373,7 @@ fn joined(alloc: Global, before: Option<&Slot<Kind>>, kind: Kind) -> Result<Slot
             presence: slot.presence,
             kind: join(alloc, &slot.kind, &kind)?,
         }),
-        None => Ok(Slot {
-            presence: Presence::Maybe,
-            kind,
-        }),
+        None => Ok(Slot::maybe(kind)),
     }
 }
 
@@ -425,7 +408,7 @@ fn put_registered(
 {
     if let Some(name) = &task.register {
         let kind = results.kind(&task.work, task.when.is_some())?;
-        put(environment, (**name).clone()?, certain(kind))?;
+        put_slot(environment, (**name).clone()?, Slot::always(kind))?;
     }
     Ok(())
 }
@@ -459,26 +442,9 @@ fn set(
         (slots_view environment.old.entries)) }
 {
     let slot = if is_certain {
-        certain(kind)
+        Slot::always(kind)
     } else {
         joined(alloc, find(environment, name.as_str()), kind)?
     };
-    put(environment, name.clone()?, slot)
-}
-
-fn certain(kind: Kind) -> Slot<Kind>
-    ensures { (result.presence ≡ Presence.Always) × (result.kind ≡ kind) }
-{
-    Slot {
-        presence: Presence::Always,
-        kind,
-    }
-}
-
-fn put(environment: &mut Slots, name: String, slot: Slot<Kind>) -> Result<(), AllocError>
-    ensures { OnOk result (slots_view environment.new.entries
-        ≡ put_slot (string_bytes name) (is_always slot.presence) (kind_view slot.kind) (slots_view environment.old.entries)) }
-{
-    drop(environment.insert(name, slot)?);
-    Ok(())
+    put_slot(environment, name.clone()?, slot)
 }

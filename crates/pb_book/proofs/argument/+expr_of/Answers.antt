@@ -12,7 +12,7 @@ use Rattle.pb_expr.specs.declared.expr.Expr.{Expr, the_lemmas}
 use Rattle.pb_expr.proofs.Parsed.{are_simple-push}
 use Rattle.pb_book.specs.Reading.{as_record, holds_opening, items_of, some_field_holds, parts_of, value_of, with_item, with_part}
 use Rattle.pb_book.proofs.Built.{refused-exit, items_before, items_before-none, items_before-all, items_before-push, items_of-next, parts_before, parts_before-none, parts_before-all, parts_before-entry, insert-next, entry_names-push}
-use Rattle.pb_book.proofs.Copies.{view-fields}
+use Rattle.pb_value.proofs.Views.{view-fields}
 use Rattle.pb_book.proofs.Ordered.{entry_names}
 use Rattle.pb_book.proofs.Plain.{parts_simple-insert}
 use Rattle.pb_book.proofs.argument.+expr_of.Goals as goal
@@ -31,7 +31,7 @@ pub expr_of-returns-in_err-record_of-in-Rec-clause-given :
     goal.expr_of-returns-in_err-record_of-in-Rec-clause-given
 expr_of-returns-in_err-record_of-in-Rec-clause-given t c =
     let holding = record_of-holding c.args.value.now _ _ _ c.in-Rec.is c.deref-in-Rec.ensures c.holds_template.ensures c.if-not-holds_template.false in
-    refused-exit (λ (parts : BTreeMap (String Global) Expr). parts_view parts.entries) expr_view _ _ _ _ c.from_residual-in_err-record_of-in-Rec.ensures.1 c.in_err-record_of-in-Rec.ensures.given
+    refused-exit expr_view _ _ _ _ c.from_residual-in_err-record_of-in-Rec.ensures.1 c.in_err-record_of-in-Rec.ensures.given
     (λ none. holding ∙ ap as_record none)
 
 pub expr_of-returns-in_ok-record_of-in-Rec-clause-given :
@@ -46,7 +46,7 @@ list_of-returns-in_err-expr_of-clause-given t c =
     let vs = c.deref-item-items.result.now in
     let v = c.item-item.result in
     let rest = items_of (items_view (drop (l.item-index + 1) vs)) in
-    refused-exit expr_view (λ (parts : Vec Expr Global). exprs_view parts.items) _ _ (value_of (view v)) (items_of (items_view c.args.items.now.items)) c.from_residual-in_err-expr_of.ensures.1
+    refused-exit (λ (parts : Vec Expr Global). exprs_view parts.items) _ _ (value_of (view v)) (items_of (items_view c.args.items.now.items)) c.from_residual-in_err-expr_of.ensures.1
     c.in_err-expr_of.ensures.given (λ none. ap (λ (xs : List Value). items_of (items_view xs)) (sym c.deref-item-items.ensures.value) ∙ l.invariant.given ∙ ap (items_before (exprs_view l.parts.items)) (items_of-next vs l.item-index v c.loop-item-test.true c.item-item.is ∙ ap (λ x. with_item x rest) none) ∙ items_before-none (exprs_view l.parts.items))
 
 pub list_of-loop-item-preserved : goal.list_of-loop-item-preserved
@@ -77,7 +77,7 @@ record_of-returns-in_err-expr_of-clause-given t c =
     let v = c.in-Some.value.now in
     let rest = parts_of (fields_view c.next.new.self) in
     let done = parts_view l.parts.entries in
-    refused-exit expr_view (λ (parts : BTreeMap (String Global) Expr). parts_view parts.entries) _ _ (value_of (view v)) (parts_of (fields_view c.args.fields.now.entries)) c.from_residual-in_err-expr_of.ensures.1
+    refused-exit (λ (parts : BTreeMap (String Global) Expr). parts_view parts.entries) _ _ (value_of (view v)) (parts_of (fields_view c.args.fields.now.entries)) c.from_residual-in_err-expr_of.ensures.1
     c.in_err-expr_of.ensures.given (λ none. l.invariant.given ∙ ap (λ es. parts_before done (parts_of (fields_view es))) c.in-Some.ensures.steps ∙ ap (λ x. parts_before done (with_part name x rest)) none ∙ parts_before-none done)
 
 pub record_of-loop-name-preserved : goal.record_of-loop-name-preserved

@@ -21,7 +21,7 @@ returns-in_err-argument_value-clause-given c =
     let v = c.in-Some.value.now in
     let rest = definition.arguments_of (fields_view c.next.new.self) in
     let done = argument_parts l.arguments.items in
-    refused-exit expr_view (λ (found : Vec Argument Global). argument_parts found.items) _ _ (argument_of (view v)) (definition.arguments_of (fields_view c.args.fields.now.entries))
+    refused-exit (λ (found : Vec Argument Global). argument_parts found.items) _ _ (argument_of (view v)) (definition.arguments_of (fields_view c.args.fields.now.entries))
     c.from_residual-in_err-argument_value.ensures.1 c.in_err-argument_value.ensures.given
     (λ none. l.invariant.given ∙ ap (λ es. parts_before done (definition.arguments_of (fields_view es))) c.in-Some.ensures.steps ∙ ap (λ x. parts_before done (with_part name x rest)) none ∙ parts_before-none done)
 

@@ -20,7 +20,7 @@ returns-in_err-tasks_in-clause-given c =
     let play = play_of-play ms _ _ _ _ c.in-Rec.is c.deref.ensures c.is_play.ensures c.if-not-is_play.false in
     let tasks : option_map view c.remove-tasks.result ≡ field_value (codes "tasks") (fields_view c.in-Rec.fields.value.entries) =
     ap (option_map view) c.remove-tasks.ensures.value ∙ view-lookup (codes "tasks") c.in_ok-fields.fields.entries ∙ ap (field_value (codes "tasks")) c.in_ok-fields.ensures in
-    refused-exit (λ (ts : Vec Task Global). plain_tasks ts.items) (λ (p : Play). plain_tasks p.tasks.items) _ _ _ _ c.from_residual-in_err-tasks_in.ensures.1 c.in_err-tasks_in.ensures.given
+    refused-exit (λ (p : Play). plain_tasks p.tasks.items) _ _ _ _ c.from_residual-in_err-tasks_in.ensures.1 c.in_err-tasks_in.ensures.given
     (λ none. play ∙ ap (few_tasks ms) (sym tasks) ∙ none)
 
 pub returns-clause-given : goal.returns-clause-given

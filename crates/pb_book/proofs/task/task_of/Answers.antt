@@ -25,7 +25,7 @@ returns-in_err-work-clause-given c =
     let fs = fields_view c.in-Rec.fields.value.entries in
     let all = task_of-named ms c.args.line _ _ _ _ c.in-Rec.is c.deref.ensures c.is_named.ensures c.if-not-is_named.false in
     let same = ap (λ (m : Map). work_of ms (works_of (fields_view m.entries))) (sym c.deref-2.ensures) in
-    refused-exit (λ (w : Work × Vec Argument Global). meaning.work_of w.0 (argument_parts w.1.items)) plain_task _ _ _ _ c.from_residual.ensures.1 c.in_err-work.ensures.given
+    refused-exit plain_task _ _ _ _ c.from_residual.ensures.1 c.in_err-work.ensures.given
     (λ none. all ∙ ap (λ w. task_with c.args.line w (condition_of (field_value (codes "when") fs)) (register_of (field_value (codes "register") fs))) (same ∙ none))
 
 pub returns-in_err-condition_of-clause-given : goal.returns-in_err-condition_of-clause-given
@@ -37,7 +37,7 @@ returns-in_err-condition_of-clause-given c =
     let same = ap (λ (m : Map). condition_of (field_value (codes "when") (fields_view m.entries))) (sym c.deref-3.ensures) in
     let work = work_of ms (works_of fs) in
     let register = register_of (field_value (codes "register") fs) in
-    refused-exit condition_view plain_task _ _ _ _ c.from_residual-in_err-condition_of.ensures.1 c.in_err-condition_of.ensures.given
+    refused-exit plain_task _ _ _ _ c.from_residual-in_err-condition_of.ensures.1 c.in_err-condition_of.ensures.given
     (λ none. all ∙ ap (λ es. task_with l work es register) (same ∙ none) ∙ no_condition l work register)
 
 pub returns-in_err-register_of-clause-given : goal.returns-in_err-register_of-clause-given
@@ -49,7 +49,7 @@ returns-in_err-register_of-clause-given c =
     let same = ap (λ (m : Map). register_of (field_value (codes "register") (fields_view m.entries))) (sym c.deref-4.ensures) in
     let work = work_of ms (works_of fs) in
     let condition = condition_of (field_value (codes "when") fs) in
-    refused-exit (λ (register : Option (Arc (String Global) Global)). option_map (λ n. string_bytes n.value) register) plain_task _ _ _ _ c.from_residual-in_err-register_of.ensures.1 c.in_err-register_of.ensures
+    refused-exit plain_task _ _ _ _ c.from_residual-in_err-register_of.ensures.1 c.in_err-register_of.ensures
     (λ none. all ∙ ap (λ n. task_with l work condition n) (same ∙ none) ∙ no_register l work condition)
 
 pub returns-clause-given : goal.returns-clause-given

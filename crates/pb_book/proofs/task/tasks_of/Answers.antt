@@ -52,7 +52,7 @@ returns-in_err-task_of-clause-given c =
     let all = into_iter_items l.item-iterator in
     let rest = into_iter_items c.next.new.self in
     let others = definition.tasks_of ms (l.line + 1) (items_view rest) in
-    refused-exit plain_task (λ (ts : Vec Task Global). plain_tasks ts.items) _ _ (task_of ms l.line (view c.in-Some.item)) (few_tasks ms (Some (list (items_view vs)))) c.from_residual-in_err-task_of.ensures.1
+    refused-exit (λ (ts : Vec Task Global). plain_tasks ts.items) _ _ (task_of ms l.line (view c.in-Some.item)) (few_tasks ms (Some (list (items_view vs)))) c.from_residual-in_err-task_of.ensures.1
     c.in_err-task_of.ensures.given
     (λ none. few_tasks-short ms vs (omega arith) ∙ l.invariant.given ∙ ap (tasks_before (plain_tasks l.tasks.items)) (tasks_of-next ms l.line all rest c.in-Some.item c.in-Some.ensures.steps.0 ∙ ap (λ x. with_task x others) none)
     ∙ tasks_before-none (plain_tasks l.tasks.items))

@@ -2,8 +2,7 @@ use Rattle.std.proofs.Common.{◌≡◌, ◌∙◌, Some, arith, ap, sym}
 use Rattle.pb_value.specs.View.{view, fields_view}
 use Rattle.pb_sig.specs.Modules.{modules_of}
 use Rattle.pb_book.specs.Meaning.{argument_parts}
-use Rattle.pb_book.specs.Reading.{work_with, works_of}
-use Rattle.pb_book.specs.Results.{lone}
+use Rattle.pb_book.specs.Reading.{work_with, works_of, lone}
 use Rattle.pb_book.proofs.Works.{work_of-lone}
 use Rattle.pb_book.proofs.task.work_in.Goals as goal
 

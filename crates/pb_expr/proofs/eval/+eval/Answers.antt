@@ -19,8 +19,8 @@ use Rattle.pb_expr.proofs.eval.+eval.Goals as goal
 pub all_of-loop-operand-preserved : goal.all_of-loop-operand-preserved
 all_of-loop-operand-preserved g t c =
     c.loop-operand.invariant
-    ∙ all-turn (g.V.Vars.world c.args.vars.now) c.deref-operand-items.result.now c.loop-operand.operand-index c.operand-item.result c.in_ok-found.found c.truth_of.result
-    c.loop-operand-test.true c.operand-item.is c.in_ok-found.ensures c.truth_of.ensures (c.in-Some-true.is ∙ ap Some c.in-Some-true.field-0-test)
+    ∙ all-turn (g.V.Vars.world c.args.vars.now) c.deref-operand-items.result.now c.loop-operand.operand-index c.operand-item.result c.in_ok-found.found c.as_bool.result
+    c.loop-operand-test.true c.operand-item.is c.in_ok-found.ensures c.as_bool.ensures (c.in-Some-true.is ∙ ap Some c.in-Some-true.field-0-test)
 
 pub all_of-returns : goal.all_of-returns
 all_of-returns g t c =
@@ -32,8 +32,8 @@ all_of-returns g t c =
 pub any_of-loop-operand-preserved : goal.any_of-loop-operand-preserved
 any_of-loop-operand-preserved g t c =
     c.loop-operand.invariant
-    ∙ any-turn (g.V.Vars.world c.args.vars.now) c.deref-operand-items.result.now c.loop-operand.operand-index c.operand-item.result c.in_ok-found.found c.truth_of.result
-    c.loop-operand-test.true c.operand-item.is c.in_ok-found.ensures c.truth_of.ensures (c.in-Some-false.is ∙ ap Some c.in-Some-false.field-0-test)
+    ∙ any-turn (g.V.Vars.world c.args.vars.now) c.deref-operand-items.result.now c.loop-operand.operand-index c.operand-item.result c.in_ok-found.found c.as_bool.result
+    c.loop-operand-test.true c.operand-item.is c.in_ok-found.ensures c.as_bool.ensures (c.in-Some-false.is ∙ ap Some c.in-Some-false.field-0-test)
 
 pub any_of-returns : goal.any_of-returns
 any_of-returns g t c =
@@ -75,32 +75,32 @@ all_of-returns-in-Some-false g t c =
     let w = g.V.Vars.world c.args.vars.now in
     view-Bool false
     ∙ sym (ap (λ xs. shown (eval_all w (exprs_view xs))) (sym c.deref-operand-items.ensures.value) ∙ ap shown c.loop-operand.invariant
-    ∙ all-stops w c.deref-operand-items.result.now c.loop-operand.operand-index c.operand-item.result c.in_ok-found.found c.truth_of.result
-    c.loop-operand-test.true c.operand-item.is c.in_ok-found.ensures c.truth_of.ensures (c.in-Some-false.is ∙ ap Some c.in-Some-false.field-0-test))
+    ∙ all-stops w c.deref-operand-items.result.now c.loop-operand.operand-index c.operand-item.result c.in_ok-found.found c.as_bool.result
+    c.loop-operand-test.true c.operand-item.is c.in_ok-found.ensures c.as_bool.ensures (c.in-Some-false.is ∙ ap Some c.in-Some-false.field-0-test))
 
 pub all_of-returns-in-None : goal.all_of-returns-in-None
 all_of-returns-in-None g t c =
     let w = g.V.Vars.world c.args.vars.now in
     view-Opaque
     ∙ sym (ap (λ xs. shown (eval_all w (exprs_view xs))) (sym c.deref-operand-items.ensures.value) ∙ ap shown c.loop-operand.invariant
-    ∙ all-spoilt w c.deref-operand-items.result.now c.loop-operand.operand-index c.operand-item.result c.in_ok-found.found c.truth_of.result
-    c.loop-operand-test.true c.operand-item.is c.in_ok-found.ensures c.truth_of.ensures c.in-None.is)
+    ∙ all-spoilt w c.deref-operand-items.result.now c.loop-operand.operand-index c.operand-item.result c.in_ok-found.found c.as_bool.result
+    c.loop-operand-test.true c.operand-item.is c.in_ok-found.ensures c.as_bool.ensures c.in-None.is)
 
 pub any_of-returns-in-Some-true : goal.any_of-returns-in-Some-true
 any_of-returns-in-Some-true g t c =
     let w = g.V.Vars.world c.args.vars.now in
     view-Bool true
     ∙ sym (ap (λ xs. shown (eval_any w (exprs_view xs))) (sym c.deref-operand-items.ensures.value) ∙ ap shown c.loop-operand.invariant
-    ∙ any-stops w c.deref-operand-items.result.now c.loop-operand.operand-index c.operand-item.result c.in_ok-found.found c.truth_of.result
-    c.loop-operand-test.true c.operand-item.is c.in_ok-found.ensures c.truth_of.ensures (c.in-Some-true.is ∙ ap Some c.in-Some-true.field-0-test))
+    ∙ any-stops w c.deref-operand-items.result.now c.loop-operand.operand-index c.operand-item.result c.in_ok-found.found c.as_bool.result
+    c.loop-operand-test.true c.operand-item.is c.in_ok-found.ensures c.as_bool.ensures (c.in-Some-true.is ∙ ap Some c.in-Some-true.field-0-test))
 
 pub any_of-returns-in-None : goal.any_of-returns-in-None
 any_of-returns-in-None g t c =
     let w = g.V.Vars.world c.args.vars.now in
     view-Opaque
     ∙ sym (ap (λ xs. shown (eval_any w (exprs_view xs))) (sym c.deref-operand-items.ensures.value) ∙ ap shown c.loop-operand.invariant
-    ∙ any-spoilt w c.deref-operand-items.result.now c.loop-operand.operand-index c.operand-item.result c.in_ok-found.found c.truth_of.result
-    c.loop-operand-test.true c.operand-item.is c.in_ok-found.ensures c.truth_of.ensures c.in-None.is)
+    ∙ any-spoilt w c.deref-operand-items.result.now c.loop-operand.operand-index c.operand-item.result c.in_ok-found.found c.as_bool.result
+    c.loop-operand-test.true c.operand-item.is c.in_ok-found.ensures c.as_bool.ensures c.in-None.is)
 
 pub eval-returns-in-And : goal.eval-returns-in-And
 eval-returns-in-And g t c = rw (c.in-And.is, view-And c.in-And.operands) c.all_of.ensures
@@ -156,8 +156,8 @@ record_of-loop-name-preserved g t c =
     let all : c.args.fields.now.entries ≡ done ++ e ∷ left = inv.1 ∙ ap (λ es. done ++ es) c.in-Some.ensures.steps in
     let last = put_last (λ x. shown (eval w (expr_view x))) done e left (subst (λ es. IsStrictlySortedBy string_cmp (keys_of es)) all c.iter-name-items.ensures.ordered) in
     let told : view c.in-Some-readable.found ≡ shown (eval w (expr_view e.1)) = c.in-Some-readable.ensures.0 ∙ c.in_ok-found.ensures in
-    let stored : fields_view c.put.new.fields.entries ≡ fields_of (map (λ m. (m.0, shown (eval w (expr_view m.1)))) (done ++ e ∷ [])) =
-    c.in_ok-put-in-Some-readable.ensures ∙ rw (told, inv.2) last in (
+    let stored : fields_view c.put_field.new.fields.entries ≡ fields_of (map (λ m. (m.0, shown (eval w (expr_view m.1)))) (done ++ e ∷ [])) =
+    c.in_ok-put_field-in-Some-readable.ensures ∙ rw (c.in_ok-clone-in-Some-readable.ensures.cases, told, inv.2) last in (
       done ++ e ∷ [],
       all ∙ sym (append_assoc done (e ∷ []) left),
       stored,

@@ -1,11 +1,11 @@
 use Rattle.std.proofs.Common.{sym, ap, ◌∙◌}
 use Rattle.pb_semantics.specs.Kind.{spot}
-use Rattle.pb_value.specs.KindView.{kind_view, is_always}
+use Rattle.pb_value.specs.KindView.{kind_view}
 use Rattle.pb_expr.specs.FitView.{certain}
 use Rattle.pb_expr.proofs.fit.certain_kind.Goals as goal
 
-pub returns-in-Always : goal.returns-in-Always
-returns-in-Always c = sym (ap certain (sym c.in-Some.ensures) ∙ ap (λ p. certain (spot (is_always p) (kind_view c.in-Some.slot.now.kind))) c.in-Always.is)
+pub returns-then-is_always : goal.returns-then-is_always
+returns-then-is_always c = sym (ap certain (sym c.in_ok-slot.ensures) ∙ ap (λ a. certain (spot a (kind_view c.in_ok-slot.slot.now.kind))) (sym c.is_always.ensures ∙ c.if-is_always.true))
 
-pub returns-in-Maybe : goal.returns-in-Maybe
-returns-in-Maybe c = sym (ap certain (sym c.in-Some.ensures) ∙ ap (λ p. certain (spot (is_always p) (kind_view c.in-Some.slot.now.kind))) c.in-Maybe.is)
+pub returns-else-is_always : goal.returns-else-is_always
+returns-else-is_always c = sym (ap certain (sym c.in_ok-slot.ensures) ∙ ap (λ a. certain (spot a (kind_view c.in_ok-slot.slot.now.kind))) (sym c.is_always.ensures ∙ c.if-is_always.false))

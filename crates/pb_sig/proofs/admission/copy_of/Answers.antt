@@ -1,4 +1,4 @@
-use Rattle.pb_sig.proofs.Copies.{fields_view-copy}
+use Rattle.pb_value.proofs.Copies.{fields_view-copy}
 use Rattle.pb_sig.proofs.admission.copy_of.Goals as goal
 
 pub returns : goal.returns

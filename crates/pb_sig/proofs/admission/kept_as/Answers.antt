@@ -6,5 +6,5 @@ use Rattle.pb_sig.proofs.admission.kept_as.Goals as goal
 
 pub returns-in-Rec : goal.returns-in-Rec
 returns-in-Rec c =
-    let held = c.in_ok-value-in-Rec.ensures ∙ ap rec (c.in_ok-put-in-Rec.ensures ∙ ap (put_field (codes "failed") (boolean c.args.failed)) c.in_ok-owned-in-Rec.ensures) in
+    let held = c.in_ok-value-in-Rec.ensures ∙ ap rec (c.in_ok-put-in-Rec.ensures ∙ ap (put_field (codes "failed") (boolean c.args.failed)) c.in_ok-own_fields-in-Rec.ensures) in
     ap admission_view c.admitted.ensures ∙ ended-kept c.args.kept c.in-Rec.fields c.in_ok-value-in-Rec.value c.args.failed c.in-Rec.is held

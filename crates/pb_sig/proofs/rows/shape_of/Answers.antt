@@ -2,7 +2,6 @@ use Rattle.std.proofs.Common.{◌≡◌, ◌+◌, ◌<◌, ◌∷◌, arith, dro
 use Rattle.std.proofs.lemmas.List.{drop_all}
 use Rattle.pb_semantics.specs.Kind.{recs, put_slot}
 use Rattle.pb_value.specs.KindView.{kind_view, slots_view, is_always}
-use Rattle.pb_value.proofs.JoinLemmas.{slots_view-insert_entry}
 use Rattle.pb_value.proofs.Views.{kind_view-Rec}
 use Rattle.pb_sig.specs.Rows.{with_rows}
 use Rattle.pb_sig.proofs.rows.shape_of.Goals as goal
@@ -14,8 +13,8 @@ loop-row-preserved c =
     let r = c.row-item.result in
     let within : i < length c.args.rows.now = omega arith in
     let next : drop i c.args.rows.now ≡ r ∷ drop (i + 1) c.args.rows.now = rw (add-one, drop-cons c.args.rows.now i r, ← c.row-item.is) refl in
-    let put : slots_view c.insert.new.self.entries ≡ put_slot r.name.now (is_always r.presence) (kind_view r.kind) (slots_view l.fields.entries) = ap slots_view c.in_ok-insert.ensures.entries
-    ∙ slots_view-insert_entry l.fields.entries c.in_ok-name.name (record { presence = r.presence; kind = c.in_ok-clone.field-0 }) ∙ rw (c.in_ok-name.ensures.ok, c.in_ok-clone.ensures.cases) refl in
+    let put : slots_view c.put_slot.new.slots.entries ≡ put_slot r.name.now (is_always r.presence) (kind_view r.kind) (slots_view l.fields.entries) =
+    c.in_ok-put_slot.ensures ∙ rw (c.in_ok-name.ensures.ok, c.in_ok-clone.ensures.cases) refl in
     ap (λ ss. with_rows (drop (i + 1) c.args.rows.now) ss) put ∙ (rw next at l.invariant)
 
 pub returns : goal.returns

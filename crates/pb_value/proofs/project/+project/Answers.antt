@@ -1,11 +1,11 @@
-use Rattle.std.proofs.Common.{not, ◌≡◌, ◌≤◌, ◌<◌, [], ◌∷◌, ◌++◌, ◌+◌, length, drop, map, true, false, Some, None, string_bytes, refl, sym, ap, ◌∙◌, subst, append_assoc, arith, rules}
+use Rattle.std.proofs.Common.{◌≡◌, ◌≤◌, ◌<◌, [], ◌∷◌, ◌++◌, ◌+◌, length, drop, map, true, false, Some, None, string_bytes, refl, sym, ap, ◌∙◌, subst, append_assoc, arith, rules}
 use Rattle.pb_value.specs.declared.kind.Kind.{the_lemmas as kind_lemmas}
 use Rattle.pb_value.specs.declared.value.Value.{the_lemmas as value_lemmas}
 use Rattle.std.proofs.lemmas.Grind.{common_steps}
 use Rattle.std.specs.List.Sorted.{IsStrictlySortedBy}
 use Rattle.std.specs.Map.{keys_of}
 use Rattle.std.specs.String.{string_cmp}
-use Rattle.pb_semantics.specs.Data.{item, no_items, field, no_fields}
+use Rattle.pb_semantics.specs.Data.{item, no_items, field, no_fields, put_field}
 use Rattle.pb_semantics.specs.Keeps.{is_among}
 use Rattle.pb_semantics.specs.Project.{projected, projected_items, projected_fields, with_field}
 use Rattle.pb_value.specs.KindView.{kind_view, slots_view, is_always}
@@ -23,8 +23,8 @@ project_fields-loop-name-init t c =
     let same : c.into_iter-name-iterator.result ≡ c.args.slots.now.entries = c.into_iter-name-iterator.ensures.into_iter_gives ∙ c.iter-name-items.ensures.rest in
     ([], sym same, (λ e more h. rw c.new-found.ensures.empty tt), rw (c.new-found.ensures.empty, same) (sym (and_fields-nothing _)))
 
-pub project_fields-loop-name-preserved-in-Continue-branch-3 : goal.project_fields-loop-name-preserved-in-Continue-branch-3
-project_fields-loop-name-preserved-in-Continue-branch-3 t c =
+pub project_fields-loop-name-preserved-in_ok-put_field-in-Some-2 : goal.project_fields-loop-name-preserved-in_ok-put_field-in-Some-2
+project_fields-loop-name-preserved-in_ok-put_field-in-Some-2 t c =
     let l = c.loop-name.invariant in
     let done = l.0 in
     let fs = fields_view c.args.fields.now.entries in
@@ -38,7 +38,8 @@ project_fields-loop-name-preserved-in-Continue-branch-3 t c =
     let above : IsAbove n so_far = l.2 e left step in
     let there = rw c.as_str.ensures.value at c.in-Some-field_of.ensures in
     let fit = rw c.in-Some-2.is at c.in_ok-value-in-Some-field_of.ensures in
-    let put : fields_view c.put.new.fields.entries ≡ append_fields so_far (field n v no_fields) = c.in_ok-put-in-Some-2.ensures ∙ put_field-above n v so_far above in
+    let put : fields_view c.put_field.new.fields.entries ≡ append_fields so_far (field n v no_fields) =
+    c.in_ok-put_field-in-Some-2.ensures ∙ ap (λ m. put_field m v so_far) c.in_ok-clone-in-Some-2.ensures.cases ∙ put_field-above n v so_far above in
     let rest = projected_fields fs (slots_view left) in (
       done ++ e ∷ [],
       all ∙ sym (append_assoc done (e ∷ []) left),
@@ -68,7 +69,7 @@ project_fields-loop-name-preserved t c =
       (λ f more h. IsAbove-further (string_bytes f.0) n so_far (neighbours done e f more
           (subst (λ es. IsStrictlySortedBy string_cmp (keys_of es)) (all ∙ ap (λ es. done ++ e ∷ es) h) c.iter-name-items.ensures.ordered)) above),
       l.3 ∙ ap (λ es. and_fields so_far (projected_fields fs (slots_view es))) step ∙ ap (and_fields so_far) (projected_fields-missing fs e left (sym lacks))
-          ∙ ap (λ b. and_fields so_far (with_field n b None rest)) (c.may_lack.ensures ∙ ap not c.if-not-may_lack.false),
+          ∙ ap (λ b. and_fields so_far (with_field n b None rest)) (sym c.is_always.ensures ∙ c.if-is_always.false),
     )
 
 pub project_fields-returns : goal.project_fields-returns

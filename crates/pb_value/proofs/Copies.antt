@@ -1,17 +1,10 @@
--- What a list or a record stands for that is read from its block, or copied out of it.
-use Rattle.std.proofs.Common.{◌≡◌, List, [], ◌∷◌, String, Global, Vec, BTreeMap, string_bytes, ◌⊎◌, inl, inr, refl, sym, ap, ap₂, ◌∙◌}
+-- What a list or a record stands for that is copied out of its block.
+use Rattle.std.proofs.Common.{◌≡◌, List, [], ◌∷◌, String, Global, Vec, BTreeMap, string_bytes, ◌⊎◌, inl, inr, refl, ap, ap₂}
 use Rattle.std.specs.List.{AllZip}
-use Rattle.std.specs.declared.sync.Arc.{Arc}
-use Rattle.pb_semantics.specs.Data.{rec, field, item}
+use Rattle.pb_semantics.specs.Data.{field, item}
 use Rattle.pb_value.specs.View.{view, items_view, fields_view}
-use Rattle.pb_value.specs.declared.value.Value as Value-of
 use Rattle.pb_value.specs.declared.value.Value.{Value}
 use Rattle.pb_value.proofs.Fields.{Entry}
-use Rattle.pb_value.proofs.Views.{view-Rec}
-
--- the record that a value is
-pub view-fields : (v : Value) (fields : Arc (BTreeMap (String Global) Value) Global) (m : BTreeMap (String Global) Value) → v ≡ Value-of.Rec fields → m ≡ fields.value → view v ≡ rec (fields_view m.entries)
-view-fields v fields m is behind = ap view is ∙ view-Rec fields ∙ ap (λ (x : BTreeMap (String Global) Value). rec (fields_view x.entries)) (sym behind)
 
 items_view-copy : (vs ws : List Value) → AllZip (λ v w. view w ≡ view v) vs ws → items_view ws ≡ items_view vs
 items_view-copy [] [] h = refl
@@ -19,7 +12,7 @@ items_view-copy [] (w ∷ ws) h = absurd h
 items_view-copy (v ∷ vs) [] h = absurd h
 items_view-copy (v ∷ vs) (w ∷ ws) h = ap₂ item h.0 (items_view-copy vs ws h.1)
 
-fields_view-copy : (es ds : List Entry) → AllZip (λ e d. (string_bytes d.0 ≡ string_bytes e.0) × (view d.1 ≡ view e.1)) es ds → fields_view ds ≡ fields_view es
+pub fields_view-copy : (es ds : List Entry) → AllZip (λ e d. (string_bytes d.0 ≡ string_bytes e.0) × (view d.1 ≡ view e.1)) es ds → fields_view ds ≡ fields_view es
 fields_view-copy [] [] h = refl
 fields_view-copy [] (d ∷ ds) h = absurd h
 fields_view-copy (e ∷ es) [] h = absurd h

@@ -1,6 +1,8 @@
 // What the program does with its words: reads the files, judges, runs and prints.
 ghost use Rattle.std.specs.Prelude.{◌≡◌, ◌<◌, ◌≤◌, ◌+◌, ◌^◌, IfOk, false, true};
-ghost use Rattle.pb_strategy.specs.History.{is_ended, is_stopped};
+ghost use Rattle.pb_strategy.specs.Drives.{Drives};
+ghost use Rattle.pb_strategy.specs.History.{is_ended, is_stopped, opened};
+ghost use Rattle.pb_strategy.specs.Scripts.{IsFromFile, answers_in};
 ghost use Rattle.pb_strategy.specs.Sound.{IsSound};
 ghost use Rattle.pb_cli.specs.Options.{HasForks};
 
@@ -200,24 +202,30 @@ fn run_book<R: AllocGlobal + Print + Eprint>(
     status
 }
 
-// The run of the book to its end.
-fn ended_run<R: Runner>(
+// The run of the book to its end, whose calls the file answers; want of memory also where there was none to give an answer out.
+fn ended_run(
     alloc: Global,
     checked: &Checked,
     forks: u16,
-    runner: &mut R,
+    runner: &mut ScriptRunner,
 ) -> Result<Run, AllocError>
-    requires few { R.calls runner.old < 2 ^ 63 }
+    requires few { ⟦<ScriptRunner as Runner>⟧.calls runner.old < 2 ^ 63 }
     requires forks { 0 < forks }
     ensures sound { IfOk result (λ r. IsSound r) }
     ensures book { IfOk result (λ r. r.checked ≡ checked.now) }
     ensures forks { IfOk result (λ r. (0 < r.forks) × (r.forks ≤ forks)) }
     ensures ended { IfOk result (λ r. is_ended r ≡ true) }
     ensures going_on { IfOk result (λ r. is_stopped r.history ≡ false) }
-    ensures made { IfOk result (λ r. R.calls runner.new ≡ R.calls runner.old + r.handed) }
+    ensures made { IfOk result (λ r. ⟦<ScriptRunner as Runner>⟧.calls runner.new
+        ≡ ⟦<ScriptRunner as Runner>⟧.calls runner.old + r.handed) }
+    ensures answered { IfOk result (λ r. Drives (IsFromFile (answers_in runner.old)) (opened checked.now r.forks) runner.old
+        r runner.new) }
 {
     let mut run = Run::open(alloc, checked, workers_of(forks, checked.hosts()))?;
     drive(&mut run, runner)?;
+    if runner.is_short() {
+        return Err(AllocError);
+    }
     Ok(run)
 }
 

@@ -7,7 +7,8 @@ import time
 from pathlib import Path
 from statistics import median
 
-PROGRAM = Path(__file__).resolve().parent.parent / "crates/pb_cli/out/pb_cli"
+TOP = Path(__file__).resolve().parent.parent
+PROGRAM = TOP / "crates/pb_cli/out/pb_cli"
 LARGE, SMALL = 4094, 1023
 ROUNDS = 21
 
@@ -111,6 +112,13 @@ def start_up(found):
     print(f"start-up over /bin/true: {empty / nothing:.2f} times ({ms(empty)} over {ms(nothing)}); no bar")
 
 
+def launcher(found):
+    """What ./playcheck takes over the program itself, with the program that it picks."""
+    through, alone = found["launcher"].seconds, found["empty"].seconds
+    detail = f"{ms(through)} less {ms(alone)}"
+    line("launcher over the program", f"{ms(through - alone)} ({detail})", "at most 20 ms", through - alone <= 0.020)
+
+
 def against_json_load(found):
     check, process = found["check"], found["python"]
     load = median(float(seconds) for seconds in found["load"].printed)
@@ -147,6 +155,7 @@ def commands(program, folder):
     return {
         "nothing": (["/bin/true"], None),
         "empty": ([program, "check", empty, "-i", inventory], "accepted budget 0\n"),
+        "launcher": ([str(TOP / "playcheck"), "check", empty, "-i", inventory], "accepted budget 0\n"),
         "python": ([sys.executable, "-c", LOAD, book], None),
         "load": ([sys.executable, "-c", TIMED_LOAD, book], None),
         "small": ([program, "check", small, "-i", inventory], f"accepted budget {(SMALL + 1) // 2}\n"),
@@ -162,6 +171,7 @@ def main():
     with tempfile.TemporaryDirectory() as folder:
         found = in_rounds(commands(program, folder))
     start_up(found)
+    launcher(found)
     against_json_load(found)
     growth(found)
     steps(found)

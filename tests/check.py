@@ -3,11 +3,21 @@ import base64
 import os
 import subprocess
 import tempfile
+import threading
+import time
 from dataclasses import dataclass, field
 from typing import Callable, Optional
 
 TIMEOUT = 20
 FOLDER = object()  # stands for a folder, in the place of a file's bytes
+PAUSE = 0.02
+
+
+@dataclass(frozen=True)
+class Pieces:
+    """In the place of a file's bytes: a pipe into which these texts are written one by one, with a pause after each."""
+
+    texts: tuple
 
 
 @dataclass
@@ -61,8 +71,19 @@ def write_files(folder, files):
         if content is FOLDER:
             os.mkdir(path)
             continue
+        if isinstance(content, Pieces):
+            os.mkfifo(path)
+            threading.Thread(target=feed, args=(path, content.texts), daemon=True).start()
+            continue
         with open(path, "wb") as file:
             file.write(bytes_of(content))
+
+
+def feed(path, texts):
+    with open(path, "wb", buffering=0) as pipe:
+        for text in texts:
+            pipe.write(text.encode())
+            time.sleep(PAUSE)
 
 
 def outcome_of(program, check):

@@ -4,7 +4,7 @@ import os
 import random
 import re
 
-from check import FOLDER, Check, exactly
+from check import FOLDER, Check, Pieces, exactly
 
 ONE_HOST = '{"all":{"hosts":["h1"]}}'
 PING_BOOK = '[{"hosts":"all","tasks":[{"ping":null,"register":"p","when":"1 == 1"}]}]'
@@ -27,6 +27,7 @@ def program_checks(top):
         *long_forms(),
         *unreadable_files(),
         *unwritable_output(),
+        *pipes(),
         *not_json(),
         *odd_json(),
         *answer_shapes(),
@@ -196,6 +197,18 @@ def unwritable_output():
         Check("full-verdict", CHECK, unwritten, FILES, "/dev/full"),
         Check("full-refusal", CHECK, unwritten, refusal, "/dev/full"),
         Check("full-recap", RUN, unwritten, FILES, "/dev/full"),
+    ]
+
+
+def pipes():
+    """Files that come in pieces: a read that gives little isn't the end."""
+    book = Pieces(tuple(PING_BOOK))
+    inventory = Pieces(("{", '"all":{"hosts":["h1"]}', "}", " " * 5000, "\n"))
+    accepted = exactly("accepted budget 1\n", 0)
+    return [
+        Check("pipe-book", CHECK, accepted, {**FILES, "book": book}),
+        Check("pipe-inventory", CHECK, accepted, {**FILES, "book": PING_BOOK, "inventory": inventory}),
+        Check("pipe-cut", CHECK, refused("P01"), {**FILES, "book": Pieces(("[", "[]"))}),
     ]
 
 

@@ -1,0 +1,46 @@
+# Checks of the sources themselves: python3 tests/house_checks.py.
+import re
+import sys
+from pathlib import Path
+
+TOP = Path(__file__).resolve().parent.parent
+CITES_A_PROOF = re.compile(r"^\s*(pub |ghost )*use \S*\.proofs\.")
+NOT_BUILT = re.compile(r"^(\S+) of the cases of `tests/cases` aren't built yet", re.M)
+
+
+def sources():
+    for folder in ["src", "specs"]:
+        for kind in ["*.rt", "*.antt"]:
+            yield from sorted((TOP / "crates").glob(f"*/{folder}/**/{kind}"))
+
+
+def proofs_cited():
+    """What is cited of proofs/ by a file of src/ or specs/: there may be nothing, since what they cite is a definition."""
+    for path in sources():
+        for number, line in enumerate(path.read_text(encoding="utf-8").splitlines(), 1):
+            if CITES_A_PROOF.match(line):
+                yield f"{path.relative_to(TOP)}:{number}: {line.strip()}"
+
+
+def wrong_counts():
+    """README says how many cases aren't built yet, as tests/not_built_yet does."""
+    wanted = (TOP / "tests/not_built_yet").read_text().strip()
+    said = NOT_BUILT.findall((TOP / "README.md").read_text(encoding="utf-8"))
+    if [number.replace(",", "") for number in said] != [wanted]:
+        yield f"README.md says {said} of the cases that aren't built yet, tests/not_built_yet {wanted}"
+
+
+def main():
+    checks = [("a file of src/ or specs/ cites a proof", proofs_cited), ("a count is wrong", wrong_counts)]
+    failed = 0
+    for name, search in checks:
+        found = list(search())
+        failed += bool(found)
+        for line in found:
+            print(f"FAILED: {name}: {line}")
+    print(f"{len(checks) - failed} passed, {failed} failed")
+    return 1 if failed else 0
+
+
+if __name__ == "__main__":
+    sys.exit(main())

@@ -2,7 +2,7 @@
 ghost use Rattle.std.specs.Prelude.{◌≡◌, Ok, Err, IfOk, is_some, true, false};
 ghost use Rattle.pb_language.specs.Judged.{judged};
 ghost use Rattle.pb_language.specs.Verdict.{accepted};
-ghost use Rattle.pb_sig.specs.Table.{builtins};
+ghost use Rattle.pb_sig.specs.Table.{built_modules};
 ghost use Rattle.pb_sig.specs.Modules.{modules_of};
 ghost use Rattle.pb_inventory.specs.Inventory.{inventory_view};
 ghost use Rattle.pb_book.specs.Books.{book_of, plays_of};
@@ -106,10 +106,10 @@ pub fn judge(
     ensures verdict { is_some signatures.entry ≡ false → Tells result (found inventory.now book.now) }
     ensures read { IfOk result (λ c. inventory_verdict inventory.now ≡ Ok (inventory_view c.inventory)) }
     ensures book_read { IfOk result (λ c. book_verdict book.now ≡ Ok (book_of c.book)) }
-    ensures modules { IfOk result (λ c. modules_of c.registry ≡ builtins) }
-    ensures known { IfOk result (λ c. names_known builtins (plays_of c.book) ≡ true) }
+    ensures modules { IfOk result (λ c. modules_of c.registry ≡ built_modules) }
+    ensures known { IfOk result (λ c. names_known built_modules (plays_of c.book) ≡ true) }
     ensures accepted { IfOk result (λ c.
-        judged builtins (inventory_of (inventory_view c.inventory)) (book_of c.book) ≡ accepted c.budget) }
+        judged built_modules (inventory_of (inventory_view c.inventory)) (book_of c.book) ≡ accepted c.budget) }
 {
     if signatures.is_some() {
         return Err(whole(Code::N00));

@@ -246,7 +246,7 @@ def module_term(module):
     ]
     return (
         f"record {{ name = {codes(module['name'])}; params = {listed(params)}; ok = recs {slots_term(module['ok'])}; "
-        f"failure = recs {slots_term(module['failure'])} }}"
+        f"failure = recs {slots_term(module['failure'])}; free = None }}"
     )
 
 

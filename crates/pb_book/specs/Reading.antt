@@ -98,12 +98,25 @@ abbrev pub arguments_of : Fields → Option Parts
 arguments_of no_fields = Some no_parts
 arguments_of (field n d fs) = with_part n (argument_of d) (arguments_of fs)
 
--- what stands at the key of a module or an action: nothing, its arguments, or the words of a command
-abbrev pub given_arguments : Name → Data → Option Parts
-given_arguments k null = Some no_parts
-given_arguments k (rec fs) = arguments_of fs
-given_arguments k (text bs) = cond (bytes_eq k (codes "command")) (with_part (codes "cmd") (argument_of (text bs)) (Some no_parts)) None
-given_arguments k d = None
+abbrev pub module_free : Option ModuleData → Option Name
+module_free None = None
+module_free (Some m) = m.free
+
+-- the parameter that a text in place of the arguments stands for; an action has none
+abbrev pub free_form : List ModuleData → Name → Option Name
+free_form ms k = cond (bytes_eq k (codes "debug")) None (cond (bytes_eq k (codes "set_fact")) None (module_free (module_at k ms)))
+
+-- the value is that argument whole, where there is such a parameter
+abbrev pub whole_argument : Option Name → Data → Option Parts
+whole_argument None d = None
+whole_argument (Some n) d = with_part n (argument_of d) (Some no_parts)
+
+-- what stands at the key of a module or an action: nothing, its arguments, or a text for the parameter of its free form
+abbrev pub given_arguments : Option Name → Data → Option Parts
+given_arguments free null = Some no_parts
+given_arguments free (rec fs) = arguments_of fs
+given_arguments free (text bs) = whole_argument free (text bs)
+given_arguments free d = None
 
 abbrev pub module_or_none : Option ModuleData → Name → Parts → Option language.Work
 module_or_none None k ps = None
@@ -130,7 +143,7 @@ lone (field k d fs) = None
 -- exactly one of them is there
 abbrev pub work_of : List ModuleData → Fields → Option language.Work
 work_of ms no_fields = None
-work_of ms (field k d no_fields) = work_with ms k (given_arguments k d)
+work_of ms (field k d no_fields) = work_with ms k (given_arguments (free_form ms k) d)
 work_of ms (field k d fs) = None
 
 -- a text that isn't too long, if there is one

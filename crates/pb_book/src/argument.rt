@@ -64,15 +64,19 @@ pub(crate) fn arguments_of(alloc: Global, fields: &Fields) -> Result<Vec<Argumen
     Ok(arguments)
 }
 
-/// The argument `cmd` with that value.
-pub(crate) fn command_line(alloc: Global, value: &Value) -> Result<Vec<Argument>, FormFault>
+/// The one argument of that name, with that value.
+pub(crate) fn lone_argument(
+    alloc: Global,
+    name: &str,
+    value: &Value,
+) -> Result<Vec<Argument>, FormFault>
     ensures given { Gives (λ found. Some (argument_parts found.items)) refused result
-        (with_part (codes "cmd") (argument_of (view value.now)) (Some no_parts)) }
+        (with_part name.now (argument_of (view value.now)) (Some no_parts)) }
     ensures simple { IfOk result (λ found. parts_simple (argument_parts found.items) ≡ true) }
     ensures ordered { IfOk result (λ found. are_ascending (argument_names found.items) ≡ true) }
 {
     let argument = Argument {
-        name: Arc::new(alloc, String::from_str(alloc, "cmd")?)?,
+        name: Arc::new(alloc, String::from_str(alloc, name)?)?,
         value: argument_value(alloc, value)?,
     };
     Ok(vec![in alloc; argument]?)

@@ -21,6 +21,7 @@ ghost use Rattle.pb_book.specs.Meaning.{argument_parts, condition_view, plain_ta
 ghost use Rattle.pb_book.specs.Reading.{
   condition_of,
   few_tasks,
+  free_form,
   given_arguments,
   is_named,
   keywords,
@@ -32,12 +33,13 @@ ghost use Rattle.pb_book.specs.Reading.{
   works_of,
 };
 
-use crate::argument::{MOST_EXPRESSION_BYTES, MOST_TEXT_BYTES, arguments_of, command_line};
+use crate::argument::{MOST_EXPRESSION_BYTES, MOST_TEXT_BYTES, arguments_of, lone_argument};
 use crate::book::{Argument, Task, Work};
 use crate::fault::FormFault;
 use pb_expr::expr::Expr;
 use pb_expr::parse::parse_expr;
 use pb_sig::registry::Registry;
+use pb_sig::signature::Module;
 use pb_value::value::{Fields, Value, field_of};
 use std::alloc::Global;
 use std::sync::Arc;
@@ -115,8 +117,8 @@ fn work_in(
     ensures ordered { IfOk result (λ w. are_ascending (argument_names w.1.items) ≡ true) }
 {
     let (key, given) = work_entry(fields).ok_or(FormFault::NotBuilt)?;
-    let work = work_of(key, registry)?;
-    let arguments = given_arguments(alloc, key, given)?;
+    let (work, free) = work_of(key, registry)?;
+    let arguments = given_arguments(alloc, free, given)?;
     Ok((work, arguments))
 }
 
@@ -154,35 +156,47 @@ fn is_keyword(key: &str) -> bool
     key == "name" || key == "register" || key == "when"
 }
 
-/// The action or the module of that name.
-fn work_of(key: &str, registry: &Registry) -> Result<Work, FormFault>
-    ensures given { (ps : Parts) → Gives (λ w. Some (work_of w ps)) refused result
+/// The action or the module of that name, and the parameter that a text in place of its arguments stands for, if any.
+fn work_of<'a>(key: &str, registry: &'a Registry) -> Result<(Work, Option<&'a str>), FormFault>
+    ensures given { (ps : Parts) → Gives (λ w. Some (work_of w.0 ps)) refused result
         (work_with (modules_of registry.now) key.now (Some ps)) }
-    ensures known { IfOk result (λ w. is_known (modules_of registry.now) w ≡ true) }
+    ensures known { IfOk result (λ w. is_known (modules_of registry.now) w.0 ≡ true) }
+    ensures free { IfOk result (λ w. option_map (λ n. n.now) w.1
+        ≡ free_form (modules_of registry.now) key.now) }
 {
     if key == "debug" {
-        return Ok(Work::Debug);
+        return Ok((Work::Debug, None));
     }
     if key == "set_fact" {
-        return Ok(Work::SetFact);
+        return Ok((Work::SetFact, None));
     }
     match registry.find(key) {
-        Some(found) => Ok(Work::Module(found.shared_name().clone()?)),
+        Some(found) => Ok((
+            Work::Module(found.shared_name().clone()?),
+            found.free_form(),
+        )),
         None => Err(FormFault::NotBuilt),
     }
 }
 
-/// The arguments that stand at the key of a module or an action.
-fn given_arguments(alloc: Global, key: &str, given: &Value) -> Result<Vec<Argument>, FormFault>
+/// The arguments that stand at the key of a module or an action, whose free form is that parameter.
+fn given_arguments(
+    alloc: Global,
+    free: Option<&str>,
+    given: &Value,
+) -> Result<Vec<Argument>, FormFault>
     ensures given { Gives (λ found. Some (argument_parts found.items)) refused result
-        (given_arguments key.now (view given.now)) }
+        (given_arguments (option_map (λ n. n.now) free.entry) (view given.now)) }
     ensures simple { IfOk result (λ found. parts_simple (argument_parts found.items) ≡ true) }
     ensures ordered { IfOk result (λ found. are_ascending (argument_names found.items) ≡ true) }
 {
     match given {
         Value::Null => Ok(Vec::new(alloc)),
         Value::Rec(fields) => arguments_of(alloc, fields),
-        Value::Text(_) if key == "command" => command_line(alloc, given),
+        Value::Text(_) => match free {
+            Some(name) => lone_argument(alloc, name, given),
+            None => Err(FormFault::NotBuilt),
+        },
         _ => Err(FormFault::NotBuilt),
     }
 }

@@ -6,7 +6,7 @@ use Rattle.pb_language.specs.Book.{Book as BookData}
 use Rattle.pb_language.specs.Judged.{judged}
 use Rattle.pb_language.specs.Verdict.{accepted}
 use Rattle.pb_value.specs.FromJson.{json_data}
-use Rattle.pb_sig.specs.Table.{builtins}
+use Rattle.pb_sig.specs.Table.{built_modules}
 use Rattle.pb_inventory.specs.Hosts.{InventoryData, inventory_of}
 use Rattle.pb_inventory.specs.Inventory.{inventory_view}
 use Rattle.pb_inventory.specs.declared.inventory.Inventory.{Inventory}
@@ -88,13 +88,13 @@ module _ (bs : List ℕ) where
 
   -- and of the reader of books
   module _ (r : Result Book BookFault) (large : 4194304 < length bs → r ≡ Err book.NotBuilt) where
-    pub book_read : (b : Book) → r ≡ Ok b → (d : Data) × (json_data bs ≡ Some d) × (book_from builtins d ≡ Some (book_of b)) → book_verdict bs ≡ Ok (book_of b)
-    book_read b e found = is_read P01 (book_from builtins) bs (book_of b) (λ l. let clash = sym e ∙ large l in cc) found
+    pub book_read : (b : Book) → r ≡ Ok b → (d : Data) × (json_data bs ≡ Some d) × (book_from built_modules d ≡ Some (book_of b)) → book_verdict bs ≡ Ok (book_of b)
+    book_read b e found = is_read P01 (book_from built_modules) bs (book_of b) (λ l. let clash = sym e ∙ large l in cc) found
 
     pub book_says : (f : BookFault) → r ≡ Err f → (f ≡ book.NotJson → json_data bs ≡ None)
-        → (f ≡ book.NotBuilt → length bs ≤ 4194304 → (d : Data) × (json_data bs ≡ Some d) × (book_from builtins d ≡ None)) → BookSays f (book_verdict bs)
-    book_says book.NotJson e none other = is_no_json P01 (book_from builtins) bs (λ l. let clash = sym e ∙ large l in cc) (none refl)
-    book_says book.NotBuilt e none other = is_not_built P01 (book_from builtins) bs (other refl)
+        → (f ≡ book.NotBuilt → length bs ≤ 4194304 → (d : Data) × (json_data bs ≡ Some d) × (book_from built_modules d ≡ None)) → BookSays f (book_verdict bs)
+    book_says book.NotJson e none other = is_no_json P01 (book_from built_modules) bs (λ l. let clash = sym e ∙ large l in cc) (none refl)
+    book_says book.NotBuilt e none other = is_not_built P01 (book_from built_modules) bs (other refl)
     book_says book.NoMemory e none other = tt
 
 -- the answer where the inventory isn't read
@@ -110,11 +110,11 @@ tells_book i book.NotBuilt v w read says = rw (read, says) (inl refl)
 tells_book i book.NoMemory v w read says = no_memory (found_by v w)
 
 -- where both are
-pub tells_refused : (i : InventoryData) (b : BookData) (e : VerifyFault) (v : Result InventoryData Code) (w : Result BookData Code) → v ≡ Ok i → w ≡ Ok b → Judges e (judged builtins (inventory_data i) b) → Tells (Err (of_verify e)) (found_by v w)
+pub tells_refused : (i : InventoryData) (b : BookData) (e : VerifyFault) (v : Result InventoryData Code) (w : Result BookData Code) → v ≡ Ok i → w ≡ Ok b → Judges e (judged built_modules (inventory_data i) b) → Tells (Err (of_verify e)) (found_by v w)
 tells_refused i b (verify.Refused r) v w read read_book judges = rw (read, read_book) judges
 tells_refused i b verify.NoMemory v w read read_book judges = no_memory (found_by v w)
 
-pub tells_accepted : (i : InventoryData) (b : BookData) (a : Accepted) (v : Result InventoryData Code) (w : Result BookData Code) → v ≡ Ok i → w ≡ Ok b → judged builtins (inventory_data i) b ≡ accepted a.budget → Tells (Ok a) (found_by v w)
+pub tells_accepted : (i : InventoryData) (b : BookData) (a : Accepted) (v : Result InventoryData Code) (w : Result BookData Code) → v ≡ Ok i → w ≡ Ok b → judged built_modules (inventory_data i) b ≡ accepted a.budget → Tells (Ok a) (found_by v w)
 tells_accepted i b a v w read read_book judges = rw (read, read_book) judges
 
 -- without signatures

@@ -6,7 +6,7 @@ use Rattle.pb_language.specs.Book.{Book}
 use Rattle.pb_language.specs.Judged.{judged}
 use Rattle.pb_language.specs.Verdict.{Verdict, accepted, refused as refused_at}
 use Rattle.pb_value.specs.FromJson.{json_data}
-use Rattle.pb_sig.specs.Table.{builtins}
+use Rattle.pb_sig.specs.Table.{built_modules}
 use Rattle.pb_inventory.specs.Hosts.{InventoryData, inventory_of}
 use Rattle.pb_inventory.specs.declared.read.InventoryFault.{InventoryFault}
 use Rattle.pb_inventory.specs.declared.read.InventoryFault.TheVariants as inventory
@@ -69,7 +69,7 @@ inventory_verdict bytes = of_bytes I01 inventory_of bytes
 
 -- and a book's text this book, with the built-in modules
 abbrev pub book_verdict : List ℕ → Result Book Code
-book_verdict bytes = of_bytes P01 (book_from builtins) bytes
+book_verdict bytes = of_bytes P01 (book_from built_modules) bytes
 
 -- what becomes of the files: one is refused as a whole, or the book gets a verdict for the inventory
 pub data Found : Type 0 where
@@ -78,7 +78,7 @@ pub data Found : Type 0 where
 
 abbrev pub book_found : InventoryData → Result Book Code → Found
 book_found i (Err code) = whole_file code
-book_found i (Ok b) = verdict (judged builtins (inventory_data i) b)
+book_found i (Ok b) = verdict (judged built_modules (inventory_data i) b)
 
 abbrev pub found_by : Result InventoryData Code → Result Book Code → Found
 found_by (Err code) book = whole_file code

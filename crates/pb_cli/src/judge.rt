@@ -1,6 +1,6 @@
 // The verdict on the bytes of a playbook and an inventory.
 ghost use Rattle.std.specs.Prelude.{◌≡◌, Ok, IfOk, option_map};
-ghost use Rattle.pb_sig.specs.Table.{builtins};
+ghost use Rattle.pb_sig.specs.Table.{built_modules};
 ghost use Rattle.pb_sig.specs.Modules.{modules_of};
 ghost use Rattle.pb_inventory.specs.Inventory.{inventory_view};
 ghost use Rattle.pb_book.specs.Books.{book_of};
@@ -118,7 +118,7 @@ pub fn judge(
     ensures verdict { Judges (option_map (λ s. s.now) signatures.entry) inventory.now book.now result }
     ensures read { IfOk result (λ c. inventory_verdict inventory.now ≡ Ok (inventory_view c.inventory)) }
     ensures book_read { IfOk result (λ c. book_verdict book.now ≡ Ok (book_of c.book)) }
-    ensures modules { IfOk result (λ c. modules_of c.registry ≡ builtins) }
+    ensures modules { IfOk result (λ c. modules_of c.registry ≡ built_modules) }
 {
     if signatures.is_some() {
         return Err(whole(Code::N00));

@@ -33,7 +33,7 @@ pub record Surroundings : Type 0 where
 
 -- what no registry holds
 abbrev pub no_module : ModuleData
-no_module = record { name = []; params = []; ok = never; failure = never }
+no_module = record { name = []; params = []; ok = never; failure = never; free = None }
 
 abbrev pub module_named : Name → Registry → ModuleData
 module_named n [] = no_module

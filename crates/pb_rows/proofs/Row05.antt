@@ -60,7 +60,7 @@ abbrev row_declared_inventory : Inventory
 row_declared_inventory = record { hosts = (record { name = (codes "h1"); variables = (no_fields) } ∷ []); groups = (record { name = (codes "all"); hosts = ((codes "h1") ∷ []) } ∷ record { name = (codes "ungrouped"); hosts = ((codes "h1") ∷ []) } ∷ []) }
 
 abbrev row_declared_registry : Registry
-row_declared_registry = (builtins ++ (record { name = (codes "probe"); params = ([]); ok = recs (slot (codes "changed") true booleans (no_slots)); failure = recs (slot (codes "changed") true booleans (slot (codes "msg") true texts (no_slots))) } ∷ []))
+row_declared_registry = (builtins ++ (record { name = (codes "probe"); params = ([]); ok = recs (slot (codes "changed") true booleans (no_slots)); failure = recs (slot (codes "changed") true booleans (slot (codes "msg") true texts (no_slots))); free = None } ∷ []))
 
 row_declared : judged row_declared_registry row_declared_inventory row_declared_book ≡ accepted 1
 row_declared = refl
@@ -73,7 +73,7 @@ abbrev row_declared_run_inventory : Inventory
 row_declared_run_inventory = record { hosts = (record { name = (codes "h1"); variables = (no_fields) } ∷ []); groups = (record { name = (codes "all"); hosts = ((codes "h1") ∷ []) } ∷ record { name = (codes "ungrouped"); hosts = ((codes "h1") ∷ []) } ∷ []) }
 
 abbrev row_declared_run_registry : Registry
-row_declared_run_registry = (builtins ++ (record { name = (codes "probe"); params = ([]); ok = recs (slot (codes "changed") true booleans (no_slots)); failure = recs (slot (codes "changed") true booleans (slot (codes "msg") true texts (no_slots))) } ∷ []))
+row_declared_run_registry = (builtins ++ (record { name = (codes "probe"); params = ([]); ok = recs (slot (codes "changed") true booleans (no_slots)); failure = recs (slot (codes "changed") true booleans (slot (codes "msg") true texts (no_slots))); free = None } ∷ []))
 
 row_declared_run : recaps_of row_declared_run_registry row_declared_run_inventory row_declared_run_book 5 ((object (rec (field (codes "changed") (boolean true) (field (codes "x") (int (pos 1)) (no_fields)))) ∷ []) ∷ []) ≡ (record { ok = 2; changed = 1; unreachable = 0; failed = 0; skipped = 0; rescued = 0; ignored = 0 } ∷ [])
 unfolding digits
@@ -87,7 +87,7 @@ abbrev row_declared_empty_run_inventory : Inventory
 row_declared_empty_run_inventory = record { hosts = (record { name = (codes "h1"); variables = (no_fields) } ∷ []); groups = (record { name = (codes "all"); hosts = ((codes "h1") ∷ []) } ∷ record { name = (codes "ungrouped"); hosts = ((codes "h1") ∷ []) } ∷ []) }
 
 abbrev row_declared_empty_run_registry : Registry
-row_declared_empty_run_registry = (builtins ++ (record { name = (codes "probe"); params = ([]); ok = recs (slot (codes "changed") true booleans (no_slots)); failure = recs (slot (codes "changed") true booleans (slot (codes "msg") true texts (no_slots))) } ∷ []))
+row_declared_empty_run_registry = (builtins ++ (record { name = (codes "probe"); params = ([]); ok = recs (slot (codes "changed") true booleans (no_slots)); failure = recs (slot (codes "changed") true booleans (slot (codes "msg") true texts (no_slots))); free = None } ∷ []))
 
 row_declared_empty_run : recaps_of row_declared_empty_run_registry row_declared_empty_run_inventory row_declared_empty_run_book 5 ((object (rec (no_fields)) ∷ []) ∷ []) ≡ (record { ok = 2; changed = 0; unreachable = 0; failed = 0; skipped = 0; rescued = 0; ignored = 0 } ∷ [])
 unfolding digits
@@ -101,7 +101,7 @@ abbrev row_declared_number_run_inventory : Inventory
 row_declared_number_run_inventory = record { hosts = (record { name = (codes "h1"); variables = (no_fields) } ∷ []); groups = (record { name = (codes "all"); hosts = ((codes "h1") ∷ []) } ∷ record { name = (codes "ungrouped"); hosts = ((codes "h1") ∷ []) } ∷ []) }
 
 abbrev row_declared_number_run_registry : Registry
-row_declared_number_run_registry = (builtins ++ (record { name = (codes "probe"); params = ([]); ok = recs (slot (codes "changed") true booleans (no_slots)); failure = recs (slot (codes "changed") true booleans (slot (codes "msg") true texts (no_slots))) } ∷ []))
+row_declared_number_run_registry = (builtins ++ (record { name = (codes "probe"); params = ([]); ok = recs (slot (codes "changed") true booleans (no_slots)); failure = recs (slot (codes "changed") true booleans (slot (codes "msg") true texts (no_slots))); free = None } ∷ []))
 
 row_declared_number_run : recaps_of row_declared_number_run_registry row_declared_number_run_inventory row_declared_number_run_book 5 ((object (rec (field (codes "changed") (int (pos 1)) (no_fields))) ∷ []) ∷ []) ≡ (record { ok = 0; changed = 0; unreachable = 0; failed = 1; skipped = 0; rescued = 0; ignored = 0 } ∷ [])
 unfolding digits
@@ -115,7 +115,7 @@ abbrev row_declared_decimal_run_inventory : Inventory
 row_declared_decimal_run_inventory = record { hosts = (record { name = (codes "h1"); variables = (no_fields) } ∷ []); groups = (record { name = (codes "all"); hosts = ((codes "h1") ∷ []) } ∷ record { name = (codes "ungrouped"); hosts = ((codes "h1") ∷ []) } ∷ []) }
 
 abbrev row_declared_decimal_run_registry : Registry
-row_declared_decimal_run_registry = (builtins ++ (record { name = (codes "probe"); params = ([]); ok = recs (slot (codes "changed") true booleans (no_slots)); failure = recs (slot (codes "changed") true booleans (slot (codes "msg") true texts (no_slots))) } ∷ []))
+row_declared_decimal_run_registry = (builtins ++ (record { name = (codes "probe"); params = ([]); ok = recs (slot (codes "changed") true booleans (no_slots)); failure = recs (slot (codes "changed") true booleans (slot (codes "msg") true texts (no_slots))); free = None } ∷ []))
 
 row_declared_decimal_run : recaps_of row_declared_decimal_run_registry row_declared_decimal_run_inventory row_declared_decimal_run_book 5 ((object (rec (field (codes "changed") opaque (no_fields))) ∷ []) ∷ []) ≡ (record { ok = 0; changed = 0; unreachable = 0; failed = 1; skipped = 0; rescued = 0; ignored = 0 } ∷ [])
 unfolding digits

@@ -30,7 +30,7 @@ abbrev signatures_035_inventory : Inventory
 signatures_035_inventory = record { hosts = (record { name = (codes "h1"); variables = (no_fields) } ∷ []); groups = (record { name = (codes "all"); hosts = ((codes "h1") ∷ []) } ∷ record { name = (codes "ungrouped"); hosts = ((codes "h1") ∷ []) } ∷ []) }
 
 abbrev signatures_035_registry : Registry
-signatures_035_registry = (builtins ++ (record { name = (codes "withx"); params = ([]); ok = recs (slot (codes "changed") true booleans (no_slots)); failure = recs (slot (codes "changed") true booleans (slot (codes "msg") true texts (no_slots))) } ∷ []))
+signatures_035_registry = (builtins ++ (record { name = (codes "withx"); params = ([]); ok = recs (slot (codes "changed") true booleans (no_slots)); failure = recs (slot (codes "changed") true booleans (slot (codes "msg") true texts (no_slots))); free = None } ∷ []))
 
 signatures_035 : judged signatures_035_registry signatures_035_inventory signatures_035_book ≡ accepted 0
 signatures_035 = refl
@@ -43,7 +43,7 @@ abbrev signatures_037_inventory : Inventory
 signatures_037_inventory = record { hosts = (record { name = (codes "h1"); variables = (no_fields) } ∷ []); groups = (record { name = (codes "all"); hosts = ((codes "h1") ∷ []) } ∷ record { name = (codes "ungrouped"); hosts = ((codes "h1") ∷ []) } ∷ []) }
 
 abbrev signatures_037_registry : Registry
-signatures_037_registry = (builtins ++ (record { name = (codes "ansible"); params = ([]); ok = recs (slot (codes "changed") true booleans (no_slots)); failure = recs (slot (codes "changed") true booleans (slot (codes "msg") true texts (no_slots))) } ∷ []))
+signatures_037_registry = (builtins ++ (record { name = (codes "ansible"); params = ([]); ok = recs (slot (codes "changed") true booleans (no_slots)); failure = recs (slot (codes "changed") true booleans (slot (codes "msg") true texts (no_slots))); free = None } ∷ []))
 
 signatures_037 : judged signatures_037_registry signatures_037_inventory signatures_037_book ≡ accepted 0
 signatures_037 = refl
@@ -56,7 +56,7 @@ abbrev signatures_038_inventory : Inventory
 signatures_038_inventory = record { hosts = (record { name = (codes "h1"); variables = (no_fields) } ∷ []); groups = (record { name = (codes "all"); hosts = ((codes "h1") ∷ []) } ∷ record { name = (codes "ungrouped"); hosts = ((codes "h1") ∷ []) } ∷ []) }
 
 abbrev signatures_038_registry : Registry
-signatures_038_registry = (builtins ++ (record { name = (codes "ansible_x"); params = ([]); ok = recs (slot (codes "changed") true booleans (no_slots)); failure = recs (slot (codes "changed") true booleans (slot (codes "msg") true texts (no_slots))) } ∷ []))
+signatures_038_registry = (builtins ++ (record { name = (codes "ansible_x"); params = ([]); ok = recs (slot (codes "changed") true booleans (no_slots)); failure = recs (slot (codes "changed") true booleans (slot (codes "msg") true texts (no_slots))); free = None } ∷ []))
 
 signatures_038 : judged signatures_038_registry signatures_038_inventory signatures_038_book ≡ accepted 0
 signatures_038 = refl
@@ -69,7 +69,7 @@ abbrev signatures_083_inventory : Inventory
 signatures_083_inventory = record { hosts = (record { name = (codes "h1"); variables = (no_fields) } ∷ []); groups = (record { name = (codes "all"); hosts = ((codes "h1") ∷ []) } ∷ record { name = (codes "ungrouped"); hosts = ((codes "h1") ∷ []) } ∷ []) }
 
 abbrev signatures_083_registry : Registry
-signatures_083_registry = (builtins ++ (record { name = (codes "probe"); params = (record { name = (codes "p"); kind = (lists ints 1); required = true } ∷ []); ok = recs (slot (codes "changed") true booleans (no_slots)); failure = recs (slot (codes "changed") true booleans (slot (codes "msg") true texts (no_slots))) } ∷ []))
+signatures_083_registry = (builtins ++ (record { name = (codes "probe"); params = (record { name = (codes "p"); kind = (lists ints 1); required = true } ∷ []); ok = recs (slot (codes "changed") true booleans (no_slots)); failure = recs (slot (codes "changed") true booleans (slot (codes "msg") true texts (no_slots))); free = None } ∷ []))
 
 signatures_083 : judged signatures_083_registry signatures_083_inventory signatures_083_book ≡ refused (record { code = 4; line = 2; host = (Some (codes "h1")) })
 signatures_083 = refl
@@ -82,7 +82,7 @@ abbrev signatures_084_inventory : Inventory
 signatures_084_inventory = record { hosts = (record { name = (codes "h1"); variables = (no_fields) } ∷ []); groups = (record { name = (codes "all"); hosts = ((codes "h1") ∷ []) } ∷ record { name = (codes "ungrouped"); hosts = ((codes "h1") ∷ []) } ∷ []) }
 
 abbrev signatures_084_registry : Registry
-signatures_084_registry = (builtins ++ (record { name = (codes "probe"); params = (record { name = (codes "p"); kind = (recs (slot (codes "a") true ints (no_slots))); required = true } ∷ []); ok = recs (slot (codes "changed") true booleans (no_slots)); failure = recs (slot (codes "changed") true booleans (slot (codes "msg") true texts (no_slots))) } ∷ []))
+signatures_084_registry = (builtins ++ (record { name = (codes "probe"); params = (record { name = (codes "p"); kind = (recs (slot (codes "a") true ints (no_slots))); required = true } ∷ []); ok = recs (slot (codes "changed") true booleans (no_slots)); failure = recs (slot (codes "changed") true booleans (slot (codes "msg") true texts (no_slots))); free = None } ∷ []))
 
 signatures_084 : judged signatures_084_registry signatures_084_inventory signatures_084_book ≡ refused (record { code = 4; line = 2; host = (Some (codes "h1")) })
 signatures_084 = refl

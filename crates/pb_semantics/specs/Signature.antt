@@ -1,5 +1,5 @@
 -- What is known of a module, and which shapes its answers can have.
-use Rattle.std.specs.Prelude.{ℕ, List, Bool, true, false, not, ◌&&◌, codes}
+use Rattle.std.specs.Prelude.{ℕ, List, Bool, true, false, not, ◌&&◌, Option, codes}
 use Rattle.pb_semantics.specs.Kind.{KindData, Slots, Spot, booleans, texts, lists, recs, results, no_slots, slot, spot, slot_at, is_listed}
 
 pub record ParameterData : Type 0 where
@@ -12,6 +12,8 @@ pub record ModuleData : Type 0 where
   pub params : List ParameterData
   pub ok : KindData
   pub failure : KindData
+  -- the parameter that a text in place of the arguments stands for
+  pub free : Option (List ℕ)
 
 -- no result at any depth
 abbrev mutual

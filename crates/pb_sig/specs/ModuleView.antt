@@ -1,5 +1,5 @@
 -- What a module means, and which modules are built so far.
-use Rattle.std.specs.Prelude.{List, [], ◌∷◌, Bool, true, not, ◌&&◌, map, string_bytes}
+use Rattle.std.specs.Prelude.{List, [], ◌∷◌, Bool, true, not, ◌&&◌, map, option_map, string_bytes}
 use Rattle.pb_value.specs.KindView.{kind_view}
 use Rattle.pb_semantics.specs.Signature.{ModuleData}
 use Rattle.pb_language.specs.Cases.{is_setup}
@@ -8,7 +8,13 @@ use Rattle.pb_sig.specs.Views.{parameter_view}
 use Rattle.pb_sig.specs.declared.builtin.Builtin.{Builtin}
 
 abbrev pub builtin_view : Builtin → ModuleData
-builtin_view m = record { name = string_bytes m.name.value; params = map parameter_view m.parameters.items; ok = kind_view m.ok; failure = kind_view m.failure }
+builtin_view m = record {
+  name = string_bytes m.name.value;
+  params = map parameter_view m.parameters.items;
+  ok = kind_view m.ok;
+  failure = kind_view m.failure;
+  free = option_map string_bytes m.free;
+}
 
 -- each keeps the laws of modules, and none gathers facts
 abbrev pub are_plain_modules : List ModuleData → Bool

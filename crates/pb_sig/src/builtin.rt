@@ -1,8 +1,8 @@
 // The modules that are there in every run.
-ghost use Rattle.std.specs.Prelude.{◌≡◌, true, IfOk, map, string_bytes};
-ghost use Rattle.pb_value.specs.KindView.{kind_view};
+ghost use Rattle.std.specs.Prelude.{◌≡◌, true, IfOk, map, option_map, string_bytes};
 ghost use Rattle.pb_semantics.specs.Signature.{is_shape, is_failure_shape};
-ghost use Rattle.pb_sig.specs.Table.{ping, command};
+ghost use Rattle.pb_language.specs.Builtins.{command, ping};
+ghost use Rattle.pb_value.specs.KindView.{kind_view};
 ghost use Rattle.pb_sig.specs.Views.{parameter_view};
 
 use crate::rows::{lines, may, must, parameters_of, shape_of};
@@ -18,6 +18,7 @@ pub struct Builtin {
     parameters: Vec<Parameter>,
     ok: Kind,
     failure: Kind,
+    free: Option<String>,
     ghost lawful_ok: { is_shape (kind_view ok) ≡ true },
     ghost lawful_failure: { is_failure_shape (kind_view failure) ≡ true },
 }
@@ -42,6 +43,13 @@ impl Module for Builtin {
     fn fail_shape(&self) -> &Kind {
         &self.failure
     }
+
+    fn free_form(&self) -> Option<&str> {
+        match &self.free {
+            Some(parameter) => Some(parameter.as_str()),
+            None => None,
+        }
+    }
 }
 
 impl Builtin {
@@ -61,7 +69,7 @@ impl Builtin {
         let parameters = ping_parameters(alloc)?;
         let ok = ping_shape(alloc)?;
         let failure = ping_failure_shape(alloc)?;
-        Builtin::named(alloc, "ping", parameters, ok, failure)
+        Builtin::named(alloc, "ping", parameters, ok, failure, None)
     }
 
     /// Runs a program.
@@ -71,7 +79,8 @@ impl Builtin {
         let parameters = command_parameters(alloc)?;
         let ok = command_shape(alloc)?;
         let failure = command_failure_shape(alloc)?;
-        Builtin::named(alloc, "command", parameters, ok, failure)
+        let free = Some(String::from_str(alloc, "cmd")?);
+        Builtin::named(alloc, "command", parameters, ok, failure, free)
     }
 
     fn named(
@@ -80,6 +89,7 @@ impl Builtin {
         parameters: Vec<Parameter>,
         ok: Kind,
         failure: Kind,
+        free: Option<String>,
     ) -> Result<Builtin, AllocError>
         requires ok { is_shape (kind_view ok) ≡ true }
         requires failure { is_failure_shape (kind_view failure) ≡ true }
@@ -88,6 +98,7 @@ impl Builtin {
           params = map parameter_view parameters.items;
           ok = kind_view ok;
           failure = kind_view failure;
+          free = option_map string_bytes free;
         }) }
     {
         Ok(Builtin {
@@ -95,6 +106,7 @@ impl Builtin {
             parameters,
             ok,
             failure,
+            free,
         })
     }
 }

@@ -15,11 +15,11 @@ pub struct Registry {
 
 impl Registry {
     ghost use Rattle.pb_sig.specs.Modules.{modules_of, module_at};
-    ghost use Rattle.pb_sig.specs.Table.{builtins};
+    ghost use Rattle.pb_sig.specs.Table.{built_modules};
 
-    /// The modules that are there in every run.
+    /// The built-in modules that the program has so far.
     pub fn builtin(alloc: Global) -> Result<Registry, AllocError>
-        ensures { IfOk result (λ r. modules_of r ≡ builtins) }
+        ensures { IfOk result (λ r. modules_of r ≡ built_modules) }
     {
         let modules = vec![in alloc; Builtin::command(alloc)?, Builtin::ping(alloc)?]?;
         Ok(Registry { modules })

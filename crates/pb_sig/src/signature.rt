@@ -1,5 +1,5 @@
 // What is known of a module before it is called.
-ghost use Rattle.std.specs.Prelude.{◌≡◌, true, IfOk, map, string_bytes};
+ghost use Rattle.std.specs.Prelude.{◌≡◌, true, IfOk, map, option_map, string_bytes};
 ghost use Rattle.pb_value.specs.KindView.{kind_view};
 ghost use Rattle.pb_semantics.specs.Signature.{ModuleData, is_shape, is_failure_shape};
 
@@ -42,6 +42,10 @@ pub trait Module {
     fn fail_shape(&self) -> &Kind
         ensures gives { kind_view result.now ≡ (meaning self.now).failure }
         ensures lawful { is_failure_shape (kind_view result.now) ≡ true };
+
+    /// The parameter that a text in place of the arguments stands for, where there is one.
+    fn free_form(&self) -> Option<&str>
+        ensures { option_map (λ n. n.now) result ≡ (meaning self.now).free };
 }
 
 /// The name, in a block that its copies share.

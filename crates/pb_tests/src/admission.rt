@@ -74,6 +74,26 @@ fn finds_by_name(rt: HostRuntime) -> Result<(), Fail> {
     Ok(())
 }
 
+// Whether a text in place of the module's arguments stands for that parameter, or for none.
+fn is_free_form(registry: &Registry, name: &str, expected: Option<&str>) -> bool {
+    match (
+        registry.find(name).and_then(|found| found.free_form()),
+        expected,
+    ) {
+        (Some(found), Some(parameter)) => found == parameter,
+        (None, None) => true,
+        _ => false,
+    }
+}
+
+#[test]
+fn free_forms(rt: HostRuntime) -> Result<(), Fail> {
+    let registry = Registry::builtin(rt.alloc())?;
+    assert!(rt; is_free_form(&registry, "command", Some("cmd")));
+    assert!(rt; is_free_form(&registry, "ping", None));
+    Ok(())
+}
+
 #[test]
 fn admits_what_keeps_the_shape(rt: HostRuntime) -> Result<(), Fail> {
     let done = told_of(rt.alloc(), "command", DONE)?;

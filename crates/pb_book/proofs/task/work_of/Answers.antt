@@ -3,7 +3,7 @@ use Rattle.pb_sig.specs.ModuleView.{builtin_view}
 use Rattle.pb_sig.specs.Modules.{module_at, modules_of}
 use Rattle.pb_sig.proofs.Found.{module_at-name, module_at-own}
 use Rattle.pb_language.specs.Book.{module_work}
-use Rattle.pb_book.proofs.Works.{work_with-module}
+use Rattle.pb_book.proofs.Works.{free_form-module, work_with-module}
 use Rattle.pb_book.proofs.task.work_of.Goals as goal
 
 pub returns-in_ok-clone-in-Some-clause-known : goal.returns-in_ok-clone-in-Some-clause-known
@@ -22,3 +22,12 @@ returns-in_ok-clone-in-Some-clause-given c ps =
     let no_debug : bytes_eq k (codes "debug") ≡ false = sym c.eq.ensures ∙ c.if-eq.false in
     let no_set_fact : bytes_eq k (codes "set_fact") ≡ false = sym c.eq-2.ensures ∙ c.if-eq-2.false in
     work_with-module ms k ps (builtin_view c.in-Some.found.now) no_debug no_set_fact found ∙ ap (λ n. Some (module_work n ps)) (sym named)
+
+pub returns-in_ok-clone-in-Some-clause-free : goal.returns-in_ok-clone-in-Some-clause-free
+returns-in_ok-clone-in-Some-clause-free c =
+    let k = c.args.key.now in
+    let ms = modules_of c.args.registry.now in
+    let found : module_at k ms ≡ Some (builtin_view c.in-Some.found.now) = sym c.in-Some.ensures in
+    let no_debug : bytes_eq k (codes "debug") ≡ false = sym c.eq.ensures ∙ c.if-eq.false in
+    let no_set_fact : bytes_eq k (codes "set_fact") ≡ false = sym c.eq-2.ensures ∙ c.if-eq-2.false in
+    c.free_form.ensures ∙ sym (free_form-module ms k (builtin_view c.in-Some.found.now) no_debug no_set_fact found)

@@ -1,7 +1,7 @@
 use Rattle.std.proofs.Common.{◌≡◌, Err, Ok, is_some, false, sym, ap, ◌∙◌, subst, rules}
 use Rattle.std.proofs.lemmas.Result.{err_from_is_err_and}
 use Rattle.pb_language.specs.Judged.{judged}
-use Rattle.pb_sig.specs.Table.{builtins}
+use Rattle.pb_sig.specs.Table.{built_modules}
 use Rattle.pb_inventory.specs.Inventory.{inventory_view}
 use Rattle.pb_book.specs.Books.{book_of}
 use Rattle.pb_book.specs.Reading.{IsBook, IsNoBook}
@@ -61,8 +61,8 @@ returns-clause-verdict c =
     let book = book_of c.in_ok-book.book in
     let inventory = inventory_of (inventory_view c.in_ok-inventory.inventory) in
     let accepted =
-    ap (λ i. judged builtins (inventory_of (inventory_view i)) (book_of c.in_ok-verify.field-0.book)) kept.1
-    ∙ ap (λ b. judged builtins inventory (book_of b)) kept.0
+    ap (λ i. judged built_modules (inventory_of (inventory_view i)) (book_of c.in_ok-verify.field-0.book)) kept.1
+    ∙ ap (λ b. judged built_modules inventory (book_of b)) kept.0
     ∙ ap (λ ms. judged ms inventory book) (sym c.in_ok-registry.ensures)
     ∙ c.in_ok-verify.ensures.accepted in
     judges_unsigned (λ s. s.now) c.args.signatures c.args.inventory.now c.args.book.now (Ok c.in_ok-verify.field-0) none

@@ -1,5 +1,5 @@
 -- Runs whose calls a file of answers answers.
-use Rattle.std.proofs.Common.{◌≡◌, List, [], ◌∷◌, Bool, true, false, refl, sym, ap, subst, ◌∙◌, ◌⊎◌, inl, inr}
+use Rattle.std.proofs.Common.{◌≡◌, List, [], ◌∷◌, Bool, true, false, refl, sym, ap, subst, ◌∙◌, inl, inr}
 use Rattle.pb_strategy.specs.Drives.{AreAnswered, Drives, IsJobDone, ends, goes_on}
 use Rattle.pb_strategy.specs.History.{RunState}
 use Rattle.pb_strategy.specs.Scripts.{IsFromFile, IsScripted, answers_in}

@@ -131,8 +131,8 @@ fn is_list_of_objects(list: &Value) -> bool
     }
 }
 
-fn are_objects(items: &Vec<Value>) -> bool
-    ensures { result ≡ all_objects (items_view items.now.items) }
+fn are_objects(items: &[Value]) -> bool
+    ensures { result ≡ all_objects (items_view items.now) }
 {
     for item in items {
         if !matches!(item, Value::Rec(_)) {
@@ -187,8 +187,8 @@ fn entry_in<'a>(answers: &'a Fields, host: &str, number: u64) -> Option<&'a Valu
     }
 }
 
-fn item_in(items: &Vec<Value>, number: u64) -> Option<&Value>
-    ensures { option_map (λ v. view v.now) result ≡ item_at number (items_view items.now.items) }
+fn item_in(items: &[Value], number: u64) -> Option<&Value>
+    ensures { option_map (λ v. view v.now) result ≡ item_at number (items_view items.now) }
 {
     items.get(number as usize)
 }

@@ -5,4 +5,4 @@ use Rattle.pb_strategy.proofs.script.are_objects.Given as goal
 
 -- what is left decides
 abbrev pub invariant-loop-item : goal.invariant-loop-item
-invariant-loop-item l = are_objects (items_view l.item-items) ≡ are_objects (items_view (drop l.item-index l.item-items))
+invariant-loop-item l = are_objects (items_view l.items) ≡ are_objects (items_view (drop l.item-index l.items))

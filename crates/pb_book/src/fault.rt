@@ -1,6 +1,5 @@
 // Why a text gives no book.
 ghost use Rattle.std.specs.Prelude.{◌≡◌};
-ghost use Rattle.pb_book.specs.declared.fault.FormFault.TheVariants.{NoMemory};
 ghost use Rattle.pb_book.specs.Faults.{from_expr, from_form, from_json};
 
 use pb_expr::fault::ExprFault;
@@ -27,7 +26,10 @@ pub(crate) enum FormFault {
 }
 
 impl From<AllocError> for FormFault {
-    ghost from_gives = { λ _ f. f ≡ NoMemory };
+    ghost use Rattle.std.specs.Prelude.{◌≡◌};
+    ghost use Rattle.pb_book.specs.declared.fault.FormFault.TheVariants.{NoMemory};
+
+    ghost from_gives = { λ _ e. e ≡ NoMemory };
 
     fn from(_: AllocError) -> FormFault {
         FormFault::NoMemory
@@ -35,7 +37,10 @@ impl From<AllocError> for FormFault {
 }
 
 impl<T: Drop> From<AllocFailed<T>> for FormFault {
-    ghost from_gives = { λ _ f. f ≡ NoMemory };
+    ghost use Rattle.std.specs.Prelude.{◌≡◌};
+    ghost use Rattle.pb_book.specs.declared.fault.FormFault.TheVariants.{NoMemory};
+
+    ghost from_gives = { λ _ e. e ≡ NoMemory };
 
     fn from(_: AllocFailed<T>) -> FormFault {
         FormFault::NoMemory

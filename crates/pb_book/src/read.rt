@@ -43,7 +43,7 @@ impl Book {
     ///
     /// # Errors
     /// `NotBuilt` where there are more than 4,194,304 bytes; else `NotJson` where they aren't JSON;
-    /// else `NotBuilt` where they are another JSON. `NoMemory` where memory is refused.
+    /// else `NotBuilt` where they are another JSON. `NoMemory` for want of memory.
     pub fn read(alloc: Global, bytes: &[u8], registry: &Registry) -> Result<Book, BookFault>
         ensures book { IfOk result (λ b. IsBook (modules_of registry.now) bytes.now b) }
         ensures known { IfOk result (λ b. names_known (modules_of registry.now) (plays_of b) ≡ true) }

@@ -1,7 +1,7 @@
 -- What the forms of the grammar read at a token of the code, by its sort.
 use Rattle.std.proofs.Common.{◌≡◌, ℕ, zero, suc, ◌-◌, ◌<◌, List, drop, Option, Some, None, refl, sym, ap, ◌∙◌, arith}
 use Rattle.pb_language.specs.Expression.{Name, Expression, negation}
-use Rattle.pb_language.specs.Grammar.{Reading, reading, Reader, before, closed, behind_word, count_of, disjunction_of, negation_of, deeper, with_tree, all_of, expression_of}
+use Rattle.pb_language.specs.Grammar.{Reading, reading, Reader, closed, behind_word, count_of, disjunction_of, negation_of, deeper, with_tree, all_of, expression_of}
 use Rattle.pb_language.specs.Tokens.{Tokens, and_word, or_word, tokens_of}
 use Rattle.pb_expr.specs.Letters.{sort_tokens, letters_at, meaning_at, tokens_at}
 use Rattle.pb_expr.specs.declared.lexer.Sort.{Sort}
@@ -15,13 +15,6 @@ behind bs t = tokens_of (drop t.end bs)
 -- the tokens from that one on, where its sort is known
 of_sort : (bs : List ℕ) (t : Place) (s : Sort) → t.sort ≡ s → tokens_at bs t ≡ sort_tokens s (letters_at bs t) (meaning_at bs t) (behind bs t)
 of_sort bs t s h = ap (λ s. sort_tokens s (letters_at bs t) (meaning_at bs t) (behind bs t)) h
-
-before_sort : (e : Expression) (s : Sort) (n w : Name) (ts : Tokens) → before e (sort_tokens s n w ts) ≡ Some (reading e (sort_tokens s n w ts))
-before_sort e sort.End n w ts = refl
-before_sort e s n w ts = refl
-
-before-token : (bs : List ℕ) (t : Place) (e : Expression) → before e (tokens_at bs t) ≡ Some (reading e (tokens_at bs t))
-before-token bs t e = before_sort e t.sort (letters_at bs t) (meaning_at bs t) (behind bs t)
 
 pub behind-or : (bs : List ℕ) (t : Place) → t.sort ≡ sort.Or → behind_word or_word (tokens_at bs t) ≡ Some (behind bs t)
 behind-or bs t h = ap (behind_word or_word) (of_sort bs t sort.Or h)

@@ -34,12 +34,12 @@ fault_view Undefined = perhaps_undefined
 fault_view MissingField = perhaps_missing
 fault_view WrongKind = wrong_kind
 
--- the fault is the first that was to be found, unless memory ran out
+-- the fault is the first that was to be found, want of memory aside
 abbrev pub Fails : KindFault → Option Fault → Type 0
 Fails (fault.Unfit u) f = f ≡ Some (fault_view u)
 Fails fault.NoMemory f = Unit {0}
 
--- there is no fault and the kind is the expression's, or the fault is the first that was to be found, unless memory ran out
+-- there is no fault and the kind is the expression's, or the fault is the first that was to be found, want of memory aside
 abbrev pub Finds : Result Kind KindFault → Option Fault → KindData → Type 0
 Finds (Ok k) f m = (f ≡ None) × (kind_view k ≡ m)
 Finds (Err e) f m = Fails e f

@@ -1,5 +1,6 @@
 -- What reading from a token gives: a tree and the token behind it, or a fault.
 use Rattle.std.specs.Prelude.{◌≡◌, ℕ, ◌+◌, ◌<◌, ◌≤◌, List, length, true, Option, Some, None}
+use Rattle.pb_semantics.specs.Gives.{FaultGives}
 use Rattle.pb_language.specs.Expression.{Expression, negation, membership}
 use Rattle.pb_language.specs.Grammar.{Reader, Reading, reading, with_tree}
 use Rattle.pb_language.specs.Simple.{is_simple}
@@ -7,7 +8,7 @@ use Rattle.pb_expr.specs.ExprView.{expr_view}
 use Rattle.pb_expr.specs.Forms.{related_by}
 use Rattle.pb_expr.specs.Letters.{IsLettered, tokens_at}
 use Rattle.pb_expr.specs.Place.{place_of, least_width}
-use Rattle.pb_expr.specs.Trees.{Refuses}
+use Rattle.pb_expr.specs.Trees.{no_tree}
 use Rattle.pb_expr.specs.declared.expr.Expr.{Expr}
 use Rattle.pb_expr.specs.declared.fault.ExprFault.{ExprFault}
 use Rattle.pb_expr.specs.declared.lexer.Sort.{Sort}
@@ -27,10 +28,10 @@ pub record IsRead (bs : List ℕ) (t : Token) (r : Expr × Token) (x : Option (R
   pub simple : is_simple (expr_view r.0) ≡ true
   pub tree : x ≡ Some (reading (expr_view r.0) (tokens_at bs r.1))
 
--- there is nothing to be read, unless memory ran out, and the place lies in the text
+-- there is nothing to be read, want of memory aside, and the place lies in the text
 pub record IsRefused (X : Type 0) (bs : List ℕ) (e : ExprFault) (x : Option X) : Type 0 where
   pub place : place_of e ≤ length bs
-  pub refused : Refuses e x
+  pub refused : FaultGives (no_tree e) x
 
 -- `==`, `!=`, `in`, and `not in` for `not`
 abbrev pub joined_by : Sort → Expression → Expression → Expression

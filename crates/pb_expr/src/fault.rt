@@ -1,7 +1,4 @@
 // Why a text isn't read as an expression.
-ghost use Rattle.std.specs.Prelude.{◌≡◌};
-ghost use Rattle.pb_expr.specs.declared.fault.ExprFault.TheVariants.{NoMemory};
-
 use std::alloc::{AllocError, AllocFailed};
 use thiserror::Error;
 
@@ -17,11 +14,14 @@ pub enum ExprFault {
     /// A form that isn't built yet.
     #[error("a form that is not built yet")]
     NotBuilt,
-    #[error("out of memory")]
+    #[error("want of memory")]
     NoMemory,
 }
 
 impl From<AllocError> for ExprFault {
+    ghost use Rattle.std.specs.Prelude.{◌≡◌};
+    ghost use Rattle.pb_expr.specs.declared.fault.ExprFault.TheVariants.{NoMemory};
+
     ghost from_gives = { λ _ e. e ≡ NoMemory };
 
     fn from(_: AllocError) -> ExprFault {
@@ -30,6 +30,9 @@ impl From<AllocError> for ExprFault {
 }
 
 impl<T: Drop> From<AllocFailed<T>> for ExprFault {
+    ghost use Rattle.std.specs.Prelude.{◌≡◌};
+    ghost use Rattle.pb_expr.specs.declared.fault.ExprFault.TheVariants.{NoMemory};
+
     ghost from_gives = { λ _ e. e ≡ NoMemory };
 
     fn from(_: AllocFailed<T>) -> ExprFault {

@@ -34,7 +34,6 @@ ghost use Rattle.pb_language.specs.Fit.{
   items_fault,
   fields_fault,
 };
-ghost use Rattle.pb_expr.specs.declared.fit.KindFault.TheVariants.{NoMemory};
 ghost use Rattle.pb_value.specs.KindView.{kind_view, slots_view, cases_view};
 ghost use Rattle.pb_value.specs.View.{view, items_view, fields_view};
 ghost use Rattle.pb_expr.specs.ExprView.{expr_view, exprs_view, parts_view, names_of};
@@ -69,11 +68,14 @@ pub enum Unfit {
 pub enum KindFault {
     #[error("{0}")]
     Unfit(Unfit),
-    #[error("out of memory")]
+    #[error("want of memory")]
     NoMemory,
 }
 
 impl From<AllocError> for KindFault {
+    ghost use Rattle.std.specs.Prelude.{◌≡◌};
+    ghost use Rattle.pb_expr.specs.declared.fit.KindFault.TheVariants.{NoMemory};
+
     ghost from_gives = { λ _ e. e ≡ NoMemory };
 
     fn from(_: AllocError) -> KindFault {
@@ -82,6 +84,9 @@ impl From<AllocError> for KindFault {
 }
 
 impl<T: Drop> From<AllocFailed<T>> for KindFault {
+    ghost use Rattle.std.specs.Prelude.{◌≡◌};
+    ghost use Rattle.pb_expr.specs.declared.fit.KindFault.TheVariants.{NoMemory};
+
     ghost from_gives = { λ _ e. e ≡ NoMemory };
 
     fn from(_: AllocFailed<T>) -> KindFault {

@@ -4,7 +4,8 @@ ghost use Rattle.pb_expr.specs.Letters as letters;
 ghost use Rattle.pb_expr.specs.Letters.{IsLettered, is_lettered, letters_at, meaning_at, quoted_letters, sort_tokens, tokens_at};
 ghost use Rattle.pb_expr.specs.Place.{place_of, least_width};
 ghost use Rattle.pb_expr.specs.Signs.{begins_numeral, begins_other, may_pair, sign_with, starts_equal};
-ghost use Rattle.pb_expr.specs.Trees.{Refuses};
+ghost use Rattle.pb_expr.specs.Trees.{no_tree};
+ghost use Rattle.pb_semantics.specs.Gives.{FaultGives};
 ghost use Rattle.pb_language.specs.Expression.{literal};
 ghost use Rattle.pb_language.specs.Grammar.{literal_of};
 ghost use Rattle.pb_language.specs.Rules.{are_name_bytes, is_digit, is_letter};
@@ -107,7 +108,7 @@ pub fn meaning_of(alloc: Global, text: &[u8], token: Token) -> Result<String, Ex
     requires within { token.end ≤ length text.now }
     ensures read { IfOk result (λ s. literal_of (quoted (meaning_at text.now token))
         ≡ Some (literal (text_data (string_bytes s)))) }
-    ensures refused { IfErr result (λ e. Refuses e (literal_of (quoted (meaning_at text.now token)))) }
+    ensures refused { IfErr result (λ e. FaultGives (no_tree e) (literal_of (quoted (meaning_at text.now token)))) }
     ensures place { IfErr result (λ e. place_of e ≤ length text.now) }
 {
     let letters = unescaped(alloc, &text[token.start + 1..token.end - 1])?;

@@ -1,12 +1,13 @@
 // Expressions and templates, read from their texts.
-ghost use Rattle.std.specs.Prelude.{vec_len, ◌≡◌, ◌+◌, ◌<◌, ◌≤◌, None, Some, drop, length, slice_range, true, IfOk, IfErr, IfSome};
+ghost use Rattle.std.specs.Prelude.{vec_len, ◌≡◌, ◌+◌, ◌<◌, ◌≤◌, ℕ, Err, None, Some, drop, length, slice_range, true, IfOk, IfErr, IfSome};
+ghost use Rattle.pb_semantics.specs.Gives.{FaultGives, Gives};
 ghost use Rattle.pb_semantics.specs.Keeps.{is_among};
 ghost use Rattle.pb_language.specs.Simple.{is_simple, shared_names};
 ghost use Rattle.pb_expr.specs.ExprView.{expr_view, names_of};
 ghost use Rattle.pb_expr.specs.Letters.{letters_at, tokens_at};
 ghost use Rattle.pb_expr.specs.Reads.{IsRead, IsRefused, IsToken, joined_by, read_on};
 ghost use Rattle.pb_expr.specs.Place.{place_of, least_width};
-ghost use Rattle.pb_expr.specs.Trees.{IsTree, Refuses};
+ghost use Rattle.pb_expr.specs.Trees.{no_tree};
 ghost use Rattle.pb_expr.specs.Forms.{first_literal, opening_at, with_bytes};
 ghost use Rattle.pb_language.specs.Expression.{Expression, literal};
 ghost use Rattle.pb_language.specs.Grammar.{Deeper, closed, conjunction_of, cut, cut_in, deeper, disjunction_of, expression_of, is_mark, literal_before, negation_of, operand_at as bare_operand, operand_of, path_of, reading, related as related_tree, relation_of, steps_of, template_of};
@@ -28,7 +29,7 @@ pub const STEPS: usize = 16;
 
 /// Reads an expression.
 pub fn parse_expr(alloc: Global, text: &str) -> Result<Expr, ExprFault>
-    ensures tree { IsTree result (expression_of text.now) }
+    ensures tree { Gives (λ e. Some (expr_view e)) no_tree result (expression_of text.now) }
     ensures place { IfErr result (λ e. place_of e ≤ length text.now) }
     ensures simple { IfOk result (λ e. is_simple (expr_view e) ≡ true) }
 {
@@ -38,7 +39,9 @@ pub fn parse_expr(alloc: Global, text: &str) -> Result<Expr, ExprFault>
 /// Reads a text that may have templates: without any it is a literal text, and one that is `{{ e }}` from its
 /// first byte to its last is the expression `e`.
 pub fn parse_template(alloc: Global, text: &str) -> Result<Expr, ExprFault>
-    ensures tree { IsTree result (template_of text.now) }
+    ensures tree { Gives (λ e. Some (expr_view e)) no_tree result (template_of text.now) }
+    ensures apart { (at : ℕ) → opening_at text.now ≡ Some at → 0 < at
+        → result ≡ Err ExprFault.NoMemory → ⊥ }
     ensures place { IfErr result (λ e. place_of e ≤ length text.now) }
     ensures simple { IfOk result (λ e. is_simple (expr_view e) ≡ true) }
 {
@@ -138,7 +141,7 @@ fn after_quote(text: &[u8], from: usize, quote: u8) -> Option<usize>
 // The expression that the text is from there on.
 fn expr_from(alloc: Global, text: &[u8], from: usize) -> Result<Expr, ExprFault>
     requires { from ≤ length text.now }
-    ensures tree { IsTree result (expression_of (drop from text.now)) }
+    ensures tree { Gives (λ e. Some (expr_view e)) no_tree result (expression_of (drop from text.now)) }
     ensures place { IfErr result (λ e. place_of e ≤ length text.now) }
     ensures simple { IfOk result (λ e. is_simple (expr_view e) ≡ true) }
 {
@@ -404,7 +407,7 @@ fn literal_of(alloc: Global, text: &[u8], token: Token) -> Result<Value, ExprFau
     requires within { token.end ≤ length text.now }
     ensures wide { IfOk result (λ _. token.start < token.end) }
     ensures read { IfOk result (λ v. first_literal (tokens_at text.now token) ≡ Some (literal (view v))) }
-    ensures refused { IfErr result (λ e. Refuses e (first_literal (tokens_at text.now token))) }
+    ensures refused { IfErr result (λ e. FaultGives (no_tree e) (first_literal (tokens_at text.now token))) }
     ensures place { IfErr result (λ e. place_of e ≤ length text.now) }
 {
     match token.sort {

@@ -56,7 +56,7 @@ impl From<AllocError> for InventoryFault {
     ghost use Rattle.std.specs.Prelude.{◌≡◌};
     ghost use Rattle.pb_inventory.specs.declared.read.InventoryFault.TheVariants.{NoMemory};
 
-    ghost from_gives = { λ _ f. f ≡ NoMemory };
+    ghost from_gives = { λ _ e. e ≡ NoMemory };
 
     fn from(_: AllocError) -> InventoryFault {
         InventoryFault::NoMemory
@@ -83,7 +83,7 @@ impl Inventory {
     ///
     /// # Errors
     /// `NotBuilt` where there are more than 4,194,304 bytes; else `NotJson` where they aren't JSON;
-    /// else `NotBuilt` where they are any other JSON. `NoMemory` where memory is refused.
+    /// else `NotBuilt` where they are any other JSON. `NoMemory` for want of memory.
     pub fn read(alloc: Global, bytes: &[u8]) -> Result<Inventory, InventoryFault>
         ensures ok { IfOk result (λ i. (d : Data) × (json_data bytes.now ≡ Some d)
             × (inventory_of d ≡ Some (inventory_view i))) }

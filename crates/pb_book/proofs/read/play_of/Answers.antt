@@ -1,4 +1,4 @@
-use Rattle.std.proofs.Common.{◌≡◌, ◌∙◌, Global, Vec, codes, option_map, ap, sym}
+use Rattle.std.proofs.Common.{◌≡◌, ◌∙◌, codes, option_map, ap, sym}
 use Rattle.pb_semantics.specs.Data.{field_value}
 use Rattle.pb_value.specs.View.{view, fields_view}
 use Rattle.pb_value.proofs.Fields.{view-lookup}
@@ -6,7 +6,6 @@ use Rattle.pb_sig.specs.Modules.{modules_of}
 use Rattle.pb_book.specs.Meaning.{plain_tasks}
 use Rattle.pb_book.specs.Reading.{few_tasks}
 use Rattle.pb_book.specs.declared.book.Play.{Play}
-use Rattle.pb_book.specs.declared.book.Task.{Task}
 use Rattle.pb_book.proofs.Built.{refused-exit}
 use Rattle.pb_book.proofs.Works.{play_of-play, play_of-other}
 use Rattle.pb_book.proofs.read.play_of.Goals as goal

@@ -1,5 +1,4 @@
-use Rattle.std.proofs.Common.{◌≡◌, ◌∙◌, String, Global, Vec, BTreeMap, Option, Some, codes, option_map, string_bytes, ap, sym}
-use Rattle.std.specs.declared.sync.Arc.{Arc}
+use Rattle.std.proofs.Common.{◌≡◌, ◌∙◌, String, Global, BTreeMap, Some, codes, option_map, string_bytes, ap, sym}
 use Rattle.pb_semantics.specs.Data.{field_value}
 use Rattle.pb_value.specs.View.{fields_view}
 use Rattle.pb_value.specs.declared.value.Value.{Value}
@@ -7,8 +6,6 @@ use Rattle.pb_sig.specs.Modules.{modules_of}
 use Rattle.pb_book.specs.Meaning.{argument_parts, condition_view, plain_task}
 use Rattle.pb_book.specs.Meaning as meaning
 use Rattle.pb_book.specs.Reading.{condition_of, register_of, task_with, work_of, works_of}
-use Rattle.pb_book.specs.declared.book.Argument.{Argument}
-use Rattle.pb_book.specs.declared.book.Work.{Work}
 use Rattle.pb_book.proofs.Built.{refused-exit}
 use Rattle.pb_book.proofs.Works.{task_of-named, task_of-unnamed, no_condition, no_register}
 use Rattle.pb_book.proofs.task.task_of.Goals as goal

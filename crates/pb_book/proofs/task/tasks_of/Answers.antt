@@ -7,7 +7,7 @@ use Rattle.pb_value.specs.declared.value.Value.{Value}
 use Rattle.pb_sig.specs.Modules.{modules_of}
 use Rattle.pb_language.specs.plain.Books.{are_plain_tasks}
 use Rattle.pb_book.specs.Lines.{are_from, are_known, are_ordered}
-use Rattle.pb_book.specs.Meaning.{plain_task, plain_tasks}
+use Rattle.pb_book.specs.Meaning.{plain_tasks}
 use Rattle.pb_book.specs.Reading.{few_tasks, task_of, with_task}
 use Rattle.pb_book.specs.Reading as definition
 use Rattle.pb_book.specs.declared.book.Task.{Task}

@@ -1,8 +1,10 @@
 use Rattle.std.proofs.Common.{Some, length, refl, sym, ap, ◌∙◌, subst, arith}
 use Rattle.pb_semantics.specs.Data.{text}
+use Rattle.pb_semantics.specs.Gives.{Gives}
 use Rattle.pb_language.specs.Expression.{literal}
 use Rattle.pb_language.specs.Grammar.{template_of}
-use Rattle.pb_expr.specs.Trees.{IsTree}
+use Rattle.pb_expr.specs.ExprView.{expr_view}
+use Rattle.pb_expr.specs.Trees.{no_tree}
 use Rattle.pb_expr.proofs.Braces.{template-none, template-later, template-other, template-unclosed, template-part, template-whole}
 use Rattle.pb_expr.proofs.Exprs.{view-Literal}
 use Rattle.pb_expr.proofs.parse.parse_template.Goals as goal
@@ -43,4 +45,4 @@ returns-clause-tree c =
     ap template_of (sym c.as_bytes-bytes.ensures.value)
     ∙ template-whole c.as_bytes-bytes.result.now c.in-Some.at c.in-Some-closing_of.end (sym c.in-Some.ensures.place) c.if-at-ne0.false c.if-bytes-at-ne123.false
     c.in-Some-closing_of.ensures.found c.in-Some-closing_of.ensures.begins c.if-end-bytes.false in
-    subst (λ x. IsTree c.expr_from.result x) (sym whole) c.expr_from.ensures.tree
+    subst (λ x. Gives (λ e. Some (expr_view e)) no_tree c.expr_from.result x) (sym whole) c.expr_from.ensures.tree

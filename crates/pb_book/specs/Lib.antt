@@ -3,3 +3,4 @@ pub mod Meaning
 pub mod Books
 pub mod Faults
 pub mod Reading
+pub mod Words

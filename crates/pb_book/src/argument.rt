@@ -1,30 +1,16 @@
 // The arguments of a task.
-ghost use Rattle.std.specs.Prelude.{◌≡◌, Err, IfOk, Some, codes, false, true};
-ghost use Rattle.pb_semantics.specs.Gives.{Gives};
-ghost use Rattle.pb_semantics.specs.Limits.{most_levels};
-ghost use Rattle.pb_language.specs.Expression.{no_parts};
-ghost use Rattle.pb_language.specs.Grammar.{has_opening, is_mark};
-ghost use Rattle.pb_language.specs.Simple.{is_simple, are_simple, parts_simple};
-ghost use Rattle.pb_value.specs.View.{view, items_view, fields_view};
-ghost use Rattle.pb_expr.specs.ExprView.{expr_view, exprs_view, parts_view};
+ghost use Rattle.std.specs.Prelude.{◌≡◌, Err, IfOk, Some, false, true};
+ghost use Rattle.pb_semantics.specs.Words.{Gives, most_levels};
+ghost use Rattle.pb_language.specs.Words.{are_simple, has_opening, is_mark, is_simple, no_parts};
+ghost use Rattle.pb_language.specs.Words.{parts_simple};
+ghost use Rattle.pb_value.specs.Words.{fields_view, items_view, view};
+ghost use Rattle.pb_expr.specs.Words.{expr_view, exprs_view, parts_view};
 ghost use Rattle.pb_book.specs.Faults.{refused};
 ghost use Rattle.pb_book.specs.Lines.{are_ascending, argument_names};
 ghost use Rattle.pb_book.specs.Meaning.{argument_parts};
-ghost use Rattle.pb_book.specs.Reading.{
-  argument_of,
-  arguments_of,
-  fields_fit,
-  fits,
-  holds_opening,
-  items_fit,
-  items_of,
-  parts_of,
-  some_field_holds,
-  some_item_holds,
-  text_fits,
-  value_of,
-  with_part,
-};
+ghost use Rattle.pb_book.specs.Reading.{argument_of, arguments_of, fields_fit, fits, holds_opening};
+ghost use Rattle.pb_book.specs.Reading.{items_fit, items_of, parts_of, some_field_holds};
+ghost use Rattle.pb_book.specs.Reading.{some_item_holds, text_fits, value_of, with_part};
 
 use crate::book::Argument;
 use crate::fault::FormFault;

@@ -1,28 +1,19 @@
 // The book that a JSON text is.
-ghost use Rattle.std.specs.Prelude.{◌≡◌, ◌<◌, ◌≤◌, [], ◌∷◌, Err, IfOk, None, Some, codes, false, length, option_map, true};
+ghost use Rattle.std.specs.Prelude.{[], ◌<◌, ◌∷◌, ◌≡◌, ◌≤◌, Err, IfOk, None, Some, codes, false};
+ghost use Rattle.std.specs.Prelude.{length, option_map, true};
 ghost use Rattle.std.specs.Str.{is_utf8};
-ghost use Rattle.pb_semantics.specs.Data.{field_value};
-ghost use Rattle.pb_semantics.specs.Gives.{Gives};
-ghost use Rattle.pb_semantics.specs.Keeps.{is_among};
-ghost use Rattle.pb_language.specs.plain.Books.{are_plain_tasks};
-ghost use Rattle.pb_semantics.specs.Limits.{most_book_bytes, most_tasks};
-ghost use Rattle.pb_value.specs.View.{fields_view, items_view, view};
-ghost use Rattle.pb_value.specs.FromJson.{json_data};
-ghost use Rattle.pb_sig.specs.Modules.{modules_of};
+ghost use Rattle.pb_semantics.specs.Words.{Gives, field_value, is_among, most_book_bytes};
+ghost use Rattle.pb_semantics.specs.Words.{most_tasks};
+ghost use Rattle.pb_language.specs.Words.{are_plain_tasks};
+ghost use Rattle.pb_value.specs.Words.{fields_view, items_view, json_data, view};
+ghost use Rattle.pb_sig.specs.Words.{modules_of};
 ghost use Rattle.pb_book.specs.Books.{plain_plays, plays_of};
 ghost use Rattle.pb_book.specs.Faults.{refused};
-ghost use Rattle.pb_book.specs.Lines.{are_from, are_known, are_ordered, are_ordered_plays, is_numbered, names_known};
+ghost use Rattle.pb_book.specs.Lines.{are_from, are_known, are_ordered, are_ordered_plays};
+ghost use Rattle.pb_book.specs.Lines.{is_numbered, names_known};
 ghost use Rattle.pb_book.specs.Meaning.{are_plain_plays, plain_tasks};
-ghost use Rattle.pb_book.specs.Reading.{
-  IsBook,
-  IsNoBook,
-  are_keys,
-  book_from,
-  few_tasks,
-  is_play,
-  names_all,
-  play_of,
-};
+ghost use Rattle.pb_book.specs.Reading.{IsBook, IsNoBook, are_keys, book_from, few_tasks, is_play};
+ghost use Rattle.pb_book.specs.Reading.{names_all, play_of};
 
 use crate::book::{Book, Play, Task};
 use crate::fault::{BookFault, FormFault};

@@ -1,37 +1,20 @@
 // The tasks of a play.
-ghost use Rattle.std.specs.Prelude.{◌≡◌, ◌<◌, ◌≤◌, Err, IfOk, Some, codes, length, option_map, string_bytes, true};
-ghost use Rattle.pb_semantics.specs.Data.{field_value, list};
-ghost use Rattle.pb_semantics.specs.Gives.{Gives};
-ghost use Rattle.pb_semantics.specs.Keeps.{is_among};
-ghost use Rattle.pb_semantics.specs.Limits.{most_tasks};
-ghost use Rattle.pb_value.specs.View.{view, items_view, fields_view};
-ghost use Rattle.pb_sig.specs.Modules.{modules_of};
-ghost use Rattle.pb_language.specs.Expression.{Parts};
-ghost use Rattle.pb_language.specs.Rules.{
-  are_name_bytes,
-  is_digit as is_name_digit,
-  is_letter as is_name_letter,
-  is_variable_name,
-};
-ghost use Rattle.pb_language.specs.Simple.{are_simple, parts_simple};
-ghost use Rattle.pb_language.specs.plain.Books.{are_plain_tasks, is_plain_task};
+ghost use Rattle.std.specs.Prelude.{◌<◌, ◌≡◌, ◌≤◌, Err, IfOk, Some, codes, length, option_map};
+ghost use Rattle.std.specs.Prelude.{string_bytes, true};
+ghost use Rattle.pb_semantics.specs.Words.{Gives, field_value, is_among, list, most_tasks};
+ghost use Rattle.pb_language.specs.Words.{Parts, are_name_bytes, are_plain_tasks, are_simple};
+ghost use Rattle.pb_language.specs.Words.{is_digit as is_name_digit, is_letter as is_name_letter};
+ghost use Rattle.pb_language.specs.Words.{is_plain_task, is_variable_name, parts_simple};
+ghost use Rattle.pb_value.specs.Words.{fields_view, items_view, view};
+ghost use Rattle.pb_sig.specs.Words.{modules_of};
 ghost use Rattle.pb_book.specs.Faults.{refused};
-ghost use Rattle.pb_book.specs.Lines.{are_ascending, are_from, are_known, are_ordered, argument_names, is_known};
-ghost use Rattle.pb_book.specs.Meaning.{argument_parts, condition_view, plain_task, plain_tasks, work_of};
-ghost use Rattle.pb_book.specs.Reading.{
-  condition_of,
-  few_tasks,
-  free_form,
-  given_arguments,
-  is_named,
-  keywords,
-  lone,
-  register_of,
-  task_of,
-  work_of as work_in,
-  work_with,
-  works_of,
-};
+ghost use Rattle.pb_book.specs.Lines.{are_ascending, are_from, are_known, are_ordered};
+ghost use Rattle.pb_book.specs.Lines.{argument_names, is_known};
+ghost use Rattle.pb_book.specs.Meaning.{argument_parts, condition_view, plain_task, plain_tasks};
+ghost use Rattle.pb_book.specs.Meaning.{work_of};
+ghost use Rattle.pb_book.specs.Reading.{condition_of, few_tasks, free_form, given_arguments};
+ghost use Rattle.pb_book.specs.Reading.{is_named, keywords, lone, register_of, task_of};
+ghost use Rattle.pb_book.specs.Reading.{work_of as work_in, work_with, works_of};
 
 use crate::argument::{MOST_EXPRESSION_BYTES, MOST_TEXT_BYTES, arguments_of, lone_argument};
 use crate::book::{Argument, Task, Work};

@@ -32,13 +32,6 @@ next_line r i name recap text line named counted within is so_far =
     rw (names_from (inventory_view r.checked.inventory).hosts i name named, drop_more r.recaps i nothing within, is, counted) refl in
     so_far ∙ ap (λ x. text ++ x) left ∙ sym (append_assoc text line _)
 
--- nothing is left after the last host
-pub last_line : (r : RunState) (i : ℕ) (text : List ℕ) → i ≡ length (inventory_view r.checked.inventory).hosts
-    → run_lines r ≡ text ++ recap_lines (drop i (host_names r)) (drop i r.recaps) → text ≡ run_lines r
-last_line r i text all so_far =
-    let none : drop i (host_names r) ≡ [] = drop_all i (host_names r) (omega (arith, all, length-map (inventory_view r.checked.inventory).hosts name_in)) in
-    sym (so_far ∙ ap (λ x. text ++ recap_lines x (drop i r.recaps)) none ∙ append-nil text)
-
 -- what a test finds from here on: at the next recap, or after it
 pub any_from : (test : Recap → Bool) (rs : List Recap) (i : ℕ) → i < length rs
     → list_any test (drop i rs) ≡ test (recap_of rs i) || list_any test (drop (i + 1) rs)

@@ -2,6 +2,7 @@
 use Rattle.std.proofs.Common.{◌≡◌, ◌<◌, ◌≤◌, ℕ, List, length, nat_lt, Bool, true, false, if◌then◌else◌, Option, Some, None, Result, Ok, Err, refl, sym, inl, inr, is_some, option_map, ap, ◌∙◌}
 use Rattle.std.proofs.lemmas.Bool.{ltb-true, ltb-false, le-ltb, lt-ltb}
 use Rattle.pb_semantics.specs.Data.{Data}
+use Rattle.pb_semantics.specs.Limits.{most_book_bytes, most_inventory_bytes}
 use Rattle.pb_language.specs.Book.{Book as BookData}
 use Rattle.pb_language.specs.Judged.{judged}
 use Rattle.pb_language.specs.Verdict.{accepted}
@@ -29,34 +30,34 @@ use Rattle.pb_cli.specs.declared.judge.Fault.{Fault}
 use Rattle.pb_cli.specs.declared.judge.Fault.TheVariants.{NoMemory}
 
 -- what is said of a text that is read so, with that code where it isn't JSON
-module _ {X : Type 0} (code : Code) (read : Data → Option X) (bs : List ℕ) where
+module _ {X : Type 0} (most : ℕ) (code : Code) (read : Data → Option X) (bs : List ℕ) where
   abbrev short_text : Result X Code
   short_text = of_text code read (json_data bs)
 
-  long : 4194304 < length bs → of_bytes code read bs ≡ Err N00
-  long l = ap (λ b. if b then Err N00 else short_text) (lt-ltb 4194304 (length bs) l)
+  long : most < length bs → of_bytes most code read bs ≡ Err N00
+  long l = ap (λ b. if b then Err N00 else short_text) (lt-ltb most (length bs) l)
 
-  short : length bs ≤ 4194304 → of_bytes code read bs ≡ short_text
-  short l = ap (λ b. if b then Err N00 else short_text) (le-ltb 4194304 (length bs) l)
+  short : length bs ≤ most → of_bytes most code read bs ≡ short_text
+  short l = ap (λ b. if b then Err N00 else short_text) (le-ltb most (length bs) l)
 
   -- a text that isn't answered as a form that isn't built is short
-  not_long : ¬ (4194304 < length bs) → length bs ≤ 4194304
-  not_long bound = either (nat_lt 4194304 (length bs)) refl where
-    either : (b : Bool) → nat_lt 4194304 (length bs) ≡ b → length bs ≤ 4194304
-    either true e = absurd (bound (ltb-true 4194304 (length bs) e))
-    either false e = ltb-false 4194304 (length bs) e
+  not_long : ¬ (most < length bs) → length bs ≤ most
+  not_long bound = either (nat_lt most (length bs)) refl where
+    either : (b : Bool) → nat_lt most (length bs) ≡ b → length bs ≤ most
+    either true e = absurd (bound (ltb-true most (length bs) e))
+    either false e = ltb-false most (length bs) e
 
-  is_read : (x : X) → ¬ (4194304 < length bs) → (d : Data) × (json_data bs ≡ Some d) × (read d ≡ Some x) → of_bytes code read bs ≡ Ok x
+  is_read : (x : X) → ¬ (most < length bs) → (d : Data) × (json_data bs ≡ Some d) × (read d ≡ Some x) → of_bytes most code read bs ≡ Ok x
   is_read x bound found = short (not_long bound) ∙ rw (found.1, found.2) refl
 
-  is_no_json : ¬ (4194304 < length bs) → json_data bs ≡ None → of_bytes code read bs ≡ Err code
+  is_no_json : ¬ (most < length bs) → json_data bs ≡ None → of_bytes most code read bs ≡ Err code
   is_no_json bound none = short (not_long bound) ∙ rw none refl
 
-  is_not_built : (length bs ≤ 4194304 → (d : Data) × (json_data bs ≡ Some d) × (read d ≡ None)) → of_bytes code read bs ≡ Err N00
-  is_not_built other = either (nat_lt 4194304 (length bs)) refl where
-    either : (b : Bool) → nat_lt 4194304 (length bs) ≡ b → of_bytes code read bs ≡ Err N00
-    either true e = long (ltb-true 4194304 (length bs) e)
-    either false e = let l = ltb-false 4194304 (length bs) e in let found = other l in short l ∙ rw (found.1, found.2) refl
+  is_not_built : (length bs ≤ most → (d : Data) × (json_data bs ≡ Some d) × (read d ≡ None)) → of_bytes most code read bs ≡ Err N00
+  is_not_built other = either (nat_lt most (length bs)) refl where
+    either : (b : Bool) → nat_lt most (length bs) ≡ b → of_bytes most code read bs ≡ Err N00
+    either true e = long (ltb-true most (length bs) e)
+    either false e = let l = ltb-false most (length bs) e in let found = other l in short l ∙ rw (found.1, found.2) refl
 
 -- want of memory may come in the place of anything
 no_memory : (f : Found) → Tells (Err NoMemory) f
@@ -76,25 +77,25 @@ BookSays book.NoMemory v = Unit {0}
 
 module _ (bs : List ℕ) where
   -- by the clauses of the reader of inventories
-  module _ (r : Result Inventory InventoryFault) (large : 4194304 < length bs → r ≡ Err inventory.NotBuilt) where
+  module _ (r : Result Inventory InventoryFault) (large : most_inventory_bytes < length bs → r ≡ Err inventory.NotBuilt) where
     pub inventory_read : (i : Inventory) → r ≡ Ok i → (d : Data) × (json_data bs ≡ Some d) × (inventory_of d ≡ Some (inventory_view i)) → inventory_verdict bs ≡ Ok (inventory_view i)
-    inventory_read i e found = is_read I01 inventory_of bs (inventory_view i) (λ l. let clash = sym e ∙ large l in cc) found
+    inventory_read i e found = is_read most_inventory_bytes I01 inventory_of bs (inventory_view i) (λ l. let clash = sym e ∙ large l in cc) found
 
     pub inventory_says : (f : InventoryFault) → r ≡ Err f → (f ≡ inventory.NotJson → json_data bs ≡ None)
-        → (f ≡ inventory.NotBuilt → length bs ≤ 4194304 → (d : Data) × (json_data bs ≡ Some d) × (inventory_of d ≡ None)) → InventorySays f (inventory_verdict bs)
-    inventory_says inventory.NotJson e none other = is_no_json I01 inventory_of bs (λ l. let clash = sym e ∙ large l in cc) (none refl)
-    inventory_says inventory.NotBuilt e none other = is_not_built I01 inventory_of bs (other refl)
+        → (f ≡ inventory.NotBuilt → length bs ≤ most_inventory_bytes → (d : Data) × (json_data bs ≡ Some d) × (inventory_of d ≡ None)) → InventorySays f (inventory_verdict bs)
+    inventory_says inventory.NotJson e none other = is_no_json most_inventory_bytes I01 inventory_of bs (λ l. let clash = sym e ∙ large l in cc) (none refl)
+    inventory_says inventory.NotBuilt e none other = is_not_built most_inventory_bytes I01 inventory_of bs (other refl)
     inventory_says inventory.NoMemory e none other = tt
 
   -- and of the reader of books
-  module _ (r : Result Book BookFault) (large : 4194304 < length bs → r ≡ Err book.NotBuilt) where
+  module _ (r : Result Book BookFault) (large : most_book_bytes < length bs → r ≡ Err book.NotBuilt) where
     pub book_read : (b : Book) → r ≡ Ok b → (d : Data) × (json_data bs ≡ Some d) × (book_from built_modules d ≡ Some (book_of b)) → book_verdict bs ≡ Ok (book_of b)
-    book_read b e found = is_read P01 (book_from built_modules) bs (book_of b) (λ l. let clash = sym e ∙ large l in cc) found
+    book_read b e found = is_read most_book_bytes P01 (book_from built_modules) bs (book_of b) (λ l. let clash = sym e ∙ large l in cc) found
 
     pub book_says : (f : BookFault) → r ≡ Err f → (f ≡ book.NotJson → json_data bs ≡ None)
-        → (f ≡ book.NotBuilt → length bs ≤ 4194304 → (d : Data) × (json_data bs ≡ Some d) × (book_from built_modules d ≡ None)) → BookSays f (book_verdict bs)
-    book_says book.NotJson e none other = is_no_json P01 (book_from built_modules) bs (λ l. let clash = sym e ∙ large l in cc) (none refl)
-    book_says book.NotBuilt e none other = is_not_built P01 (book_from built_modules) bs (other refl)
+        → (f ≡ book.NotBuilt → length bs ≤ most_book_bytes → (d : Data) × (json_data bs ≡ Some d) × (book_from built_modules d ≡ None)) → BookSays f (book_verdict bs)
+    book_says book.NotJson e none other = is_no_json most_book_bytes P01 (book_from built_modules) bs (λ l. let clash = sym e ∙ large l in cc) (none refl)
+    book_says book.NotBuilt e none other = is_not_built most_book_bytes P01 (book_from built_modules) bs (other refl)
     book_says book.NoMemory e none other = tt
 
 -- the answer where the inventory isn't read

@@ -1,7 +1,7 @@
 -- What becomes of the files that are judged.
 use Rattle.std.specs.Prelude.{◌≡◌, ◌⊎◌, ◌<◌, ℕ, List, length, nat_lt, if◌then◌else◌, Option, Some, None, Result, Ok, Err}
 use Rattle.pb_semantics.specs.Data.{Data}
-use Rattle.pb_semantics.specs.Limits.{most_answer_bytes}
+use Rattle.pb_semantics.specs.Limits.{most_answer_bytes, most_book_bytes, most_inventory_bytes}
 use Rattle.pb_language.specs.Book.{Book}
 use Rattle.pb_language.specs.Judged.{judged}
 use Rattle.pb_language.specs.Verdict.{Verdict, accepted, refused as refused_at}
@@ -60,16 +60,16 @@ of_text not_json read None = Err not_json
 of_text not_json read (Some d) = built (read d)
 
 -- a text that is too long isn't looked at
-abbrev pub of_bytes : {X : Type 0} → Code → (Data → Option X) → List ℕ → Result X Code
-of_bytes not_json read bytes = if nat_lt 4194304 (length bytes) then Err N00 else of_text not_json read (json_data bytes)
+abbrev pub of_bytes : {X : Type 0} → ℕ → Code → (Data → Option X) → List ℕ → Result X Code
+of_bytes most not_json read bytes = if nat_lt most (length bytes) then Err N00 else of_text not_json read (json_data bytes)
 
 -- an inventory's text is this inventory, or is refused with this code
 abbrev pub inventory_verdict : List ℕ → Result InventoryData Code
-inventory_verdict bytes = of_bytes I01 inventory_of bytes
+inventory_verdict bytes = of_bytes most_inventory_bytes I01 inventory_of bytes
 
 -- and a book's text this book, with the built-in modules
 abbrev pub book_verdict : List ℕ → Result Book Code
-book_verdict bytes = of_bytes P01 (book_from built_modules) bytes
+book_verdict bytes = of_bytes most_book_bytes P01 (book_from built_modules) bytes
 
 -- what becomes of the files: one is refused as a whole, or the book gets a verdict for the inventory
 pub data Found : Type 0 where

@@ -75,9 +75,15 @@ pub record NamesFiles (rows : List Row) (s : Subject) : Type 0 where
   pub inventory : string_bytes s.inventory ≡ unwrap_or (first_of (codes "inventory") rows) []
   pub signatures : option_map string_bytes s.signatures ≡ first_of (codes "signatures") rows
 
--- the number that the numeral writes, 5 where there is none
+abbrev pub most_forks : ℕ
+most_forks = 256
+
+abbrev pub default_forks : ℕ
+default_forks = 5
+
+-- the number that the numeral writes, the default where there is none
 abbrev pub IsForkCount : Option Text → ℕ → Type 0
-IsForkCount None n = n ≡ 5
+IsForkCount None n = n ≡ default_forks
 IsForkCount (Some t) n = IsNumeral 10 (without_leading_plus t) × (n ≡ digits_value 10 (without_leading_plus t))
 
 -- the one of the two options that is there
@@ -92,10 +98,10 @@ Says (Some found) (Check s) = (found.0 ≡ codes "check") × NamesFiles found.1 
 Says (Some found) (Run s n a) =
     (found.0 ≡ codes "run") × (NamesFiles found.1 s × (IsForkCount (first_of (codes "forks") found.1) n × NamesSource found.1 a))
 
--- the fork count of a run lies from 1 to 256
+-- a run has a fork at least, and not too many
 abbrev pub HasForks : Options → Type 0
 HasForks (Check s) = Unit {0}
-HasForks (Run s n a) = (1 ≤ n) × (n ≤ 256)
+HasForks (Run s n a) = (1 ≤ n) × (n ≤ most_forks)
 
 -- neither help nor the version is asked for, and memory is there
 abbrev pub is_mistake : ErrorKind → Bool

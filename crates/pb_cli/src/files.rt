@@ -1,5 +1,5 @@
 // Files of bounded length.
-ghost use Rattle.std.specs.Prelude.{◌≡◌, ◌+◌, ◌<◌, ◌^◌, IfOk, IfSome, take};
+ghost use Rattle.std.specs.Prelude.{◌+◌, ◌<◌, ◌^◌, ◌≡◌, IfOk, IfSome, take};
 
 use std::alloc::Global;
 use std::io;

@@ -1,9 +1,8 @@
 // The verdict on the bytes of a playbook and an inventory.
-ghost use Rattle.std.specs.Prelude.{◌≡◌, Ok, IfOk, option_map};
-ghost use Rattle.pb_sig.specs.Table.{built_modules};
-ghost use Rattle.pb_sig.specs.Modules.{modules_of};
-ghost use Rattle.pb_inventory.specs.Inventory.{inventory_view};
-ghost use Rattle.pb_book.specs.Books.{book_of};
+ghost use Rattle.std.specs.Prelude.{◌≡◌, IfOk, Ok, option_map};
+ghost use Rattle.pb_sig.specs.Words.{built_modules, modules_of};
+ghost use Rattle.pb_inventory.specs.Words.{inventory_view};
+ghost use Rattle.pb_book.specs.Words.{book_of};
 ghost use Rattle.pb_cli.specs.Judged.{Judges, book_verdict, inventory_verdict, refused};
 
 use pb_book::book::Book;

@@ -1,25 +1,12 @@
 // The command line, read with `clap`.
-ghost use Rattle.std.specs.Prelude.{◌≡◌, ◌≤◌, [], IfErr, IfOk, IfSome, codes, map, option_map, unwrap_or, string_bytes, false};
-ghost use Rattle.clap.specs.Words.{app_of, fault_of as kinds_of, first_of, found_of, kind_of, rows_of, rule_of, subcommand_of, subcommand_rows_of};
-ghost use Rattle.pb_cli.specs.Options.{
-  Extends,
-  HasForks,
-  IsForkCount,
-  IsLocal,
-  IsOfKind,
-  IsRefusal,
-  NamesFiles,
-  NamesSource,
-  NamesNoCommand,
-  Says,
-  check_app,
-  option_rule,
-  playcheck_app,
-  run_app,
-  top_app,
-  with_files,
-  with_sources,
-};
+ghost use Rattle.std.specs.Prelude.{[], ◌≡◌, ◌≤◌, IfErr, IfOk, IfSome, codes, false, map};
+ghost use Rattle.std.specs.Prelude.{option_map, string_bytes, unwrap_or};
+ghost use Rattle.clap.specs.Words.{app_of, fault_of as kinds_of, first_of, found_of, kind_of};
+ghost use Rattle.clap.specs.Words.{rows_of, rule_of, subcommand_of, subcommand_rows_of};
+ghost use Rattle.pb_cli.specs.Options.{Extends, HasForks, IsForkCount, IsLocal, IsOfKind};
+ghost use Rattle.pb_cli.specs.Options.{IsRefusal, NamesFiles, NamesNoCommand, NamesSource, Says};
+ghost use Rattle.pb_cli.specs.Options.{check_app, most_forks, option_rule, playcheck_app, run_app, top_app};
+ghost use Rattle.pb_cli.specs.Options.{with_files, with_sources};
 
 use crate::words::{LineFault, Options, Source, Subject};
 use clap::error::ErrorKind;
@@ -130,7 +117,7 @@ fn subject_of(alloc: Global, found: &ArgMatches<'_>) -> Result<Subject, LineFaul
 
 fn forks_of(alloc: Global, found: &ArgMatches<'_>) -> Result<u16, LineFault>
     ensures numeral { IfOk result (IsForkCount (first_of (codes "forks") (rows_of (found_of found.now)))) }
-    ensures range { IfOk result (λ n. (1 ≤ n) × (n ≤ 256)) }
+    ensures range { IfOk result (λ n. (1 ≤ n) × (n ≤ most_forks)) }
     ensures refused { IfErr result NamesNoCommand }
 {
     match number_of(value_of(found, "forks")) {

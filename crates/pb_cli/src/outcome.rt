@@ -1,22 +1,10 @@
 // What the words come to, of the bytes of the files that they name: what is printed where, and the status.
-ghost use Rattle.std.specs.Prelude.{◌≡◌, ◌<◌, ◌+◌, ◌^◌, IfOk, max, min};
-ghost use Rattle.pb_strategy.specs.Scripts.{answers_in};
+ghost use Rattle.std.specs.Prelude.{◌+◌, ◌<◌, ◌^◌, ◌≡◌, IfOk, max, min};
+ghost use Rattle.pb_strategy.specs.Words.{answers_in};
 ghost use Rattle.pb_cli.specs.Options.{HasForks};
-ghost use Rattle.pb_cli.specs.Outcomes.{
-  ChecksAs,
-  IsAnsweredBy,
-  IsLineFault,
-  IsOutcome,
-  IsWholeRun,
-  JudgesFiles,
-  LineSays,
-  RunSays,
-  RunsAnswers,
-  RunsAs,
-  RunsBy,
-  RunsFiles,
-  VerdictSays,
-};
+ghost use Rattle.pb_cli.specs.Outcomes.{ChecksAs, IsAnsweredBy, IsLineFault, IsOutcome, IsWholeRun};
+ghost use Rattle.pb_cli.specs.Outcomes.{JudgesFiles, LineSays, RunSays, RunsAnswers, RunsAs};
+ghost use Rattle.pb_cli.specs.Outcomes.{RunsBy, RunsFiles, VerdictSays};
 
 use crate::judge::{Fault, judge};
 use crate::texts::{recap_text, refusal_text, status_of, verdict_text};

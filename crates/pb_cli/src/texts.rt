@@ -1,6 +1,7 @@
 // What is printed of a verdict and of a run, and the status of the program.
 ghost use Rattle.std.specs.Prelude.{◌≡◌, IfOk, string_bytes};
-ghost use Rattle.pb_cli.specs.Texts.{verdict_line, refusal_line, recap_line, reached_text, ended_text, host_text, run_lines, status_for};
+ghost use Rattle.pb_cli.specs.Texts.{ended_text, host_text, reached_text, recap_line, refusal_line};
+ghost use Rattle.pb_cli.specs.Texts.{run_lines, status_for, verdict_line};
 
 use crate::judge::Fault;
 use pb_strategy::recap::Recap;

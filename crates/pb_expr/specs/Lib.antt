@@ -7,3 +7,4 @@ pub mod Trees
 pub mod Signs
 pub mod Forms
 pub mod Reads
+pub mod Words

@@ -1,9 +1,10 @@
 // Equality of values, and what it is for one to be in another.
-ghost use Rattle.std.specs.Prelude.{◌≡◌, []};
-ghost use Rattle.pb_semantics.specs.Data.{null, boolean, int, text};
-ghost use Rattle.pb_semantics.specs.Equal.{data_eq, items_eq, fields_eq, is_item};
-ghost use Rattle.pb_language.specs.Evaluation.{holds_opaque as has_opaque, any_item_opaque, any_field_opaque};
-ghost use Rattle.pb_value.specs.View.{view, items_view, fields_view};
+ghost use Rattle.std.specs.Prelude.{[], ◌≡◌};
+ghost use Rattle.pb_semantics.specs.Words.{boolean, data_eq, fields_eq, int, is_item, items_eq};
+ghost use Rattle.pb_semantics.specs.Words.{null, text};
+ghost use Rattle.pb_language.specs.Words.{any_field_opaque, any_item_opaque};
+ghost use Rattle.pb_language.specs.Words.{holds_opaque as has_opaque};
+ghost use Rattle.pb_value.specs.Words.{fields_view, items_view, view};
 
 use pb_value::value::{Fields, Value};
 

@@ -1,25 +1,13 @@
 // The value of an expression.
-ghost use Rattle.std.specs.Prelude.{◌≡◌, true, false, IfOk, MatchOption, is_some, option_map, string_bytes};
-ghost use Rattle.pb_semantics.specs.Data.{boolean, list, field_value};
-ghost use Rattle.pb_semantics.specs.Equal.{is_part};
-ghost use Rattle.pb_language.specs.Evaluation.{
-  value,
-  stuck,
-  wrong_sort,
-  value_below,
-  found,
-  read,
-  negated,
-  equal_values,
-  found_in,
-  eval as outcome_of,
-  eval_all,
-  eval_any,
-  eval_items,
-  eval_parts,
-};
-ghost use Rattle.pb_value.specs.View.{view, items_view, fields_view};
-ghost use Rattle.pb_expr.specs.ExprView.{expr_view, exprs_view, parts_view, names_of, field_in, is_unreadable};
+ghost use Rattle.std.specs.Prelude.{◌≡◌, IfOk, MatchOption, false, is_some, option_map};
+ghost use Rattle.std.specs.Prelude.{string_bytes, true};
+ghost use Rattle.pb_semantics.specs.Words.{boolean, field_value, is_part, list};
+ghost use Rattle.pb_language.specs.Words.{equal_values, eval as outcome_of, eval_all, eval_any};
+ghost use Rattle.pb_language.specs.Words.{eval_items, eval_parts, found, found_in, negated, read};
+ghost use Rattle.pb_language.specs.Words.{stuck, value, value_below, wrong_sort};
+ghost use Rattle.pb_value.specs.Words.{fields_view, items_view, view};
+ghost use Rattle.pb_expr.specs.ExprView.{expr_view, exprs_view, field_in, is_unreadable, names_of};
+ghost use Rattle.pb_expr.specs.ExprView.{parts_view};
 ghost use Rattle.pb_expr.specs.OwnWorld.{shown};
 
 use crate::equal::{equal, has_item, holds_opaque, items_hold_opaque};

@@ -1,43 +1,22 @@
 // The kind of an expression in an environment, and why it has none.
-ghost use Rattle.std.specs.Prelude.{◌≡◌, ◌∷◌, ℕ, List, Bool, IfOk, OnOk, MatchResult, Some, None, not, true, option_map, string_bytes};
-ghost use Rattle.pb_semantics.specs.Kind.{Cases, never, booleans, lists, recs, results, spot, slot_at as spot_at, put_slot};
-ghost use Rattle.pb_semantics.specs.Data.{count_of};
-ghost use Rattle.pb_semantics.specs.Join.{join as least_above};
-ghost use Rattle.pb_semantics.specs.Fit.{holds_any as any_in, any_slot_holds, any_case_holds};
-ghost use Rattle.pb_language.specs.Expression.{equal, variable};
-ghost use Rattle.pb_language.specs.Scope.{spot_kind};
-ghost use Rattle.pb_language.specs.Kinds.{
-  known_kind,
-  known_items,
-  known_slots,
-  path_spot,
-  count,
-  kind_of as kind_found,
-  items_kind,
-  parts_slots,
-  root_spot,
-};
-ghost use Rattle.pb_language.specs.Fit.{
-  wrong_kind,
-  first,
-  asks,
-  is_any as is_anything,
-  is_boolean,
-  is_text as is_textual,
-  can_compare,
-  can_find,
-  steps_fault,
-  fault,
-  read_fault,
-  chain_fault,
-  are_booleans,
-  items_fault,
-  fields_fault,
-};
-ghost use Rattle.pb_value.specs.KindView.{kind_view, slots_view, cases_view};
-ghost use Rattle.pb_value.specs.View.{view, items_view, fields_view};
-ghost use Rattle.pb_expr.specs.ExprView.{expr_view, exprs_view, parts_view, names_of};
-ghost use Rattle.pb_expr.specs.FitView.{Finds, FindsBeside, own_scope, fault_view, LeadsTo, certain, joined_onto};
+ghost use Rattle.std.specs.Prelude.{◌∷◌, ◌≡◌, Bool, IfOk, List, MatchResult, None, OnOk, Some, not};
+ghost use Rattle.std.specs.Prelude.{option_map, string_bytes, true, ℕ};
+ghost use Rattle.pb_semantics.specs.Words.{Cases, any_case_holds, any_slot_holds, booleans};
+ghost use Rattle.pb_semantics.specs.Words.{count_of, holds_any as any_in, join as least_above};
+ghost use Rattle.pb_semantics.specs.Words.{lists, never, put_slot, recs, results};
+ghost use Rattle.pb_semantics.specs.Words.{slot_at as spot_at, spot};
+ghost use Rattle.pb_language.specs.Words.{are_booleans, asks, can_compare, can_find, chain_fault};
+ghost use Rattle.pb_language.specs.Words.{count, equal, fault, fields_fault, first};
+ghost use Rattle.pb_language.specs.Words.{is_any as is_anything, is_boolean, is_text as is_textual};
+ghost use Rattle.pb_language.specs.Words.{items_fault, items_kind, kind_of as kind_found};
+ghost use Rattle.pb_language.specs.Words.{known_items, known_kind, known_slots, parts_slots};
+ghost use Rattle.pb_language.specs.Words.{path_spot, read_fault, root_spot, spot_kind, steps_fault};
+ghost use Rattle.pb_language.specs.Words.{variable, wrong_kind};
+ghost use Rattle.pb_value.specs.Words.{cases_view, fields_view, items_view, kind_view, slots_view};
+ghost use Rattle.pb_value.specs.Words.{view};
+ghost use Rattle.pb_expr.specs.ExprView.{expr_view, exprs_view, names_of, parts_view};
+ghost use Rattle.pb_expr.specs.FitView.{Finds, FindsBeside, LeadsTo, certain, fault_view};
+ghost use Rattle.pb_expr.specs.FitView.{joined_onto, own_scope};
 
 use crate::expr::{Expr, Path};
 use pb_value::below::find;

@@ -1,17 +1,20 @@
 // The tokens of an expression's text.
-ghost use Rattle.std.specs.Prelude.{◌≡◌, ℕ, ◌+◌, ◌<◌, ◌≤◌, ◌==◌, ◌||◌, List, ◌++◌, None, Some, true, false, drop, length, slice_index, slice_range, string_bytes, IfOk, IfErr, IfSome, IfNone};
+ghost use Rattle.std.specs.Prelude.{◌++◌, ◌+◌, ◌<◌, ◌==◌, ◌||◌, ◌≡◌, ◌≤◌, IfErr, IfNone, IfOk};
+ghost use Rattle.std.specs.Prelude.{IfSome, List, None, Some, drop, false, length, slice_index};
+ghost use Rattle.std.specs.Prelude.{slice_range, string_bytes, true, ℕ};
 ghost use Rattle.pb_expr.specs.Letters as letters;
-ghost use Rattle.pb_expr.specs.Letters.{IsLettered, is_lettered, letters_at, meaning_at, quoted_letters, sort_tokens, tokens_at};
-ghost use Rattle.pb_expr.specs.Place.{place_of, least_width};
-ghost use Rattle.pb_expr.specs.Signs.{begins_numeral, begins_other, may_pair, sign_with, starts_equal};
+ghost use Rattle.pb_expr.specs.Letters.{IsLettered, is_lettered, letters_at, meaning_at};
+ghost use Rattle.pb_expr.specs.Letters.{quoted_letters, sort_tokens, tokens_at};
+ghost use Rattle.pb_expr.specs.Place.{least_width, place_of};
+ghost use Rattle.pb_expr.specs.Signs.{begins_numeral, begins_other, may_pair, sign_with};
+ghost use Rattle.pb_expr.specs.Signs.{starts_equal};
 ghost use Rattle.pb_expr.specs.Trees.{no_tree};
-ghost use Rattle.pb_semantics.specs.Gives.{FaultGives};
-ghost use Rattle.pb_language.specs.Expression.{literal};
-ghost use Rattle.pb_language.specs.Grammar.{literal_of};
-ghost use Rattle.pb_language.specs.Rules.{are_name_bytes, is_digit, is_letter};
+ghost use Rattle.pb_semantics.specs.Words.{FaultGives, text as text_data};
+ghost use Rattle.pb_language.specs.Words.{Tokens, a_number, are_digits, are_name_bytes, escape_of};
+ghost use Rattle.pb_language.specs.Words.{is_digit, is_letter, literal, literal_of, number_then};
+ghost use Rattle.pb_language.specs.Words.{quoted, sign_then, token, tokens_from, tokens_of};
+ghost use Rattle.pb_language.specs.Words.{unreadable, word_token};
 ghost use Rattle.pb_language.specs.Tokens as tokens;
-ghost use Rattle.pb_language.specs.Tokens.{Tokens, a_number, are_digits, escape_of, number_then, quoted, sign_then, token, tokens_from, tokens_of, unreadable, word_token};
-ghost use Rattle.pb_semantics.specs.Data.{text as text_data};
 
 use crate::fault::ExprFault;
 use std::alloc::{AllocError, Global};

@@ -1,19 +1,21 @@
 // Expressions and templates, read from their texts.
-ghost use Rattle.std.specs.Prelude.{vec_len, ◌≡◌, ◌+◌, ◌<◌, ◌≤◌, ℕ, Err, None, Some, drop, length, slice_range, true, IfOk, IfErr, IfSome};
-ghost use Rattle.pb_semantics.specs.Gives.{FaultGives, Gives};
-ghost use Rattle.pb_semantics.specs.Keeps.{is_among};
-ghost use Rattle.pb_language.specs.Simple.{is_simple, shared_names};
+ghost use Rattle.std.specs.Prelude.{◌+◌, ◌<◌, ◌≡◌, ◌≤◌, Err, IfErr, IfOk, IfSome, None, Some, drop};
+ghost use Rattle.std.specs.Prelude.{length, slice_range, true, vec_len, ℕ};
+ghost use Rattle.pb_semantics.specs.Words.{FaultGives, Gives, is_among};
+ghost use Rattle.pb_language.specs.Words.{Deeper, Expression, are_name_bytes, closed};
+ghost use Rattle.pb_language.specs.Words.{conjunction_of, cut, cut_in, deeper, disjunction_of};
+ghost use Rattle.pb_language.specs.Words.{expression_of, is_mark, is_quote as is_quote_byte};
+ghost use Rattle.pb_language.specs.Words.{is_simple, literal, literal_before, negation_of};
+ghost use Rattle.pb_language.specs.Words.{operand_at as bare_operand, operand_of, path_of, reading};
+ghost use Rattle.pb_language.specs.Words.{related as related_tree, relation_of, shared_names};
+ghost use Rattle.pb_language.specs.Words.{steps_of, template_of, tokens_of};
+ghost use Rattle.pb_value.specs.Words.{view};
 ghost use Rattle.pb_expr.specs.ExprView.{expr_view, names_of};
 ghost use Rattle.pb_expr.specs.Letters.{letters_at, tokens_at};
 ghost use Rattle.pb_expr.specs.Reads.{IsRead, IsRefused, IsToken, joined_by, read_on};
-ghost use Rattle.pb_expr.specs.Place.{place_of, least_width};
+ghost use Rattle.pb_expr.specs.Place.{least_width, place_of};
 ghost use Rattle.pb_expr.specs.Trees.{no_tree};
 ghost use Rattle.pb_expr.specs.Forms.{first_literal, opening_at, with_bytes};
-ghost use Rattle.pb_language.specs.Expression.{Expression, literal};
-ghost use Rattle.pb_language.specs.Grammar.{Deeper, closed, conjunction_of, cut, cut_in, deeper, disjunction_of, expression_of, is_mark, literal_before, negation_of, operand_at as bare_operand, operand_of, path_of, reading, related as related_tree, relation_of, steps_of, template_of};
-ghost use Rattle.pb_language.specs.Rules.{are_name_bytes};
-ghost use Rattle.pb_language.specs.Tokens.{is_quote as is_quote_byte, tokens_of};
-ghost use Rattle.pb_value.specs.View.{view};
 
 use crate::expr::{Expr, Path};
 use crate::fault::ExprFault;

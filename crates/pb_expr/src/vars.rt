@@ -1,8 +1,8 @@
 // What the names in an expression hold.
 ghost use Rattle.std.specs.Prelude.{◌≡◌, option_map};
-ghost use Rattle.pb_semantics.specs.Data.{field_value};
-ghost use Rattle.pb_language.specs.World.{World};
-ghost use Rattle.pb_value.specs.View.{view, fields_view};
+ghost use Rattle.pb_semantics.specs.Words.{field_value};
+ghost use Rattle.pb_language.specs.Words.{World};
+ghost use Rattle.pb_value.specs.Words.{fields_view, view};
 ghost use Rattle.pb_expr.specs.OwnWorld.{own_world};
 
 use pb_value::value::{Fields, Value};

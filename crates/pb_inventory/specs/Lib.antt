@@ -2,3 +2,4 @@ pub mod Hosts
 pub mod Views
 pub mod Inventory
 pub mod Faults
+pub mod Words

@@ -1,32 +1,13 @@
 // The hosts of a run in their order, and the groups that they stand in.
-ghost use Rattle.std.specs.Prelude.{
-  ◌≡◌,
-  ◌<◌,
-  ◌≤◌,
-  ℕ,
-  [],
-  ◌∷◌,
-  IfOk,
-  OnOk,
-  Some,
-  String,
-  Vec,
-  true,
-  codes,
-  length,
-  map,
-  option_map,
-  slice_get,
-  string_bytes,
-};
+ghost use Rattle.std.specs.Prelude.{[], ◌<◌, ◌∷◌, ◌≡◌, ◌≤◌, IfOk, OnOk, Some, String, Vec, codes};
+ghost use Rattle.std.specs.Prelude.{length, map, option_map, slice_get, string_bytes, true, ℕ};
 ghost use Rattle.std.specs.declared.alloc.Global.{Global};
 ghost use Rattle.std.specs.Str.{bytes_eq};
 ghost use Rattle.indexmap.specs.IndexMap.{index_map_len, insert_entry};
-ghost use Rattle.pb_semantics.specs.Data.{no_fields};
-ghost use Rattle.pb_semantics.specs.Limits.{most_hosts};
-ghost use Rattle.pb_value.specs.View.{fields_view};
+ghost use Rattle.pb_semantics.specs.Words.{most_hosts, no_fields};
+ghost use Rattle.pb_value.specs.Words.{fields_view};
 ghost use Rattle.pb_inventory.specs.Hosts.{is_lone, one_host};
-ghost use Rattle.pb_inventory.specs.Views.{host_view, group_view};
+ghost use Rattle.pb_inventory.specs.Views.{group_view, host_view};
 
 use indexmap::IndexMap;
 use pb_value::value::Fields;

@@ -1,32 +1,11 @@
 // The inventory that a JSON text is.
-ghost use Rattle.std.specs.Prelude.{
-  ◌≡◌,
-  ◌<◌,
-  ◌≤◌,
-  Err,
-  IfOk,
-  IsUtf8,
-  None,
-  OnOk,
-  Some,
-  false,
-  length,
-  option_map,
-};
+ghost use Rattle.std.specs.Prelude.{◌<◌, ◌≡◌, ◌≤◌, Err, IfOk, IsUtf8, None, OnOk, Some, false};
+ghost use Rattle.std.specs.Prelude.{length, option_map};
 ghost use Rattle.std.specs.Str.{is_utf8};
-ghost use Rattle.pb_semantics.specs.Data.{Data, field_value};
-ghost use Rattle.pb_semantics.specs.Limits.{most_inventory_bytes};
-ghost use Rattle.pb_value.specs.FromJson.{json_data};
-ghost use Rattle.pb_value.specs.View.{view, fields_view};
-ghost use Rattle.pb_inventory.specs.Hosts.{
-  host_of,
-  inventory_of,
-  is_host_byte,
-  is_host_name,
-  only_field,
-  only_text,
-  text_in,
-};
+ghost use Rattle.pb_semantics.specs.Words.{Data, field_value, most_inventory_bytes};
+ghost use Rattle.pb_value.specs.Words.{fields_view, json_data, view};
+ghost use Rattle.pb_inventory.specs.Hosts.{host_of, inventory_of, is_host_byte, is_host_name};
+ghost use Rattle.pb_inventory.specs.Hosts.{only_field, only_text, text_in};
 ghost use Rattle.pb_inventory.specs.Inventory.{inventory_view};
 
 use crate::inventory::Inventory;

@@ -224,9 +224,6 @@ knows_active_host w c h m i =
       later = m.later;
     }
 
-among_item : (d : Data) (g : Name) (ns : List Name) → d ≡ text g → is_text_among d ns ≡ value (boolean true) → is_among g ns ≡ true
-among_item d g ns e h = let x : value (boolean (is_among g ns)) ≡ value (boolean true) = rw e at h in cc
-
 item_among : (o : Option Data) (g : Name) (ns : List Name) → o ≡ Some (text g) → or_stuck undefined (λ d. is_text_among d ns) o ≡ value (boolean true) → is_among g ns ≡ true
 item_among o g ns e h = let x : value (boolean (is_among g ns)) ≡ value (boolean true) = rw e at h in cc
 

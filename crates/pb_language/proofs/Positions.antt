@@ -35,11 +35,6 @@ certain_there None (spot true k) h c = untrue h
 certain_there None (spot false k) h c = untrue c
 certain_there (Some v) s h c = refl
 
-due : (x y : Bool) → (x ≡ true → y ≡ true) → not y || false ≡ true → x ≡ true → false ≡ true
-due true true f h e = h
-due true false f h e = f refl
-due false y f h e = e
-
 not-or : (a b : Bool) → not a || b ≡ true → a ≡ true → b ≡ true
 not-or true b h e = h
 not-or false b h e = untrue e

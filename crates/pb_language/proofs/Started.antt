@@ -191,9 +191,6 @@ module _ (st : Setting) (t : Task) (env : Slots) (w : World) (r : Around w st st
       knows_at (with_local_item w x) st st.laters t.place (with_item (loop_kind (start_scope st t env) t.loop) (named_slots st t.depth env)) (item_around x) (well_own_item st r.wells t env v)
       (local_models st t env t.loop x w.mine (named_slots st t.depth env) i m)
 
-  pass_entry : Entry → Type 0
-  pass_entry x = EntryFine st t env x
-
   condition_fine : (x : Option Data) (b : Bool) → Knows (with_local_item w x) (item_scope st t env) → eval_all (with_local_item w x) t.conditions ≡ value (boolean b)
       → MadeFine (action_scope st t env) t t.action (on_condition (eval_action (with_local_item w x) t.action) (boolean b))
   condition_fine x true k h = action_fine (with_local_item w x) (action_scope st t env) (each_true t.conditions (with_local_item w x) (item_scope st t env) k h) t t.action action_fit
@@ -244,9 +241,6 @@ module _ (st : Setting) (t : Task) (env : Slots) (w : World) (r : Around w st st
   call_one (acts sh fs c) (set_fact ps) n m f h = omega (arith, h)
   call_one (acts sh fs c) (assertion es o) n m f h = omega (arith, h)
   call_one (acts sh fs c) (failure_of o) n m f h = omega (arith, h)
-
-  none_called : (a : Action) → 0 ≤ action_calls a 0
-  none_called a = omega arith
 
   of_entry : (x : Entry) → EntryFine st t env x → EntryOf (action_scope st t env) t t.action x
   of_entry skips f = f

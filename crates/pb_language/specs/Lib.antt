@@ -36,3 +36,4 @@ pub mod plain
 pub mod Tokens
 pub mod Grammar
 pub mod Derivations
+pub mod Words

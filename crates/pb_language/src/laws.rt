@@ -1,7 +1,8 @@
 // The laws of the definitions, each on a function that does nothing.
 ghost use Rattle.pb_language.specs.Derivations.{DerivedAreTrees, TreesAreDerived};
-ghost use Rattle.pb_language.specs.Knows.{FitHasValue, ValueKeepsKind, TestTeaches, KindsAreWell};
-ghost use Rattle.pb_language.specs.Theorem.{LatersHold, NeverStuck, Progress, ShortHistory, WithinBudget};
+ghost use Rattle.pb_language.specs.Knows.{FitHasValue, KindsAreWell, TestTeaches, ValueKeepsKind};
+ghost use Rattle.pb_language.specs.Theorem.{LatersHold, NeverStuck, Progress, ShortHistory};
+ghost use Rattle.pb_language.specs.Theorem.{WithinBudget};
 ghost use Rattle.pb_language.specs.Unwinding.{UnwindingWalks};
 
 /// An expression that is fit has a value in each world that knows the scope, and the value is of the expression's kind.

@@ -14,3 +14,4 @@ pub mod Signature
 pub mod Admission
 pub mod Gives
 pub mod Limits
+pub mod Words

@@ -1,16 +1,7 @@
 // The laws of the definitions, each on a function that does nothing.
-ghost use Rattle.pb_semantics.specs.Laws.{
-  KeepsGoesUp,
-  BelowItself,
-  BelowThrough,
-  SameBothWays,
-  JoinAbove,
-  JoinLeast,
-  JoinWell,
-  MeetModels,
-  ProjectedKeeps,
-  ProjectedOfKept,
-};
+ghost use Rattle.pb_semantics.specs.Laws.{BelowItself, BelowThrough, JoinAbove, JoinLeast};
+ghost use Rattle.pb_semantics.specs.Laws.{JoinWell, KeepsGoesUp, MeetModels, ProjectedKeeps};
+ghost use Rattle.pb_semantics.specs.Laws.{ProjectedOfKept, SameBothWays};
 ghost use Rattle.pb_semantics.specs.Rows.{Rows};
 
 /// Worked rows: what the definitions say of some values and kinds.

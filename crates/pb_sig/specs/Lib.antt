@@ -5,3 +5,4 @@ pub mod Rows
 pub mod Table
 pub mod AdmissionView
 pub mod Results
+pub mod Words

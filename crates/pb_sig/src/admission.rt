@@ -1,10 +1,8 @@
 // Which answers of a module are admitted, and as what.
-ghost use Rattle.std.specs.Prelude.{◌≡◌, IfOk, Some, cond, option_map, codes};
-ghost use Rattle.pb_semantics.specs.Data.{boolean, field_value, put_field, rec};
-ghost use Rattle.pb_value.specs.View.{view, fields_view};
-ghost use Rattle.pb_value.specs.KindView.{kind_view};
-ghost use Rattle.pb_semantics.specs.Admission.{admission, changed_fields, ended, failed_of};
-ghost use Rattle.pb_semantics.specs.Project.{projected};
+ghost use Rattle.std.specs.Prelude.{◌≡◌, IfOk, Some, codes, cond, option_map};
+ghost use Rattle.pb_semantics.specs.Words.{admission, boolean, changed_fields, ended, failed_of};
+ghost use Rattle.pb_semantics.specs.Words.{field_value, projected, put_field, rec};
+ghost use Rattle.pb_value.specs.Words.{fields_view, kind_view, view};
 ghost use Rattle.pb_sig.specs.AdmissionView.{admission_view};
 
 use crate::signature::Module;

@@ -1,8 +1,8 @@
 // The modules that are there in every run.
-ghost use Rattle.std.specs.Prelude.{◌≡◌, true, IfOk, map, option_map, string_bytes};
-ghost use Rattle.pb_semantics.specs.Signature.{is_shape, is_failure_shape};
-ghost use Rattle.pb_language.specs.Builtins.{command, ping};
-ghost use Rattle.pb_value.specs.KindView.{kind_view};
+ghost use Rattle.std.specs.Prelude.{◌≡◌, IfOk, map, option_map, string_bytes, true};
+ghost use Rattle.pb_semantics.specs.Words.{is_failure_shape, is_shape};
+ghost use Rattle.pb_language.specs.Words.{command, ping};
+ghost use Rattle.pb_value.specs.Words.{kind_view};
 ghost use Rattle.pb_sig.specs.Views.{parameter_view};
 
 use crate::rows::{lines, may, must, parameters_of, shape_of};

@@ -1,6 +1,6 @@
 // The modules of a run, found by their names.
 ghost use Rattle.std.specs.Prelude.{◌≡◌, IfOk, map, option_map, true};
-ghost use Rattle.pb_sig.specs.ModuleView.{builtin_view, are_plain_modules};
+ghost use Rattle.pb_sig.specs.ModuleView.{are_plain_modules, builtin_view};
 
 use crate::builtin::Builtin;
 use crate::signature::Module;

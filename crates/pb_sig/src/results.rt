@@ -1,20 +1,9 @@
 // The kinds of what a task of a module or an action registers.
-ghost use Rattle.std.specs.Prelude.{◌≡◌, [], ◌∷◌, true, false, IfOk, string_bytes, codes};
-ghost use Rattle.pb_semantics.specs.Join.{join};
-ghost use Rattle.pb_semantics.specs.Kind.{
-  booleans,
-  is_listed,
-  no_cases,
-  ok_shape,
-  one,
-  put_slot,
-  recs,
-  results,
-  skipped_shape,
-};
-ghost use Rattle.pb_language.specs.Cases.{ended_kind, failure_case, skipped_slots};
-ghost use Rattle.pb_language.specs.Narrow.{results_of};
-ghost use Rattle.pb_value.specs.KindView.{cases_view, kind_view, shape_view, slots_view};
+ghost use Rattle.std.specs.Prelude.{[], ◌∷◌, ◌≡◌, IfOk, codes, false, string_bytes, true};
+ghost use Rattle.pb_semantics.specs.Words.{booleans, is_listed, join, no_cases, ok_shape, one};
+ghost use Rattle.pb_semantics.specs.Words.{put_slot, recs, results, skipped_shape};
+ghost use Rattle.pb_language.specs.Words.{ended_kind, failure_case, results_of, skipped_slots};
+ghost use Rattle.pb_value.specs.Words.{cases_view, kind_view, shape_view, slots_view};
 ghost use Rattle.pb_sig.specs.Results.{result_cases, result_kind};
 
 use crate::rows::{must, shape_of};

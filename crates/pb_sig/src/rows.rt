@@ -1,7 +1,7 @@
 // Records of kinds and lists of parameters, written as rows.
 ghost use Rattle.std.specs.Prelude.{◌≡◌, IfOk, map};
-ghost use Rattle.pb_semantics.specs.Kind.{lists, recs, texts, no_slots};
-ghost use Rattle.pb_value.specs.KindView.{kind_view};
+ghost use Rattle.pb_semantics.specs.Words.{lists, no_slots, recs, texts};
+ghost use Rattle.pb_value.specs.Words.{kind_view};
 ghost use Rattle.pb_sig.specs.Views.{parameter_view};
 ghost use Rattle.pb_sig.specs.Rows.{row_parameter, with_rows};
 

@@ -1,7 +1,7 @@
 // What is known of a module before it is called.
-ghost use Rattle.std.specs.Prelude.{◌≡◌, true, IfOk, map, option_map, string_bytes};
-ghost use Rattle.pb_value.specs.KindView.{kind_view};
-ghost use Rattle.pb_semantics.specs.Signature.{ModuleData, is_shape, is_failure_shape};
+ghost use Rattle.std.specs.Prelude.{◌≡◌, IfOk, map, option_map, string_bytes, true};
+ghost use Rattle.pb_semantics.specs.Words.{ModuleData, is_failure_shape, is_shape};
+ghost use Rattle.pb_value.specs.Words.{kind_view};
 
 use pb_value::kind::Kind;
 use std::alloc::{AllocError, Global};

@@ -70,9 +70,6 @@ module _ {R : Type 0} (answers : R → Call → Answer → R → Type 0) where
   job_events : (old : RunState) (r : R) (new : RunState) (s : R) (d : IsJobDone answers old r new s) → new.history ≡ (old.history ++ Start d.job.host ∷ []) ++ Give d.job.host d.given ∷ []
   job_events old r new s d = ap (λ x. x.history) d.recorded ∙ ap (λ x. x.history ++ Give d.job.host d.given ∷ []) d.handed_out.run
 
-  pub job_keeps : (old : RunState) (r : R) (new : RunState) (s : R) → IsJobDone answers old r new s → (new.checked ≡ old.checked) × (new.forks ≡ old.forks)
-  job_keeps old r new s d = (ap (λ x. x.checked) d.recorded ∙ ap (λ x. x.checked) d.handed_out.run, ap (λ x. x.forks) d.recorded ∙ ap (λ x. x.forks) d.handed_out.run)
-
   -- a job adds no Stop
   job_going_on : (old : RunState) (r : R) (new : RunState) (s : R) → IsJobDone answers old r new s → is_stopped new.history ≡ is_stopped old.history
   job_going_on old r new s d =

@@ -394,16 +394,6 @@ past_none xs i x e f = let none = slice_get_past xs i (ltb-false i (length xs) (
 pub read_at : {A : Type 0} → (xs ys : List A) (i : ℕ) (x : A) → xs ≡ ys → true ≡ nat_lt i (length xs) → x ≡ get_or xs i x → slice_get ys i ≡ Some x
 read_at xs ys i x same l e = ap (λ zs. slice_get zs i) (sym same) ∙ slice_get_read xs (length xs) i x refl (ltb-true i (length xs) (sym l)) e
 
--- a job's ticket is that of a host with a job out
-pub ticket_some : (k : ℕ) (o : Option ℕ) → true ≡ is_ticket k o → is_some o ≡ true
-ticket_some k None e = untrue (sym e)
-ticket_some k (Some p) e = refl
-
-pub unstopped : (p : Phase) → (p ≡ phase.Stopped → ⊥) → is_phase_stopped p ≡ false
-unstopped phase.Going f = refl
-unstopped phase.Ended f = refl
-unstopped phase.Stopped f = absurd (f refl)
-
 -- what stands at a place is the one thing there
 pub same_at : {A : Type 0} → (xs : List A) (i : ℕ) (x y : A) → nat_lt i (length xs) ≡ true → x ≡ get_or xs i x → slice_get xs i ≡ Some y → y ≡ x
 same_at xs i x y l e f = let there = slice_get_read xs (length xs) i x refl (ltb-true i (length xs) l) e in cc

@@ -15,3 +15,4 @@ pub mod Recaps
 pub mod Tally
 pub mod Jobs
 pub mod Scripts
+pub mod Words

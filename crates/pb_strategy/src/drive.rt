@@ -1,5 +1,6 @@
 // A run on one thread, from where it stands to its end.
-ghost use Rattle.std.specs.Prelude.{◌≡◌, ◌⊎◌, ◌<◌, ◌+◌, ◌^◌, ℕ, length, IfOk, OnErr, OnOk, Some, true};
+ghost use Rattle.std.specs.Prelude.{◌+◌, ◌<◌, ◌^◌, ◌≡◌, ◌⊎◌, IfOk, OnErr, OnOk, Some, length, true};
+ghost use Rattle.std.specs.Prelude.{ℕ};
 ghost use Rattle.std.specs.Global.{Vec};
 ghost use Rattle.pb_strategy.specs.Drives.{AreAnswered, Drives};
 ghost use Rattle.pb_strategy.specs.History.{IsAfterGive, is_over};

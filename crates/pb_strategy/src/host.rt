@@ -1,15 +1,15 @@
 // What a run keeps of one host.
-ghost use Rattle.std.specs.Prelude.{◌≡◌, ◌<◌, ◌≤◌, ◌+◌, ◌^◌, ℕ, IfOk, None, cond, is_some, length, map, string_bytes};
+ghost use Rattle.std.specs.Prelude.{◌+◌, ◌<◌, ◌^◌, ◌≡◌, ◌≤◌, IfOk, None, cond, is_some, length};
+ghost use Rattle.std.specs.Prelude.{map, string_bytes, ℕ};
 ghost use Rattle.indexmap.specs.IndexMap.{spare};
-ghost use Rattle.pb_semantics.specs.Data.{list};
-ghost use Rattle.pb_language.specs.Setting.{names_list};
-ghost use Rattle.pb_language.specs.plain.Gives.{put_all, goes_on};
-ghost use Rattle.pb_value.specs.View.{view, fields_view};
-ghost use Rattle.pb_expr.specs.OwnWorld.{own_world};
+ghost use Rattle.pb_semantics.specs.Words.{list};
+ghost use Rattle.pb_language.specs.Words.{goes_on, names_list, put_all};
+ghost use Rattle.pb_value.specs.Words.{fields_view, view};
+ghost use Rattle.pb_expr.specs.Words.{own_world};
 ghost use Rattle.pb_strategy.specs.Endings.{came_of};
-ghost use Rattle.pb_strategy.specs.Jobs.{ticket_in, is_ticket};
-ghost use Rattle.pb_strategy.specs.OwnNames.{AreSame, own_fields, names_fields};
-ghost use Rattle.pb_strategy.specs.Recaps.{nothing, counted, Counts};
+ghost use Rattle.pb_strategy.specs.Jobs.{is_ticket, ticket_in};
+ghost use Rattle.pb_strategy.specs.OwnNames.{AreSame, names_fields, own_fields};
+ghost use Rattle.pb_strategy.specs.Recaps.{Counts, counted, nothing};
 
 use crate::recap::{Ending, Recap};
 use indexmap::IndexMap;

@@ -1,6 +1,6 @@
 // What a host's tasks came to.
-ghost use Rattle.std.specs.Prelude.{◌≡◌, ◌<◌, ◌+◌, ◌^◌, ℕ};
-ghost use Rattle.pb_strategy.specs.Recaps.{nothing, counted, Counts};
+ghost use Rattle.std.specs.Prelude.{◌+◌, ◌<◌, ◌^◌, ◌≡◌, ℕ};
+ghost use Rattle.pb_strategy.specs.Recaps.{Counts, counted, nothing};
 
 /// How many tasks of a host ended in which way.
 #[derive(Clone, Copy, PartialEq, Eq, Debug)]

@@ -1,24 +1,13 @@
 // Answers from a file, in place of modules.
-ghost use Rattle.std.specs.Prelude.{◌≡◌, ◌↔◌, ◌<◌, Err, IfOk, IsTrue, None, codes, false, length, option_map, true};
-ghost use Rattle.pb_value.specs.FromJson.{json_data};
-ghost use Rattle.pb_semantics.specs.Data.{field_value};
-ghost use Rattle.pb_semantics.specs.Limits.{most_answer_bytes};
-ghost use Rattle.pb_semantics.specs.Keeps.{flag_is};
-ghost use Rattle.pb_value.specs.View.{view, items_view, fields_view};
-ghost use Rattle.pb_strategy.specs.Scripts.{
-  Answers,
-  IsNoScript,
-  IsScript,
-  IsScripted,
-  answers_in,
-  are_lists_of_objects as all_lists_of_objects,
-  are_objects as all_objects,
-  entry_of,
-  is_list_of_objects as is_answer_list,
-  item_at,
-  says_unreachable,
-  scripted,
-};
+ghost use Rattle.std.specs.Prelude.{◌<◌, ◌↔◌, ◌≡◌, Err, IfOk, IsTrue, None, codes, false, length};
+ghost use Rattle.std.specs.Prelude.{option_map, true};
+ghost use Rattle.pb_semantics.specs.Words.{field_value, flag_is, most_answer_bytes};
+ghost use Rattle.pb_value.specs.Words.{fields_view, items_view, json_data, view};
+ghost use Rattle.pb_strategy.specs.Scripts.{Answers, IsNoScript, IsScript, IsScripted, answers_in};
+ghost use Rattle.pb_strategy.specs.Scripts.{are_lists_of_objects as all_lists_of_objects};
+ghost use Rattle.pb_strategy.specs.Scripts.{are_objects as all_objects, entry_of};
+ghost use Rattle.pb_strategy.specs.Scripts.{is_list_of_objects as is_answer_list, item_at};
+ghost use Rattle.pb_strategy.specs.Scripts.{says_unreachable, scripted};
 
 use crate::answer::{Answer, Call, Why};
 use crate::drive::Runner;

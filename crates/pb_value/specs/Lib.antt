@@ -3,3 +3,4 @@ pub mod KindView
 pub mod FromJson
 pub mod Found
 pub mod Append
+pub mod Words

@@ -1,25 +1,11 @@
 // The least kind above two others.
-ghost use Rattle.std.specs.Prelude.{◌≡◌, ◌&&◌, IfOk, OnOk, map, max, false, string_bytes, [], ◌∷◌};
-ghost use Rattle.pb_semantics.specs.Kind.{hosts, lists, put_slot, recs, results};
-ghost use Rattle.pb_semantics.specs.Join.{
-  join as join_of,
-  add_names,
-  add_cases as both_cases,
-  append_cases,
-  new_cases,
-  join_slots as both_slots,
-  joined,
-  presence_with,
-  kind_with,
-  record_with,
-  with_others,
-};
-ghost use Rattle.pb_value.specs.KindView.{
-  kind_view,
-  slots_view,
-  cases_view,
-  is_always as is_certain,
-};
+ghost use Rattle.std.specs.Prelude.{[], ◌&&◌, ◌∷◌, ◌≡◌, IfOk, OnOk, false, map, max, string_bytes};
+ghost use Rattle.pb_semantics.specs.Words.{add_cases as both_cases, add_names, append_cases, hosts};
+ghost use Rattle.pb_semantics.specs.Words.{join as join_of, join_slots as both_slots, joined};
+ghost use Rattle.pb_semantics.specs.Words.{kind_with, lists, new_cases, presence_with, put_slot};
+ghost use Rattle.pb_semantics.specs.Words.{record_with, recs, results, with_others};
+ghost use Rattle.pb_value.specs.KindView.{cases_view, is_always as is_certain, kind_view};
+ghost use Rattle.pb_value.specs.KindView.{slots_view};
 ghost use Rattle.pb_value.specs.Found.{spot_view};
 
 use crate::below::{find, has_field, is_covered};

@@ -1,7 +1,6 @@
 // A kind: which values a variable can hold.
 ghost use Rattle.std.specs.Prelude.{◌≡◌, OnOk, string_bytes};
-ghost use Rattle.pb_semantics.specs.Fit.{is_any, is_boolean};
-ghost use Rattle.pb_semantics.specs.Kind.{put_slot};
+ghost use Rattle.pb_semantics.specs.Words.{is_any, is_boolean, put_slot};
 ghost use Rattle.pb_value.specs.KindView.{is_always, kind_view, slots_view};
 
 use std::alloc::AllocError;

@@ -1,7 +1,7 @@
 // A value of a variable, its inner parts shared.
 ghost use Rattle.std.specs.Prelude.{◌≡◌, IfOk, OnOk, option_map, string_bytes};
-ghost use Rattle.pb_semantics.specs.Data.{field_value, list, put_field, rec, text};
-ghost use Rattle.pb_value.specs.View.{truth, view, items_view, fields_view};
+ghost use Rattle.pb_semantics.specs.Words.{field_value, list, put_field, rec, text};
+ghost use Rattle.pb_value.specs.View.{fields_view, items_view, truth, view};
 
 use std::alloc::{AllocError, Global};
 use std::collections::BTreeMap;

@@ -38,12 +38,6 @@ play_table ms inventory p ss q f = record {
       subst (λ (i : Inventory). AreAlike (slot_at n ss) (slot_at n (view_of h (table_for ms i (plain_plays (p ∷ [])))))) (sym e) here;
 }
 
-pub empty_table : (ms : Registry) (inventory : Inventory) → IsTable ms inventory (plain_plays []) no_slots
-empty_table ms inventory = record {
-  at = λ h e n.
-      subst (λ (i : Inventory). slot_at n (view_of h (table_for ms i (plain_plays []))) ≡ nowhere) (sym e) (ap (slot_at n) (nothing_known ms h));
-}
-
 first_host : (hs : List HostData) (h : HostData) (i : ℕ) → hs ≡ h ∷ [] → i < length hs → option_map (λ (x : HostData). x.name) (slice_get hs i) ≡ Some h.name
 first_host hs h zero e l = rw e refl
 first_host hs h (suc i) e l = absurd (omega (ap length e, l, arith))

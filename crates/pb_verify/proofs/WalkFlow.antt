@@ -67,12 +67,6 @@ module _ (ms : Registry) where
   known_kept Debug ps a k = refl
   known_kept SetFact ps a k = refl
 
-  -- what is registered is the same with any arguments
-  pub same_result : (q : Bool) (w : Work) (ps qs : Parts) → work_result ms q (work_of w ps) ≡ work_result ms q (work_of w qs)
-  same_result q (Module n) ps qs = refl
-  same_result q Debug ps qs = refl
-  same_result q SetFact ps qs = refl
-
   pub same_written : (q : Bool) (w : Work) (ps qs : Parts) → written_result ms q (work_of w ps) ≡ written_result ms q (work_of w qs)
   same_written q (Module n) ps qs = refl
   same_written q Debug ps qs = refl

@@ -5,3 +5,4 @@ pub mod ResultTables
 pub mod Faults
 pub mod Judges
 pub mod Known
+pub mod Words

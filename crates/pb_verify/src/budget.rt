@@ -1,7 +1,7 @@
 // How many module calls a run may hand out.
 ghost use Rattle.std.specs.Prelude.{◌≡◌, ◌≤◌, length};
-ghost use Rattle.pb_language.specs.plain.Pass.{plain_calls, work_calls};
-ghost use Rattle.pb_book.specs.Meaning.{plain_task, plain_tasks};
+ghost use Rattle.pb_language.specs.Words.{plain_calls, work_calls};
+ghost use Rattle.pb_book.specs.Words.{plain_task, plain_tasks};
 
 use pb_book::book::{Task, Work};
 

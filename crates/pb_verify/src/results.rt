@@ -1,18 +1,15 @@
 // The kinds of what tasks register, worked out once for each module and action.
-ghost use Rattle.std.specs.Prelude.{◌≡◌, true, false, cond, map, IfOk, Some, option_map, string_bytes};
-ghost use Rattle.pb_semantics.specs.Join.{join as least_above};
-ghost use Rattle.pb_semantics.specs.Kind.{recs};
-ghost use Rattle.pb_language.specs.Book.{Registry as Modules};
-ghost use Rattle.pb_language.specs.Cases.{changed_slots};
-ghost use Rattle.pb_language.specs.Expression.{no_parts};
-ghost use Rattle.pb_value.specs.KindView.{kind_view, slots_view};
-ghost use Rattle.pb_sig.specs.ModuleView.{builtin_view};
-ghost use Rattle.pb_sig.specs.Modules.{modules_of};
-ghost use Rattle.pb_book.specs.Lines.{is_known};
-ghost use Rattle.pb_book.specs.Meaning.{work_of};
-ghost use Rattle.pb_sig.specs.Results.{result_kind};
-ghost use Rattle.pb_verify.specs.ResultTables.{Lists, entry_listed, listed_at, module_listed, module_result};
-ghost use Rattle.pb_verify.specs.Way.{failed_result as result_of_failure, work_result, written_result};
+ghost use Rattle.std.specs.Prelude.{◌≡◌, IfOk, Some, cond, false, map, option_map, string_bytes};
+ghost use Rattle.std.specs.Prelude.{true};
+ghost use Rattle.pb_semantics.specs.Words.{join as least_above, recs};
+ghost use Rattle.pb_language.specs.Words.{Registry as Modules, changed_slots, no_parts};
+ghost use Rattle.pb_value.specs.Words.{kind_view, slots_view};
+ghost use Rattle.pb_sig.specs.Words.{builtin_view, modules_of, result_kind};
+ghost use Rattle.pb_book.specs.Words.{is_known, work_of};
+ghost use Rattle.pb_verify.specs.ResultTables.{Lists, entry_listed, listed_at, module_listed};
+ghost use Rattle.pb_verify.specs.ResultTables.{module_result};
+ghost use Rattle.pb_verify.specs.Way.{failed_result as result_of_failure, work_result};
+ghost use Rattle.pb_verify.specs.Way.{written_result};
 
 use pb_book::book::Work;
 use pb_sig::builtin::Builtin;

@@ -1,28 +1,14 @@
 // The rules that need no following of hosts: parameters and reserved names.
-ghost use Rattle.std.specs.Prelude.{◌≡◌, ◌&&◌, ◌∷◌, [], List, true, Some, codes, map, option_map};
-ghost use Rattle.pb_semantics.specs.Keeps.{is_among};
-ghost use Rattle.pb_semantics.specs.Signature.{ModuleData};
-ghost use Rattle.pb_language.specs.Book.{set_fact_work};
-ghost use Rattle.pb_language.specs.Rules.{
-  any_among,
-  are_known as are_among,
-  are_parameters,
-  can_be_set,
-  has_part,
-  has_required,
-  is_parameter as names_parameter,
-  is_well_formed as is_well,
-  part_names,
-  reserved_names,
-  set_names,
-  written_names,
-};
-ghost use Rattle.pb_language.specs.plain.Books.{task_data};
-ghost use Rattle.pb_language.specs.plain.Pass.{plain_rules};
-ghost use Rattle.pb_sig.specs.Modules.{modules_of};
-ghost use Rattle.pb_sig.specs.Views.{parameter_view};
-ghost use Rattle.pb_book.specs.Lines.{are_known, is_known};
-ghost use Rattle.pb_book.specs.Meaning.{argument_parts, plain_task, plain_tasks};
+ghost use Rattle.std.specs.Prelude.{[], ◌&&◌, ◌∷◌, ◌≡◌, List, Some, codes, map, option_map, true};
+ghost use Rattle.pb_semantics.specs.Words.{ModuleData, is_among};
+ghost use Rattle.pb_language.specs.Words.{any_among, are_known as are_among, are_parameters};
+ghost use Rattle.pb_language.specs.Words.{can_be_set, has_part, has_required};
+ghost use Rattle.pb_language.specs.Words.{is_parameter as names_parameter};
+ghost use Rattle.pb_language.specs.Words.{is_well_formed as is_well, part_names, plain_rules};
+ghost use Rattle.pb_language.specs.Words.{reserved_names, set_fact_work, set_names, task_data};
+ghost use Rattle.pb_language.specs.Words.{written_names};
+ghost use Rattle.pb_sig.specs.Words.{modules_of, parameter_view};
+ghost use Rattle.pb_book.specs.Words.{are_known, argument_parts, is_known, plain_task, plain_tasks};
 ghost use Rattle.pb_verify.specs.Meaning.{refusal_of};
 
 use crate::refusal::{Code, Refusal};

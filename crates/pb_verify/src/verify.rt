@@ -1,31 +1,26 @@
 // The verdict on a book.
-ghost use Rattle.std.specs.Prelude.{◌≡◌, true, None, IfOk, IfErr, option_map};
-ghost use Rattle.pb_semantics.specs.Kind.{no_slots};
-ghost use Rattle.pb_language.specs.Expression.{Name};
-ghost use Rattle.pb_language.specs.Judged.{judged};
-ghost use Rattle.pb_language.specs.Verdict.{accepted, code_of as number_of};
-ghost use Rattle.pb_language.specs.plain.Books.{are_plain_tasks, lone_host};
-ghost use Rattle.pb_language.specs.plain.Flow.{plain_writes};
-ghost use Rattle.pb_language.specs.plain.Pass.{plain_rules, plain_flow};
-ghost use Rattle.pb_language.specs.plain.Tables.{Joins};
-ghost use Rattle.pb_value.specs.KindView.{slots_view};
-ghost use Rattle.pb_expr.specs.FitView.{fault_view};
-ghost use Rattle.pb_sig.specs.Modules.{modules_of};
-ghost use Rattle.pb_inventory.specs.Inventory.{inventory_view};
-ghost use Rattle.pb_book.specs.Books.{plays_of, book_of, plain_plays};
-ghost use Rattle.pb_book.specs.Lines.{are_known, is_numbered, names_known};
-ghost use Rattle.pb_book.specs.Meaning.{are_plain_plays, plain_tasks};
+ghost use Rattle.std.specs.Prelude.{◌≡◌, IfErr, IfOk, None, option_map, true};
+ghost use Rattle.pb_semantics.specs.Words.{no_slots};
+ghost use Rattle.pb_language.specs.Words.{Joins, Name, accepted, are_plain_tasks};
+ghost use Rattle.pb_language.specs.Words.{code_of as number_of, judged, lone_host, plain_flow};
+ghost use Rattle.pb_language.specs.Words.{plain_rules, plain_writes};
+ghost use Rattle.pb_value.specs.Words.{slots_view};
+ghost use Rattle.pb_expr.specs.Words.{fault_view};
+ghost use Rattle.pb_sig.specs.Words.{modules_of};
+ghost use Rattle.pb_inventory.specs.Words.{inventory_view};
+ghost use Rattle.pb_book.specs.Words.{are_known, are_plain_plays, book_of, is_numbered};
+ghost use Rattle.pb_book.specs.Words.{names_known, plain_plays, plain_tasks, plays_of};
 ghost use Rattle.pb_verify.specs.Faults.{fault_refusal};
 ghost use Rattle.pb_verify.specs.Judges.{Judges, Refuses, tasks_verdict};
 ghost use Rattle.pb_verify.specs.Known.{IsTable};
-ghost use Rattle.pb_verify.specs.Meaning.{code_number, inventory_of, refusal_of, or_later};
+ghost use Rattle.pb_verify.specs.Meaning.{code_number, inventory_of, or_later, refusal_of};
 ghost use Rattle.pb_verify.specs.Way.{Stands};
 
 use crate::budget::calls_in;
 use crate::checked::{Accepted, Checked};
 use crate::refusal::{Code, Refusal};
 use crate::rules::first_offence;
-use crate::walk::{Fault, Followed, follow, opening};
+use crate::walk::{FaultAt, Followed, follow, opening};
 use pb_book::book::{Book, Play, Task};
 use pb_expr::fit::Unfit;
 use pb_inventory::inventory::Inventory;
@@ -215,7 +210,7 @@ fn way_of(
     Ok(Way { refusal, known })
 }
 
-fn refusal_at(alloc: Global, fault: Fault, host: &str) -> Result<Refusal, AllocError>
+fn refusal_at(alloc: Global, fault: FaultAt, host: &str) -> Result<Refusal, AllocError>
     ensures { IfOk result (λ r. refusal_of r ≡ fault_refusal host.now fault) }
 {
     Ok(Refusal {

@@ -1,32 +1,26 @@
 // One host's way through the tasks: what is known of its variables, and the first expression that isn't fit.
-ghost use Rattle.std.specs.Prelude.{◌≡◌, ◌&&◌, ◌∷◌, [], ℕ, Bool, true, false, not, None, IfOk, OnOk, map, option_map, string_bytes, codes, is_some};
-ghost use Rattle.pb_semantics.specs.Below.{below as is_below};
-ghost use Rattle.pb_semantics.specs.Kind.{hosts, no_slots, spot, slot_at, put_slot};
-ghost use Rattle.pb_language.specs.Book.{Registry as Modules};
-ghost use Rattle.pb_language.specs.Cases.{parts_set, set_spot, is_conditional};
-ghost use Rattle.pb_language.specs.Expansion.{part_named};
-ghost use Rattle.pb_language.specs.Expression.{Name, no_expressions, expression, no_parts};
-ghost use Rattle.pb_language.specs.Fit.{first, asks, wrong_kind, is_any as is_anything, is_boolean, fault, fields_fault};
-ghost use Rattle.pb_language.specs.Judgement.{action_fault, conditions_fault, arguments_fault, parameter_kind};
-ghost use Rattle.pb_language.specs.Kinds.{kind_of as kind_found};
-ghost use Rattle.pb_language.specs.Plays.{argument_or, module_named};
-ghost use Rattle.pb_language.specs.Tables.{written_spot};
-ghost use Rattle.pb_language.specs.Task.{call_of};
-ghost use Rattle.pb_language.specs.plain.Books.{are_plain_tasks};
-ghost use Rattle.pb_language.specs.plain.Flow.{plain_writes};
-ghost use Rattle.pb_language.specs.plain.Pass.{plain_rules, plain_flow};
-ghost use Rattle.pb_language.specs.plain.Tables.{Joins};
-ghost use Rattle.pb_value.specs.Found.{spot_view};
-ghost use Rattle.pb_value.specs.KindView.{kind_view, slots_view, is_always};
-ghost use Rattle.pb_expr.specs.ExprView.{expr_view};
-ghost use Rattle.pb_expr.specs.FitView.{own_scope};
-ghost use Rattle.pb_sig.specs.Modules.{module_at, modules_of};
-ghost use Rattle.pb_sig.specs.Views.{parameter_view};
-ghost use Rattle.pb_book.specs.Lines.{are_known, is_known};
-ghost use Rattle.pb_book.specs.Meaning.{argument_parts, condition_view, plain_task, plain_tasks, work_of};
+ghost use Rattle.std.specs.Prelude.{[], ◌&&◌, ◌∷◌, ◌≡◌, Bool, IfOk, None, OnOk, codes, false};
+ghost use Rattle.std.specs.Prelude.{is_some, map, not, option_map, string_bytes, true, ℕ};
+ghost use Rattle.pb_semantics.specs.Words.{below as is_below, hosts, no_slots, put_slot, slot_at};
+ghost use Rattle.pb_semantics.specs.Words.{spot};
+ghost use Rattle.pb_language.specs.Words.{Joins, Name, Registry as Modules, action_fault};
+ghost use Rattle.pb_language.specs.Words.{are_plain_tasks, argument_or, arguments_fault, asks};
+ghost use Rattle.pb_language.specs.Words.{call_of, conditions_fault, expression, fault};
+ghost use Rattle.pb_language.specs.Words.{fields_fault, first, is_any as is_anything, is_boolean};
+ghost use Rattle.pb_language.specs.Words.{is_conditional, kind_of as kind_found, module_named};
+ghost use Rattle.pb_language.specs.Words.{no_expressions, no_parts, parameter_kind, part_named};
+ghost use Rattle.pb_language.specs.Words.{parts_set, plain_flow, plain_rules, plain_writes};
+ghost use Rattle.pb_language.specs.Words.{set_spot, written_spot, wrong_kind};
+ghost use Rattle.pb_value.specs.Words.{is_always, kind_view, slots_view, spot_view};
+ghost use Rattle.pb_expr.specs.Words.{expr_view, own_scope};
+ghost use Rattle.pb_sig.specs.Words.{module_at, modules_of, parameter_view};
+ghost use Rattle.pb_book.specs.Words.{are_known, argument_parts, condition_view, is_known};
+ghost use Rattle.pb_book.specs.Words.{plain_task, plain_tasks, work_of};
 ghost use Rattle.pb_verify.specs.Faults.{fault_refusal};
 ghost use Rattle.pb_verify.specs.ResultTables.{Lists};
-ghost use Rattle.pb_verify.specs.Way.{Asks, Stands, own_fault, own_sets, work_result, written_result, registered, put_spot, all_set, sets_of, join_slot, register_joined, all_joined, known_after, written_after};
+ghost use Rattle.pb_verify.specs.Way.{Asks, Stands, all_joined, all_set, join_slot, known_after};
+ghost use Rattle.pb_verify.specs.Way.{own_fault, own_sets, put_spot, register_joined, registered};
+ghost use Rattle.pb_verify.specs.Way.{sets_of, work_result, written_after, written_result};
 
 use crate::results::ResultTable;
 use pb_book::book::{Argument, Task, Work};
@@ -43,7 +37,7 @@ use std::sync::Arc;
 
 /// The first fault of one host, at its line.
 #[derive(Clone, Copy)]
-pub struct Fault {
+pub struct FaultAt {
     pub unfit: Unfit,
     pub line: u32,
 }
@@ -52,7 +46,7 @@ pub struct Fault {
 #[derive(Drop)]
 pub struct Followed {
     /// The first fault, or none.
-    pub fault: Option<Fault>,
+    pub fault: Option<FaultAt>,
     /// Each name that was written up to there, with the least kind above all its writes.
     pub known: Slots,
 }
@@ -95,7 +89,7 @@ fn first_fault(
     results: &ResultTable,
     environment: &mut Slots,
     known: &mut Slots,
-) -> Result<Option<Fault>, AllocError>
+) -> Result<Option<FaultAt>, AllocError>
     requires known { are_known (modules_of registry.now) tasks.now ≡ true }
     requires plain { are_plain_tasks (plain_tasks tasks.now) ≡ true }
     requires ruled { plain_rules (modules_of registry.now) (plain_tasks tasks.now) ≡ None }
@@ -111,7 +105,7 @@ fn first_fault(
             Ok(()) => {}
             Err(KindFault::Unfit(unfit)) => {
                 let line = task.line;
-                return Ok(Some(Fault { unfit, line }));
+                return Ok(Some(FaultAt { unfit, line }));
             }
             Err(KindFault::NoMemory) => return Err(AllocError),
         }

@@ -1,5 +1,5 @@
 // The tasks of a play.
-ghost use Rattle.std.specs.Prelude.{◌≡◌, ◌<◌, ◌≤◌, Err, IfOk, Some, codes, length, option_map, string_bytes, true};
+ghost use Rattle.std.specs.Prelude.{◌≡◌, ◌<◌, ◌≤◌, Err, IfOk, None, Some, codes, length, option_map, string_bytes, true};
 ghost use Rattle.pb_semantics.specs.Data.{field_value, list};
 ghost use Rattle.pb_semantics.specs.Gives.{Gives};
 ghost use Rattle.pb_semantics.specs.Keeps.{is_among};
@@ -159,6 +159,8 @@ fn work_of(key: &str, registry: &Registry) -> Result<Work, FormFault>
     ensures given { (ps : Parts) → Gives (λ w. Some (work_of w ps)) refused result
         (work_with (modules_of registry.now) key.now (Some ps)) }
     ensures known { IfOk result (λ w. is_known (modules_of registry.now) w ≡ true) }
+    ensures other { (ps : Parts) → work_with (modules_of registry.now) key.now (Some ps) ≡ None
+        → result ≡ Err FormFault.NotBuilt }
 {
     if key == "debug" {
         return Ok(Work::Debug);
@@ -205,8 +207,10 @@ fn condition_of(alloc: Global, fields: &Fields) -> Result<Option<Expr>, FormFaul
 
 /// The variable that keeps the result.
 fn register_of(fields: &Fields) -> Result<Option<Arc<String>>, FormFault>
-    ensures { Gives (λ register. Some (option_map (λ n. string_bytes n.value) register)) refused result
+    ensures given { Gives (λ register. Some (option_map (λ n. string_bytes n.value) register)) refused result
         (register_of (field_value (codes "register") (fields_view fields.now.entries))) }
+    ensures other { register_of (field_value (codes "register") (fields_view fields.now.entries)) ≡ None
+        → result ≡ Err FormFault.NotBuilt }
 {
     match field_of(fields, "register") {
         None => Ok(None),

@@ -1,5 +1,5 @@
 // The tasks of a play.
-ghost use Rattle.std.specs.Prelude.{◌<◌, ◌≡◌, ◌≤◌, Err, IfOk, Some, codes, length, option_map};
+ghost use Rattle.std.specs.Prelude.{◌<◌, ◌≡◌, ◌≤◌, Err, IfOk, None, Some, codes, length, option_map};
 ghost use Rattle.std.specs.Prelude.{string_bytes, true};
 ghost use Rattle.pb_semantics.specs.Words.{Gives, field_value, is_among, list, most_tasks};
 ghost use Rattle.pb_language.specs.Words.{Parts, are_name_bytes, are_plain_tasks, are_simple};
@@ -146,6 +146,8 @@ fn work_of<'a>(key: &str, registry: &'a Registry) -> Result<(Work, Option<&'a st
     ensures known { IfOk result (λ w. is_known (modules_of registry.now) w.0 ≡ true) }
     ensures free { IfOk result (λ w. option_map (λ n. n.now) w.1
         ≡ free_form (modules_of registry.now) key.now) }
+    ensures other { (ps : Parts) → work_with (modules_of registry.now) key.now (Some ps) ≡ None
+        → result ≡ Err FormFault.NotBuilt }
 {
     if key == "debug" {
         return Ok((Work::Debug, None));
@@ -202,8 +204,10 @@ fn condition_of(alloc: Global, fields: &Fields) -> Result<Option<Expr>, FormFaul
 
 /// The variable that keeps the result.
 fn register_of(fields: &Fields) -> Result<Option<Arc<String>>, FormFault>
-    ensures { Gives (λ register. Some (option_map (λ n. string_bytes n.value) register)) refused result
+    ensures given { Gives (λ register. Some (option_map (λ n. string_bytes n.value) register)) refused result
         (register_of (field_value (codes "register") (fields_view fields.now.entries))) }
+    ensures other { register_of (field_value (codes "register") (fields_view fields.now.entries)) ≡ None
+        → result ≡ Err FormFault.NotBuilt }
 {
     match field_of(fields, "register") {
         None => Ok(None),

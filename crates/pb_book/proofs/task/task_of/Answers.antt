@@ -46,7 +46,7 @@ returns-in_err-register_of-clause-given c =
     let same = ap (λ (m : Map). register_of (field_value (codes "register") (fields_view m.entries))) (sym c.deref-4.ensures) in
     let work = work_of ms (works_of fs) in
     let condition = condition_of (field_value (codes "when") fs) in
-    refused-exit plain_task _ _ _ _ c.from_residual-in_err-register_of.ensures.1 c.in_err-register_of.ensures
+    refused-exit plain_task _ _ _ _ c.from_residual-in_err-register_of.ensures.1 c.in_err-register_of.ensures.given
     (λ none. all ∙ ap (λ n. task_with l work condition n) (same ∙ none) ∙ no_register l work condition)
 
 pub returns-clause-given : goal.returns-clause-given
@@ -59,5 +59,5 @@ returns-clause-given c =
     let conditions : condition_of (field_value (codes "when") fs) ≡ Some (condition_view c.in_ok-condition_of.field-0) =
     ap (λ (m : Map). condition_of (field_value (codes "when") (fields_view m.entries))) (sym c.deref-3.ensures) ∙ c.in_ok-condition_of.ensures.given in
     let registers : register_of (field_value (codes "register") fs) ≡ Some (option_map (λ n. string_bytes n.value) c.in_ok-register_of.field-0) =
-    ap (λ (m : Map). register_of (field_value (codes "register") (fields_view m.entries))) (sym c.deref-4.ensures) ∙ c.in_ok-register_of.ensures in
+    ap (λ (m : Map). register_of (field_value (codes "register") (fields_view m.entries))) (sym c.deref-4.ensures) ∙ c.in_ok-register_of.ensures.given in
     all ∙ rw (works, conditions, registers)

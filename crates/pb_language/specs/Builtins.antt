@@ -1,5 +1,5 @@
 -- The modules that are there in every book (this project's profile of Ansible's modules).
-use Rattle.std.specs.Prelude.{ℕ, List, [], ◌∷◌, Bool, true, false, Option, Some, None, codes}
+use Rattle.std.specs.Prelude.{ℕ, List, [], ◌∷◌, Bool, true, false, Some, None, codes}
 use Rattle.pb_semantics.specs.Kind.{KindData, Slots, booleans, ints, texts, lists, recs, no_slots, put_slot}
 use Rattle.pb_semantics.specs.Signature.{ParameterData, ModuleData}
 use Rattle.pb_language.specs.Book.{Registry}

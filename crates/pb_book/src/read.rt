@@ -5,7 +5,7 @@ ghost use Rattle.std.specs.Str.{is_utf8};
 ghost use Rattle.pb_semantics.specs.Words.{Gives, field_value, is_among, most_book_bytes};
 ghost use Rattle.pb_semantics.specs.Words.{most_tasks};
 ghost use Rattle.pb_language.specs.Words.{are_plain_tasks};
-ghost use Rattle.pb_value.specs.Words.{fields_view, items_view, json_data, view};
+ghost use Rattle.pb_value.specs.Words.{fields_view, json_data, view};
 ghost use Rattle.pb_sig.specs.Words.{modules_of};
 ghost use Rattle.pb_book.specs.Books.{plain_plays, plays_of};
 ghost use Rattle.pb_book.specs.Faults.{refused};

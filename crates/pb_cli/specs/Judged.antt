@@ -88,7 +88,7 @@ found_by (Ok i) book = book_found i book
 abbrev pub found : List ℕ → List ℕ → Found
 found inventory book = found_by (inventory_verdict inventory) (book_verdict book)
 
--- refused with that refusal, unless memory ran out
+-- refused with that refusal, want of memory aside
 abbrev pub Refuses : Fault → Verdict → Type 0
 Refuses (Refused r) v = v ≡ refused_at (refusal_of r)
 Refuses NoMemory v = Unit {0}

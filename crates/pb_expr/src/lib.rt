@@ -1,4 +1,12 @@
 // Expressions and templates: their text, the kind that is known before a run, the value in it.
+//
+//     let condition = parse_expr(alloc, "out.rc == 0 and not out.changed")?;
+//     match kind_of(alloc, &condition, &slots) {
+//         Ok(kind) => { .. } // what its value is, in every world that the slots describe
+//         Err(KindFault::Unfit(unfit)) => { .. } // the first fault
+//         Err(KindFault::NoMemory) => { .. }
+//     }
+//     let value = eval(alloc, &condition, &vars)?; // where it is fit
 #![tactic(auto)]
 
 pub mod equal;
@@ -9,3 +17,9 @@ pub mod fit;
 mod lexer;
 pub mod parse;
 pub mod vars;
+
+pub use expr::{Expr, Path};
+pub use fault::ExprFault;
+pub use fit::{KindFault, Unfit, kind_of};
+pub use parse::{parse_expr, parse_template};
+pub use vars::Vars;

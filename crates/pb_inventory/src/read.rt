@@ -1,9 +1,9 @@
 // The inventory that a JSON text is.
-ghost use Rattle.std.specs.Prelude.{◌<◌, ◌≡◌, ◌≤◌, Err, IfOk, IsUtf8, None, OnOk, Some, false};
+ghost use Rattle.std.specs.Prelude.{◌<◌, ◌≡◌, ◌≤◌, Err, IfOk, None, Some, false};
 ghost use Rattle.std.specs.Prelude.{length, option_map};
 ghost use Rattle.std.specs.Str.{is_utf8};
-ghost use Rattle.pb_semantics.specs.Words.{Data, field_value, most_inventory_bytes};
-ghost use Rattle.pb_value.specs.Words.{fields_view, json_data, view};
+ghost use Rattle.pb_semantics.specs.Words.{Data, most_inventory_bytes};
+ghost use Rattle.pb_value.specs.Words.{json_data, view};
 ghost use Rattle.pb_inventory.specs.Hosts.{host_of, inventory_of, is_host_byte, is_host_name};
 ghost use Rattle.pb_inventory.specs.Hosts.{only_field, only_text, text_in};
 ghost use Rattle.pb_inventory.specs.Inventory.{inventory_view};

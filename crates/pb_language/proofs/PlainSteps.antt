@@ -12,7 +12,7 @@ use Rattle.pb_language.specs.Notify.{handlers_are}
 use Rattle.pb_language.specs.Start.{Pass, Plan, planned, halted, plan_of}
 use Rattle.pb_language.specs.Give.{Answer, Results, results_are, no_results, Admitted, admitted, breached, unreached, admit_passes, end_all, any_changed, any_failed, message_of, written_variables}
 use Rattle.pb_language.specs.Machine as machine
-use Rattle.pb_language.specs.Machine.{Event, start, give, turn, stop, waits, Stage, notified_by, task_recap, Host, State, enabled, step, opening, run_from, run, settled}
+use Rattle.pb_language.specs.Machine.{Event, start, give, turn, waits, Stage, notified_by, task_recap, Host, State, enabled, step, opening, run_from, run, settled}
 use Rattle.pb_language.specs.plain.Books.{PlainTask, plain_play, lone_host, are_plain_tasks}
 use Rattle.pb_language.specs.plain.Machine as plain
 use Rattle.pb_language.specs.plain.Machine.{plain_world, running_stage, plain_batch, after_failure, Standing, before, inside, PlainRun, plain_rest, plain_ready, plain_host, plain_state, plain_opening, plain_step, plain_is_enabled, plain_run_from}

@@ -1,4 +1,12 @@
 // The modules that a task can name: their parameters, the shapes of their answers, and the admission of answers.
+//
+//     let registry = Registry::builtin(alloc)?;
+//     if let Some(command) = registry.find("command") {
+//         match admit(alloc, command, &answer)? {
+//             Admission::Ok(result) | Admission::Failed(result) => { .. }
+//             Admission::Breach => { .. } // the answer isn't of the module's shapes
+//         }
+//     }
 #![tactic(auto)]
 
 pub mod admission;
@@ -7,3 +15,9 @@ pub mod registry;
 pub mod results;
 pub mod rows;
 pub mod signature;
+
+pub use admission::{Admission, admit};
+pub use builtin::Builtin;
+pub use registry::Registry;
+pub use results::Results;
+pub use signature::{Module, Parameter};

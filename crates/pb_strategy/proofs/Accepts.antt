@@ -4,7 +4,7 @@ use Rattle.pb_semantics.proofs.Bools.{untrue, and-left}
 use Rattle.pb_language.specs.Expression.{Name}
 use Rattle.pb_language.specs.Book.{Registry}
 use Rattle.pb_language.specs.Machine as machine
-use Rattle.pb_language.specs.Machine.{State, run, run_from, enabled, history, opening}
+use Rattle.pb_language.specs.Machine.{State, run, enabled}
 use Rattle.pb_language.specs.Plays.{program_of}
 use Rattle.pb_language.specs.Program.{Inventory}
 use Rattle.pb_language.specs.plain.Books.{lone_host, plain_play}

@@ -10,7 +10,7 @@ use Rattle.pb_semantics.proofs.Names.{same_name}
 use Rattle.pb_language.specs.Book.{Registry}
 use Rattle.pb_language.specs.Cases.{action_name}
 use Rattle.pb_language.specs.Machine as machine
-use Rattle.pb_language.specs.Machine.{State, enabled, history, start, give, turn, stop, step}
+use Rattle.pb_language.specs.Machine.{State, enabled, history, start, turn, stop, step}
 use Rattle.pb_language.specs.Expression.{Name}
 use Rattle.pb_language.specs.Plays.{module_named}
 use Rattle.pb_language.specs.Start.{Pass, call_count, plan_of}
@@ -37,7 +37,7 @@ use Rattle.pb_strategy.specs.Inside.{IsMachine, is_phase_ended, is_phase_stopped
 use Rattle.pb_strategy.specs.Outcomes.{Makes, ComesTo, IsSettledHost, called_name}
 use Rattle.pb_strategy.specs.OwnNames.{own_fields}
 use Rattle.pb_strategy.specs.Passes.{pass_calls, stage_calls, job_calls}
-use Rattle.pb_strategy.specs.Jobs.{ticket_in, is_ticket}
+use Rattle.pb_strategy.specs.Jobs.{ticket_in}
 use Rattle.pb_strategy.specs.Room.{IsRoomier}
 use Rattle.pb_strategy.specs.Standing.{tasks_in, host_of, opening_run, plain_after, IsInside, IsStanding, IsAt}
 use Rattle.pb_strategy.specs.declared.answer.Answer.{Answer}

@@ -5,7 +5,7 @@ use Rattle.std.proofs.lemmas.List.{length-map, get_or_past}
 use Rattle.std.proofs.lemmas.List.Sums.{sum_by-cons}
 use Rattle.pb_language.specs.Drive.{next_start}
 use Rattle.pb_language.specs.Machine as machine
-use Rattle.pb_language.specs.Machine.{State, Host, enabled, start, turn, step}
+use Rattle.pb_language.specs.Machine.{Host, enabled, start, turn}
 use Rattle.pb_language.specs.Program.{Batch}
 use Rattle.pb_language.specs.plain.Machine.{PlainRun, plain_step, plain_is_enabled, are_left, is_through, can_begin}
 use Rattle.pb_language.proofs.PlainSteps.{plain_enabled, plain_follows}

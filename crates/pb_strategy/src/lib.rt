@@ -1,4 +1,11 @@
 // The run of an accepted book, as a machine over events: jobs are handed out, and answers are given back.
+//
+//     let mut run = Run::open(alloc, &checked, 5)?;
+//     let mut runner = ScriptRunner::read(alloc, b"{\"web1\": [{\"ping\": \"pong\"}]}")?;
+//     drive(&mut run, &mut runner)?; // job after job, to the end
+//     for host in 0..run.hosts() {
+//         let recap = run.recap(host); // seven counts
+//     }
 #![tactic(auto)]
 
 pub mod answer;
@@ -9,3 +16,10 @@ mod outcome;
 pub mod recap;
 pub mod run;
 pub mod script;
+
+pub use answer::{Answer, Call, Job, Why};
+pub use drive::Runner;
+pub use event::{Event, GiveError, Given, Taken};
+pub use recap::Recap;
+pub use run::{Run, replay};
+pub use script::{ScriptFault, ScriptRunner};

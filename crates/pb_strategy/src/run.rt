@@ -99,7 +99,7 @@ impl Run {
     }
 
     /// What there is to do: the job of the ready host with the lowest place, ties by host order, or why there is none.
-    /// A batch that is over is turned. Where memory is refused nothing has happened.
+    /// A batch that is over is turned. For want of memory nothing has happened.
     pub fn take(&mut self) -> Result<Taken, AllocError>
         ensures next { IfOk result (λ t. taken_next t ≡ next_of (state_of self.old)) }
         ensures waits { next_of (state_of self.old) ≡ waits → result ≡ Ok Taken.Idle }

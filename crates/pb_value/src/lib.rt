@@ -1,4 +1,11 @@
 // Values and kinds of variables, and JSON read into them.
+//
+//     let value = read_json(alloc, b"{\"rc\": 0}")?;
+//     let mut slots = Slots::new(alloc);
+//     put_slot(&mut slots, String::from_str(alloc, "rc")?, Slot::always(Kind::Int))?;
+//     let kind = Kind::Rec(Arc::new(alloc, slots)?);
+//     assert!(rt; keeps(&value, &kind));
+//     let text = render(&Value::Int(7))?; // 7
 #![tactic(auto)]
 
 pub mod below;
@@ -10,3 +17,8 @@ pub mod project;
 pub mod read;
 pub mod render;
 pub mod value;
+
+pub use join::join_slots;
+pub use kind::{Case, Kind, Presence, Shape, Slot, Slots, put_slot};
+pub use read::{JsonFault, read_json};
+pub use value::{Fields, Value, field_of, put_field};

@@ -10,7 +10,7 @@ use Rattle.pb_language.specs.Scope.{spot_kind, view_of}
 use Rattle.pb_language.specs.plain.Books.{lone_host, are_plain_tasks}
 use Rattle.pb_language.specs.plain.Flow.{plain_writes}
 use Rattle.pb_language.specs.plain.Tables.{Joins}
-use Rattle.pb_language.proofs.PlainTables.{alike, play_joined, nothing_known}
+use Rattle.pb_language.proofs.PlainTables.{alike, play_joined}
 use Rattle.pb_inventory.specs.Hosts.{HostData}
 use Rattle.pb_inventory.specs.Inventory.{inventory_view}
 use Rattle.pb_book.specs.Meaning.{are_plain_plays, plain_tasks}

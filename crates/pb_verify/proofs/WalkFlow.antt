@@ -20,7 +20,7 @@ use Rattle.pb_book.specs.Meaning.{work_of, plain_task, plain_tasks}
 use Rattle.pb_book.specs.declared.book.Task.{Task}
 use Rattle.pb_book.specs.declared.book.Work.{Work}
 use Rattle.pb_book.specs.declared.book.Work.TheVariants.{Module, Debug, SetFact}
-use Rattle.pb_verify.specs.Way.{Stands, own_fault, work_result, written_result, known_after}
+use Rattle.pb_verify.specs.Way.{Stands, own_fault, written_result, known_after}
 use Rattle.pb_verify.proofs.RuleModules.{module_found}
 use Rattle.pb_verify.proofs.WalkModules.{found_plain}
 use Rattle.pb_verify.proofs.WalkWays.{is_kept, asked_here, stands_after}

@@ -34,7 +34,7 @@ abbrev pub Refuses : VerifyFault → Verdict → Type 0
 Refuses (Refused r) v = v ≡ refused (refusal_of r)
 Refuses NoMemory v = Unit {0}
 
--- accepted with that budget, or refused with that refusal, unless memory ran out
+-- accepted with that budget, or refused with that refusal, want of memory aside
 abbrev pub Judges : Result Findings VerifyFault → Verdict → Type 0
 Judges (Ok f) v = v ≡ accepted f.budget
 Judges (Err e) v = Refuses e v

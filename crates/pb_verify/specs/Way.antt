@@ -76,7 +76,7 @@ all_joined (sets n a k r) ss = all_joined r (join_slot n k ss)
 pub record Stands (h : Name) (ss env : Slots) : Type 0 where
   pub own : (n : Name) → is_among n shared_names ≡ false → slot_at n ss ≡ slot_at n (named_slots (lone_setting h) 0 env)
 
--- nothing is asked in vain, or the fault is the first that was to be found, unless memory ran out
+-- nothing is asked in vain, or the fault is the first that was to be found, want of memory aside
 abbrev pub Asks : {A : Type 0} → Result A KindFault → Option Fault → Type 0
 Asks (Ok x) f = f ≡ None
 Asks (Err e) f = Fails e f

@@ -1,4 +1,10 @@
 // The verifier: follows each host through a book, and accepts it with a budget or refuses it.
+//
+//     match verify(alloc, book, inventory, registry) {
+//         Ok(checked) => { .. checked.budget() .. } // no run is stuck, or makes more calls than that
+//         Err(VerifyFault::Refused(refusal)) => { .. refusal.code.text() .. refusal.line .. }
+//         Err(VerifyFault::NoMemory) => { .. }
+//     }
 #![tactic(auto)]
 
 mod budget;
@@ -8,3 +14,7 @@ mod results;
 mod rules;
 pub mod verify;
 mod walk;
+
+pub use checked::Checked;
+pub use refusal::{Code, Refusal};
+pub use verify::VerifyFault;

@@ -1,7 +1,7 @@
 // The kinds of what tasks register, worked out once for each module and action.
-ghost use Rattle.std.specs.Prelude.{◌≡◌, IfOk, Some, cond, false, map, option_map, string_bytes};
+ghost use Rattle.std.specs.Prelude.{◌≡◌, IfOk, Some, cond, false, map, option_map};
 ghost use Rattle.std.specs.Prelude.{true};
-ghost use Rattle.pb_semantics.specs.Words.{join as least_above, recs};
+ghost use Rattle.pb_semantics.specs.Words.{join as least_above};
 ghost use Rattle.pb_language.specs.Words.{Registry as Modules, changed_slots, no_parts};
 ghost use Rattle.pb_value.specs.Words.{kind_view, slots_view};
 ghost use Rattle.pb_sig.specs.Words.{builtin_view, modules_of, result_kind};

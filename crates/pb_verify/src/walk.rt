@@ -6,7 +6,7 @@ ghost use Rattle.pb_semantics.specs.Words.{spot};
 ghost use Rattle.pb_language.specs.Words.{Joins, Name, Registry as Modules, action_fault};
 ghost use Rattle.pb_language.specs.Words.{are_plain_tasks, argument_or, arguments_fault, asks};
 ghost use Rattle.pb_language.specs.Words.{call_of, conditions_fault, expression, fault};
-ghost use Rattle.pb_language.specs.Words.{fields_fault, first, is_any as is_anything, is_boolean};
+ghost use Rattle.pb_language.specs.Words.{fields_fault, first, is_any as is_anything};
 ghost use Rattle.pb_language.specs.Words.{is_conditional, kind_of as kind_found, module_named};
 ghost use Rattle.pb_language.specs.Words.{no_expressions, no_parts, parameter_kind, part_named};
 ghost use Rattle.pb_language.specs.Words.{parts_set, plain_flow, plain_rules, plain_writes};

@@ -1,7 +1,7 @@
 use Rattle.std.proofs.Common.{◌≡◌, map, string_bytes, IfOk, subst, sym, ap, ◌∙◌}
 use Rattle.std.proofs.lemmas.Result.{IfErr-weaker}
 use Rattle.clap.specs.Words.{HasKind, fault_of, is_simple, is_simple_and_free, kind_of, subcommand_of}
-use Rattle.pb_cli.specs.Options.{IsRefusal, Says, playcheck_app}
+use Rattle.pb_cli.specs.Options.{Says, playcheck_app}
 use Rattle.pb_cli.proofs.Refusals.{is_told, no_command}
 use Rattle.pb_cli.proofs.options.options.Goals as goal
 

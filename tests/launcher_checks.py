@@ -11,7 +11,7 @@ from pathlib import Path
 TOP = Path(__file__).resolve().parent.parent
 PROGRAM = TOP / "crates/pb_cli/out/pb_cli"
 CHECK = ["check", "examples/first/book.json", "-i", "examples/first/inventory.json"]
-VERDICT = b"accepted budget 2\n"
+VERDICT = b"accepted budget 4\n"  # the tasks of the book that call a module
 NO_KIT = b"playcheck: the program has to be built, and rt isn't on PATH\n"
 BUILDING = b"playcheck: building the program, which takes some minutes the first time\n"
 

@@ -5,6 +5,8 @@ from pathlib import Path
 
 TOP = Path(__file__).resolve().parent.parent
 CITES_A_PROOF = re.compile(r"^\s*(pub |ghost )*use \S*\.proofs\.")
+COLUMNS = 100
+IS_ONE_TEXT = re.compile(r'^\s*(b"|r#").*;$')
 NOT_BUILT = re.compile(r"^(\S+) of the cases of `tests/cases` aren't built yet", re.M)
 
 
@@ -22,6 +24,14 @@ def proofs_cited():
                 yield f"{path.relative_to(TOP)}:{number}: {line.strip()}"
 
 
+def long_lines():
+    """No line is longer than 100 columns, but for one that is the whole of a text."""
+    for path in sources():
+        for number, line in enumerate(path.read_text(encoding="utf-8").splitlines(), 1):
+            if len(line) > COLUMNS and not IS_ONE_TEXT.match(line):
+                yield f"{path.relative_to(TOP)}:{number}: {len(line)} columns"
+
+
 def wrong_counts():
     """README says how many cases aren't built yet, as tests/not_built_yet does."""
     wanted = (TOP / "tests/not_built_yet").read_text().strip()
@@ -31,7 +41,11 @@ def wrong_counts():
 
 
 def main():
-    checks = [("a file of src/ or specs/ cites a proof", proofs_cited), ("a count is wrong", wrong_counts)]
+    checks = [
+        ("a file of src/ or specs/ cites a proof", proofs_cited),
+        ("a line is too long", long_lines),
+        ("a count is wrong", wrong_counts),
+    ]
     failed = 0
     for name, search in checks:
         found = list(search())

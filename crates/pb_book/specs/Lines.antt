@@ -1,5 +1,6 @@
 -- The lines of a book, the modules that it names, and the order of its arguments.
-use Rattle.std.specs.Prelude.{ℕ, suc, List, [], ◌∷◌, length, map, Bool, true, false, ◌&&◌, ◌==◌, nat_le, is_some, string_bytes}
+use Rattle.std.specs.Prelude.{ℕ, suc, List, [], ◌∷◌, length, map, Bool, true, false, ◌&&◌, ◌==◌}
+use Rattle.std.specs.Prelude.{nat_le, is_some, string_bytes}
 use Rattle.std.specs.Cmp.Lexicographic.{slice_cmp}
 use Rattle.std.specs.Ordering.{is_lt, nat_cmp}
 use Rattle.pb_semantics.specs.Limits.{most_tasks}
@@ -19,7 +20,8 @@ are_from n (t ∷ ts) = (t.line == n) && are_from (suc n) ts
 -- no play, or one at line 1, with its tasks behind it, at most 4,096 lines in all
 abbrev pub is_numbered : List Play → Bool
 is_numbered [] = true
-is_numbered (p ∷ []) = (p.line == 1) && (are_from 2 p.tasks.items && nat_le (length p.tasks.items) most_tasks)
+is_numbered (p ∷ []) =
+    (p.line == 1) && (are_from 2 p.tasks.items && nat_le (length p.tasks.items) most_tasks)
 is_numbered (p ∷ q ∷ ps) = false
 
 -- a module that is named is one of these

@@ -1,6 +1,8 @@
 -- What a task and its arguments stand for, and which plays are plain.
-use Rattle.std.specs.Prelude.{List, [], ◌∷◌, map, Option, Some, None, option_map, string_bytes, Bool, true, ◌&&◌}
-use Rattle.pb_language.specs.Expression.{Expressions, no_expressions, expression, Parts, no_parts, part}
+use Rattle.std.specs.Prelude.{List, [], ◌∷◌, map, Option, Some, None, option_map, string_bytes}
+use Rattle.std.specs.Prelude.{Bool, true, ◌&&◌}
+use Rattle.pb_language.specs.Expression.{Expressions, no_expressions, expression, Parts, no_parts}
+use Rattle.pb_language.specs.Expression.{part}
 use Rattle.pb_language.specs.Book as language
 use Rattle.pb_language.specs.Book.{module_work, debug_work, set_fact_work}
 use Rattle.pb_language.specs.plain.Books.{PlainTask, are_plain_tasks}
@@ -14,7 +16,8 @@ use Rattle.pb_book.specs.declared.book.Play.{Play}
 
 abbrev pub argument_parts : List Argument → Parts
 argument_parts [] = no_parts
-argument_parts (a ∷ more) = part (string_bytes a.name.value) (expr_view a.value) (argument_parts more)
+argument_parts (a ∷ more) =
+    part (string_bytes a.name.value) (expr_view a.value) (argument_parts more)
 
 abbrev pub work_of : Work → Parts → language.Work
 work_of (Module n) ps = module_work (string_bytes n.value) ps

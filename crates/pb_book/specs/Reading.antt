@@ -1,13 +1,18 @@
--- The book that a JSON value is: no play, or one on all hosts, of tasks that call a module, show a message or set variables.
-use Rattle.std.specs.Prelude.{◌≡◌, ℕ, zero, suc, List, [], ◌∷◌, length, Bool, true, false, not, ◌&&◌, ◌||◌, nat_le, cond, Option, Some, None, codes}
+-- The book that a JSON value is: no play, or one on all hosts, of tasks that call a module, show a
+-- message or set variables.
+use Rattle.std.specs.Prelude.{◌≡◌, ℕ, zero, suc, List, [], ◌∷◌, length, Bool, true, false, not}
+use Rattle.std.specs.Prelude.{◌&&◌, ◌||◌, nat_le, cond, Option, Some, None, codes}
 use Rattle.std.specs.Str.{bytes_eq}
-use Rattle.pb_semantics.specs.Data.{Data, null, boolean, int, text, list, rec, opaque, Items, no_items, item, count_of, Fields, no_fields, field, field_value}
+use Rattle.pb_semantics.specs.Data.{Data, null, boolean, int, text, list, rec, opaque, Items}
+use Rattle.pb_semantics.specs.Data.{no_items, item, count_of, Fields, no_fields, field, field_value}
 use Rattle.pb_semantics.specs.Keeps.{is_among}
-use Rattle.pb_semantics.specs.Limits.{most_expression_bytes, most_levels, most_tasks, most_template_bytes, most_text_bytes}
+use Rattle.pb_semantics.specs.Limits.{most_expression_bytes, most_levels, most_tasks}
+use Rattle.pb_semantics.specs.Limits.{most_template_bytes, most_text_bytes}
 use Rattle.pb_semantics.specs.Signature.{ModuleData}
 use Rattle.pb_sig.specs.Modules.{module_at}
 use Rattle.pb_value.specs.FromJson.{json_data}
-use Rattle.pb_language.specs.Expression.{Name, Expression, literal, list_of, record_of, Expressions, no_expressions, expression, Parts, no_parts, part}
+use Rattle.pb_language.specs.Expression.{Name, Expression, literal, list_of, record_of, Expressions}
+use Rattle.pb_language.specs.Expression.{no_expressions, expression, Parts, no_parts, part}
 use Rattle.pb_language.specs.Grammar.{expression_of, template_of, has_opening}
 use Rattle.pb_language.specs.Rules.{is_variable_name}
 use Rattle.pb_language.specs.Book as language
@@ -18,10 +23,12 @@ use Rattle.pb_book.specs.declared.book.Book.{Book}
 
 -- a text that may be an expression is short; another may be longer
 abbrev pub text_fits : List ℕ → Bool
-text_fits bs = nat_le (length bs) most_template_bytes || (nat_le (length bs) most_text_bytes && not (has_opening bs))
+text_fits bs = nat_le (length bs) most_template_bytes
+    || (nat_le (length bs) most_text_bytes && not (has_opening bs))
 
 abbrev mutual
-  -- lists and records stand at most so many in one another, each text is short enough, and nothing is opaque
+  -- lists and records stand at most so many in one another, each text is short enough, and nothing
+  -- is opaque
   pub fits : ℕ → Data → Bool
   fits levels null = true
   fits levels (boolean b) = true
@@ -104,14 +111,16 @@ module_free (Some m) = m.free
 
 -- the parameter that a text in place of the arguments stands for; an action has none
 abbrev pub free_form : List ModuleData → Name → Option Name
-free_form ms k = cond (bytes_eq k (codes "debug")) None (cond (bytes_eq k (codes "set_fact")) None (module_free (module_at k ms)))
+free_form ms k = cond (bytes_eq k (codes "debug")) None
+    (cond (bytes_eq k (codes "set_fact")) None (module_free (module_at k ms)))
 
 -- the value is that argument whole, where there is such a parameter
 abbrev pub whole_argument : Option Name → Data → Option Parts
 whole_argument None d = None
 whole_argument (Some n) d = with_part n (argument_of d) (Some no_parts)
 
--- what stands at the key of a module or an action: nothing, its arguments, or a text for the parameter of its free form
+-- what stands at the key of a module or an action: nothing, its arguments, or a text for the
+-- parameter of its free form
 abbrev pub given_arguments : Option Name → Data → Option Parts
 given_arguments free null = Some no_parts
 given_arguments free (rec fs) = arguments_of fs
@@ -124,7 +133,9 @@ module_or_none (Some m) k ps = Some (module_work k ps)
 
 abbrev pub work_with : List ModuleData → Name → Option Parts → Option language.Work
 work_with ms k None = None
-work_with ms k (Some ps) = cond (bytes_eq k (codes "debug")) (Some (debug_work ps)) (cond (bytes_eq k (codes "set_fact")) (Some (set_fact_work ps)) (module_or_none (module_at k ms) k ps))
+work_with ms k (Some ps) = cond (bytes_eq k (codes "debug")) (Some (debug_work ps))
+    (cond (bytes_eq k (codes "set_fact")) (Some (set_fact_work ps))
+    (module_or_none (module_at k ms) k ps))
 
 -- the entries whose keys are no keywords of tasks
 abbrev pub keywords : List Name
@@ -160,7 +171,8 @@ one_condition (Some e) = Some (expression e no_expressions)
 abbrev pub condition_of : Option Data → Option Expressions
 condition_of None = Some no_expressions
 condition_of (Some (boolean b)) = Some (expression (literal (boolean b)) no_expressions)
-condition_of (Some (text bs)) = cond (nat_le (length bs) most_expression_bytes) (one_condition (expression_of bs)) None
+condition_of (Some (text bs)) =
+    cond (nat_le (length bs) most_expression_bytes) (one_condition (expression_of bs)) None
 condition_of (Some d) = None
 
 abbrev pub register_of : Option Data → Option (Option Name)
@@ -168,13 +180,17 @@ register_of None = Some None
 register_of (Some (text bs)) = cond (is_variable_name bs) (Some (Some bs)) None
 register_of (Some d) = None
 
-abbrev pub task_with : ℕ → Option language.Work → Option Expressions → Option (Option Name) → Option PlainTask
-task_with l (Some w) (Some es) (Some n) = Some (record { line = l; work = w; condition = es; register = n })
+abbrev pub task_with : ℕ → Option language.Work → Option Expressions → Option (Option Name)
+    → Option PlainTask
+task_with l (Some w) (Some es) (Some n) =
+    Some (record { line = l; work = w; condition = es; register = n })
 task_with l w es n = None
 
 -- the task at that line that a value is
 abbrev pub task_of : List ModuleData → ℕ → Data → Option PlainTask
-task_of ms l (rec fs) = cond (is_named (field_value (codes "name") fs)) (task_with l (work_of ms (works_of fs)) (condition_of (field_value (codes "when") fs)) (register_of (field_value (codes "register") fs))) None
+task_of ms l (rec fs) = cond (is_named (field_value (codes "name") fs))
+    (task_with l (work_of ms (works_of fs)) (condition_of (field_value (codes "when") fs))
+    (register_of (field_value (codes "register") fs))) None
 task_of ms l d = None
 
 abbrev pub with_task : Option PlainTask → Option (List PlainTask) → Option (List PlainTask)
@@ -201,7 +217,8 @@ names_all d = false
 
 -- a play's keys are `hosts`, which is `all`, `tasks`, and perhaps a `name`
 abbrev pub is_play : Fields → Bool
-is_play fs = are_keys (codes "hosts" ∷ codes "name" ∷ codes "tasks" ∷ []) fs && (names_all (field_value (codes "hosts") fs) && is_named (field_value (codes "name") fs))
+is_play fs = are_keys (codes "hosts" ∷ codes "name" ∷ codes "tasks" ∷ []) fs
+    && (names_all (field_value (codes "hosts") fs) && is_named (field_value (codes "name") fs))
 
 abbrev pub play_of : List ModuleData → Data → Option (List PlainTask)
 play_of ms (rec fs) = cond (is_play fs) (few_tasks ms (field_value (codes "tasks") fs)) None

@@ -44,9 +44,9 @@ pub struct Play {
     pub tasks: Vec<Task>,
 }
 
-/// A book, as far as it is built: no play, or one, which stands at line 1 and has at most 4,095 tasks,
-/// at the lines 2, 3 and so on. Each of its expressions reads the host's own variables alone, and the arguments of a
-/// task stand in the order of their names' bytes, each name once.
+/// A book, as far as it is built: no play, or one, which stands at line 1 and has at most 4,095
+/// tasks, at the lines 2, 3 and so on. Each of its expressions reads the host's own variables
+/// alone, and the arguments of a task stand in the order of their names' bytes, each name once.
 #[derive(Drop)]
 pub struct Book {
     plays: Vec<Play>,

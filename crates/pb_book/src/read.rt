@@ -37,7 +37,9 @@ impl Book {
     /// else `NotBuilt` where they are another JSON. `NoMemory` for want of memory.
     pub fn read(alloc: Global, bytes: &[u8], registry: &Registry) -> Result<Book, BookFault>
         ensures book { IfOk result (λ b. IsBook (modules_of registry.now) bytes.now b) }
-        ensures known { IfOk result (λ b. names_known (modules_of registry.now) (plays_of b) ≡ true) }
+        ensures known { IfOk result
+            (λ b. names_known (modules_of registry.now) (plays_of b) ≡ true) }
+
         ensures not_built { result ≡ Err BookFault.NotBuilt → length bytes.now ≤ most_book_bytes
             → IsNoBook (modules_of registry.now) bytes.now }
         ensures not_json { result ≡ Err BookFault.NotJson → json_data bytes.now ≡ None }

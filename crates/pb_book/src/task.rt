@@ -1,5 +1,6 @@
 // The tasks of a play.
-ghost use Rattle.std.specs.Prelude.{◌<◌, ◌≡◌, ◌≤◌, Err, IfOk, None, Some, codes, length, option_map};
+ghost use Rattle.std.specs.Prelude.{◌<◌, ◌≡◌, ◌≤◌, Err, IfOk, None, Some, codes, length};
+ghost use Rattle.std.specs.Prelude.{option_map};
 ghost use Rattle.std.specs.Prelude.{string_bytes, true};
 ghost use Rattle.pb_semantics.specs.Words.{Gives, field_value, is_among, list, most_tasks};
 ghost use Rattle.pb_language.specs.Words.{Parts, are_name_bytes, are_plain_tasks, are_simple};
@@ -49,6 +50,7 @@ pub(crate) fn tasks_of(
     ensures known { IfOk result (λ ts. are_known (modules_of registry.now) ts.items ≡ true) }
     ensures plain { IfOk result (λ ts. are_plain_tasks (plain_tasks ts.items) ≡ true) }
     ensures ordered { IfOk result (λ ts. are_ordered ts.items ≡ true) }
+
     ensures crowded { most_tasks < length items.items → result ≡ Err FormFault.NotBuilt }
 {
     if items.len() > MOST_TASKS {
@@ -65,7 +67,8 @@ pub(crate) fn tasks_of(
 
 /// The task that a record describes, which is let go.
 fn task_of(alloc: Global, value: Value, line: u32, registry: &Registry) -> Result<Task, FormFault>
-    ensures given { Gives (λ t. Some (plain_task t)) refused result (task_of (modules_of registry.now) line (view value)) }
+    ensures given { Gives (λ t. Some (plain_task t)) refused result
+        (task_of (modules_of registry.now) line (view value)) }
     ensures line { IfOk result (λ t. t.line ≡ line) }
     ensures known { IfOk result (λ t. is_known (modules_of registry.now) t.work ≡ true) }
     ensures plain { IfOk result (λ t. is_plain_task (plain_task t) ≡ true) }
@@ -139,7 +142,8 @@ fn is_keyword(key: &str) -> bool
     key == "name" || key == "register" || key == "when"
 }
 
-/// The action or the module of that name, and the parameter that a text in place of its arguments stands for, if any.
+/// The action or the module of that name, and the parameter that a text in place of its arguments
+/// stands for, if any.
 fn work_of<'a>(key: &str, registry: &'a Registry) -> Result<(Work, Option<&'a str>), FormFault>
     ensures given { (ps : Parts) → Gives (λ w. Some (work_of w.0 ps)) refused result
         (work_with (modules_of registry.now) key.now (Some ps)) }
@@ -204,9 +208,11 @@ fn condition_of(alloc: Global, fields: &Fields) -> Result<Option<Expr>, FormFaul
 
 /// The variable that keeps the result.
 fn register_of(fields: &Fields) -> Result<Option<Arc<String>>, FormFault>
-    ensures given { Gives (λ register. Some (option_map (λ n. string_bytes n.value) register)) refused result
+    ensures given { Gives (λ register. Some (option_map (λ n. string_bytes n.value) register))
+        refused result
         (register_of (field_value (codes "register") (fields_view fields.now.entries))) }
-    ensures other { register_of (field_value (codes "register") (fields_view fields.now.entries)) ≡ None
+    ensures other { register_of (field_value (codes "register") (fields_view fields.now.entries))
+        ≡ None
         → result ≡ Err FormFault.NotBuilt }
 {
     match field_of(fields, "register") {
@@ -216,7 +222,8 @@ fn register_of(fields: &Fields) -> Result<Option<Arc<String>>, FormFault>
     }
 }
 
-/// Whether a variable can have that name: 1 to 128 ASCII letters, digits or `_`, the first no digit.
+/// Whether a variable can have that name: 1 to 128 ASCII letters, digits or `_`, the first no
+/// digit.
 pub fn is_variable(name: &str) -> bool
     ensures { result ≡ is_variable_name name.now }
 {

@@ -1,7 +1,8 @@
 -- What the readers' answers say of the files that are judged.
-use Rattle.std.proofs.Common.{◌≡◌, ◌<◌, ◌≤◌, ℕ, List, length, nat_lt, Bool, true, false, if◌then◌else◌, Option, Some, None, Result, Ok, Err, refl, sym, inl, inr, is_some, option_map, ap, ◌∙◌}
+use Rattle.std.proofs.Common.{◌≡◌, ◌<◌, ◌≤◌, ℕ, List, length, nat_lt, Bool, true, false, if◌then◌else◌, Option, Some, None, Result, Ok, Err, refl, sym, is_some, option_map, ap, ◌∙◌}
 use Rattle.std.proofs.lemmas.Bool.{ltb-true, ltb-false, le-ltb, lt-ltb}
 use Rattle.pb_semantics.specs.Data.{Data}
+use Rattle.pb_semantics.specs.Gives.{FaultGives}
 use Rattle.pb_semantics.specs.Limits.{most_book_bytes, most_inventory_bytes}
 use Rattle.pb_language.specs.Book.{Book as BookData}
 use Rattle.pb_language.specs.Judged.{judged}
@@ -18,16 +19,23 @@ use Rattle.pb_book.specs.Reading.{book_from}
 use Rattle.pb_book.specs.declared.book.Book.{Book}
 use Rattle.pb_book.specs.declared.fault.BookFault.{BookFault}
 use Rattle.pb_book.specs.declared.fault.BookFault.TheVariants as book
-use Rattle.pb_verify.specs.Judges.{Refuses as Judges}
+use Rattle.pb_verify.specs.Judges.{refused_verdict}
 use Rattle.pb_verify.specs.Meaning.{inventory_of as inventory_data}
 use Rattle.pb_verify.specs.declared.checked.Accepted.{Accepted}
 use Rattle.pb_verify.specs.declared.refusal.Code.{Code}
 use Rattle.pb_verify.specs.declared.refusal.Code.TheVariants.{N00, P01, I01}
 use Rattle.pb_verify.specs.declared.verify.VerifyFault.{VerifyFault}
 use Rattle.pb_verify.specs.declared.verify.VerifyFault.TheVariants as verify
-use Rattle.pb_cli.specs.Judged.{Found, whole_file, verdict, Judges as JudgesFiles, Tells, book_verdict, found, found_by, inventory_verdict, of_book, of_bytes, of_inventory, of_text, of_verify}
+use Rattle.pb_cli.specs.FileVerdicts.{Found, whole_file, verdict, Judges as JudgesFiles, Tells, book_verdict, found, found_by, inventory_verdict, of_book, of_bytes, of_inventory, of_text, of_verify}
 use Rattle.pb_cli.specs.declared.judge.Fault.{Fault}
 use Rattle.pb_cli.specs.declared.judge.Fault.TheVariants.{NoMemory}
+
+-- a text that isn't too long is short
+pub not_over : (most n : ℕ) → ¬ (most < n) → n ≤ most
+not_over most n bound = either (nat_lt most n) refl where
+  either : (b : Bool) → nat_lt most n ≡ b → n ≤ most
+  either true e = absurd (bound (ltb-true most n e))
+  either false e = ltb-false most n e
 
 -- what is said of a text that is read so, with that code where it isn't JSON
 module _ {X : Type 0} (most : ℕ) (code : Code) (read : Data → Option X) (bs : List ℕ) where
@@ -40,18 +48,11 @@ module _ {X : Type 0} (most : ℕ) (code : Code) (read : Data → Option X) (bs 
   short : length bs ≤ most → of_bytes most code read bs ≡ short_text
   short l = ap (λ b. if b then Err N00 else short_text) (le-ltb most (length bs) l)
 
-  -- a text that isn't answered as a form that isn't built is short
-  not_long : ¬ (most < length bs) → length bs ≤ most
-  not_long bound = either (nat_lt most (length bs)) refl where
-    either : (b : Bool) → nat_lt most (length bs) ≡ b → length bs ≤ most
-    either true e = absurd (bound (ltb-true most (length bs) e))
-    either false e = ltb-false most (length bs) e
-
   is_read : (x : X) → ¬ (most < length bs) → (d : Data) × (json_data bs ≡ Some d) × (read d ≡ Some x) → of_bytes most code read bs ≡ Ok x
-  is_read x bound found = short (not_long bound) ∙ rw (found.1, found.2) refl
+  is_read x bound found = short (not_over most (length bs) bound) ∙ rw (found.1, found.2) refl
 
   is_no_json : ¬ (most < length bs) → json_data bs ≡ None → of_bytes most code read bs ≡ Err code
-  is_no_json bound none = short (not_long bound) ∙ rw none refl
+  is_no_json bound none = short (not_over most (length bs) bound) ∙ rw none refl
 
   is_not_built : (length bs ≤ most → (d : Data) × (json_data bs ≡ Some d) × (read d ≡ None)) → of_bytes most code read bs ≡ Err N00
   is_not_built other = either (nat_lt most (length bs)) refl where
@@ -61,7 +62,7 @@ module _ {X : Type 0} (most : ℕ) (code : Code) (read : Data → Option X) (bs 
 
 -- want of memory may come in the place of anything
 no_memory : (f : Found) → Tells (Err NoMemory) f
-no_memory (whole_file code) = inr refl
+no_memory (whole_file code) = tt
 no_memory (verdict v) = tt
 
 -- what a fault of an inventory, and of a book, says of the text
@@ -100,18 +101,18 @@ module _ (bs : List ℕ) where
 
 -- the answer where the inventory isn't read
 pub tells_inventory : (e : InventoryFault) (v : Result InventoryData Code) (w : Result BookData Code) → InventorySays e v → Tells (Err (of_inventory e)) (found_by v w)
-tells_inventory inventory.NotJson v w says = rw says (inl refl)
-tells_inventory inventory.NotBuilt v w says = rw says (inl refl)
+tells_inventory inventory.NotJson v w says = rw says refl
+tells_inventory inventory.NotBuilt v w says = rw says refl
 tells_inventory inventory.NoMemory v w says = no_memory (found_by v w)
 
 -- where the book isn't
 pub tells_book : (i : InventoryData) (e : BookFault) (v : Result InventoryData Code) (w : Result BookData Code) → v ≡ Ok i → BookSays e w → Tells (Err (of_book e)) (found_by v w)
-tells_book i book.NotJson v w read says = rw (read, says) (inl refl)
-tells_book i book.NotBuilt v w read says = rw (read, says) (inl refl)
+tells_book i book.NotJson v w read says = rw (read, says) refl
+tells_book i book.NotBuilt v w read says = rw (read, says) refl
 tells_book i book.NoMemory v w read says = no_memory (found_by v w)
 
 -- where both are
-pub tells_refused : (i : InventoryData) (b : BookData) (e : VerifyFault) (v : Result InventoryData Code) (w : Result BookData Code) → v ≡ Ok i → w ≡ Ok b → Judges e (judged built_modules (inventory_data i) b) → Tells (Err (of_verify e)) (found_by v w)
+pub tells_refused : (i : InventoryData) (b : BookData) (e : VerifyFault) (v : Result InventoryData Code) (w : Result BookData Code) → v ≡ Ok i → w ≡ Ok b → FaultGives (refused_verdict e) (judged built_modules (inventory_data i) b) → Tells (Err (of_verify e)) (found_by v w)
 tells_refused i b (verify.Refused r) v w read read_book judges = rw (read, read_book) judges
 tells_refused i b verify.NoMemory v w read read_book judges = no_memory (found_by v w)
 

@@ -1,4 +1,4 @@
 pub mod Texts
 pub mod Options
-pub mod Judged
+pub mod FileVerdicts
 pub mod Outcomes

@@ -1,12 +1,15 @@
 -- What a command line says, read as `clap` reads it.
-use Rattle.std.specs.Prelude.{◌≡◌, ◌≤◌, ◌⊎◌, ℕ, [], List, codes, Option, Some, None, Bool, true, false, unwrap_or, option_map, string_bytes}
+use Rattle.std.specs.Prelude.{◌≡◌, ◌≤◌, ◌⊎◌, ℕ, [], List, codes, Option, Some, None, Bool, true}
+use Rattle.std.specs.Prelude.{false, unwrap_or, option_map, string_bytes}
 use Rattle.std.specs.Str.Parse.{IsNumeral, digits_value, without_leading_plus}
-use Rattle.clap.specs.Words.{App, IsAmong, Kinds, Row, Rule, Text, app_of, first_of, new_app, new_rule, with_rule, with_subcommand}
+use Rattle.clap.specs.Words.{App, IsAmong, Kinds, Row, Rule, Text, app_of, first_of, new_app}
+use Rattle.clap.specs.Words.{new_rule, with_rule, with_subcommand}
 use Rattle.clap.specs.declared.builder.command.Command.{Command}
 use Rattle.clap.specs.declared.builder.command.Command.TheViews.{out-Command}
 use Rattle.clap.specs.declared.builder.action.ArgAction.TheVariants.{Set}
 use Rattle.clap.specs.declared.error.kind.ErrorKind.{ErrorKind}
-use Rattle.clap.specs.declared.error.kind.ErrorKind.TheVariants.{DisplayHelp, DisplayVersion, OutOfMemory}
+use Rattle.clap.specs.declared.error.kind.ErrorKind.TheVariants.{DisplayHelp, DisplayVersion}
+use Rattle.clap.specs.declared.error.kind.ErrorKind.TheVariants.{OutOfMemory}
 use Rattle.pb_cli.specs.declared.words.LineFault.{LineFault}
 use Rattle.pb_cli.specs.declared.words.LineFault.TheVariants.{Help, Version, Line, NoMemory}
 use Rattle.pb_cli.specs.declared.words.Options.{Options}
@@ -63,7 +66,11 @@ run_app = with_sources (with_files (new_app (codes "run")))
 
 -- a command is wanted, or the version
 abbrev pub top_app : App
-top_app = record { top = record (new_app (codes "playcheck")).top { subcommand_required = true; has_version = true }; subs = [] }
+top_app = record {
+  top = record (new_app (codes "playcheck")).top
+      { subcommand_required = true; has_version = true };
+  subs = [];
+}
 
 -- the program's command line: playcheck check .. or playcheck run ..
 abbrev pub playcheck_app : App
@@ -84,19 +91,23 @@ default_forks = 5
 -- the number that the numeral writes, the default where there is none
 abbrev pub IsForkCount : Option Text → ℕ → Type 0
 IsForkCount None n = n ≡ default_forks
-IsForkCount (Some t) n = IsNumeral 10 (without_leading_plus t) × (n ≡ digits_value 10 (without_leading_plus t))
+IsForkCount (Some t) n =
+    IsNumeral 10 (without_leading_plus t) × (n ≡ digits_value 10 (without_leading_plus t))
 
 -- the one of the two options that is there
 abbrev pub NamesSource : List Row → Source → Type 0
-NamesSource rows (Answers s) = (first_of (codes "answers") rows ≡ Some (string_bytes s)) × (first_of (codes "modules") rows ≡ None)
-NamesSource rows (Modules s) = (first_of (codes "modules") rows ≡ Some (string_bytes s)) × (first_of (codes "answers") rows ≡ None)
+NamesSource rows (Answers s) = (first_of (codes "answers") rows ≡ Some (string_bytes s))
+    × (first_of (codes "modules") rows ≡ None)
+NamesSource rows (Modules s) = (first_of (codes "modules") rows ≡ Some (string_bytes s))
+    × (first_of (codes "answers") rows ≡ None)
 
 -- the options are the values that were found for the command that was named
 abbrev pub Says : Option (Text × List Row) → Options → Type 0
 Says None o = ⊥
 Says (Some found) (Check s) = (found.0 ≡ codes "check") × NamesFiles found.1 s
 Says (Some found) (Run s n a) =
-    (found.0 ≡ codes "run") × (NamesFiles found.1 s × (IsForkCount (first_of (codes "forks") found.1) n × NamesSource found.1 a))
+    (found.0 ≡ codes "run") × (NamesFiles found.1 s
+    × (IsForkCount (first_of (codes "forks") found.1) n × NamesSource found.1 a))
 
 -- a run has a fork at least, and not too many
 abbrev pub HasForks : Options → Type 0
@@ -117,16 +128,30 @@ IsOfKind (Version text) k = k ≡ DisplayVersion
 IsOfKind (Line text) k = is_mistake k ≡ true
 IsOfKind NoMemory k = Unit {0}
 
--- the words are read, and name no options
-abbrev pub NamesNoCommand : LineFault → Type 0
-NamesNoCommand (Help text) = ⊥
-NamesNoCommand (Version text) = ⊥
-NamesNoCommand (Line text) = Unit {0}
-NamesNoCommand NoMemory = Unit {0}
+-- a mistake in the words, where that is so; want of memory aside
+abbrev pub IsMistakeWhere : Type 0 → LineFault → Type 0
+IsMistakeWhere P (Help text) = ⊥
+IsMistakeWhere P (Version text) = ⊥
+IsMistakeWhere P (Line text) = P
+IsMistakeWhere P NoMemory = Unit {0}
 
--- the fault is one of these, which `clap` finds in the words, or, where it finds none, that they name no options; want of memory aside
-abbrev pub IsRefusal : Kinds → LineFault → Type 0
-IsRefusal ks (Help text) = IsAmong DisplayHelp ks
-IsRefusal ks (Version text) = IsAmong DisplayVersion ks
-IsRefusal ks (Line text) = (ks ≡ []) ⊎ ((k : ErrorKind) × (IsAmong k ks × (is_mistake k ≡ true)))
-IsRefusal ks NoMemory = Unit {0}
+-- no number of forks, and no source of answers, is named
+abbrev pub NamesNoForks : List Row → Type 0
+NamesNoForks rows =
+    (n : ℕ) → IsForkCount (first_of (codes "forks") rows) n → 1 ≤ n → n ≤ most_forks → ⊥
+
+abbrev pub NamesNoSource : List Row → Type 0
+NamesNoSource rows = (s : Source) → NamesSource rows s → ⊥
+
+-- what was found for the command that was named, if one was, says no options
+abbrev pub SaysNone : Option (Text × List Row) → Type 0
+SaysNone found = (o : Options) → Says found o → HasForks o → ⊥
+
+-- the fault is one of these, which `clap` finds in the words, or, where it finds none, that what is
+-- found says no options; want of memory aside
+abbrev pub IsRefusal : Kinds → Option (Text × List Row) → LineFault → Type 0
+IsRefusal ks found (Help text) = IsAmong DisplayHelp ks
+IsRefusal ks found (Version text) = IsAmong DisplayVersion ks
+IsRefusal ks found (Line text) =
+    ((ks ≡ []) × SaysNone found) ⊎ ((k : ErrorKind) × (IsAmong k ks × (is_mistake k ≡ true)))
+IsRefusal ks found NoMemory = Unit {0}

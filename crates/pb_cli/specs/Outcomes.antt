@@ -1,21 +1,24 @@
 -- What the program comes to: what it prints where, and its status.
-use Rattle.std.specs.Prelude.{◌≡◌, ◌⊎◌, ℕ, List, length, max, min, option_map, true, false, Result, Ok, Err, IsErr, string_bytes}
+use Rattle.std.specs.Prelude.{◌≡◌, ◌≤◌, ◌⊎◌, ℕ, List, length, max, min, option_map, true, false}
+use Rattle.std.specs.Prelude.{Result, Ok, Err, IsErr, string_bytes}
 use Rattle.std.specs.declared.alloc.AllocError.{AllocError}
 use Rattle.pb_semantics.specs.Data.{Fields}
+use Rattle.pb_semantics.specs.Limits.{most_answer_bytes}
 use Rattle.pb_inventory.specs.Inventory.{inventory_view}
 use Rattle.pb_verify.specs.declared.checked.Accepted.{Accepted}
 use Rattle.pb_strategy.specs.Drives.{Drives}
 use Rattle.pb_strategy.specs.History.{RunState, is_ended, is_stopped, opened}
-use Rattle.pb_strategy.specs.Scripts.{IsFromFile, IsScript}
+use Rattle.pb_strategy.specs.Scripts.{IsFromFile, script_in}
 use Rattle.pb_strategy.specs.Sound.{IsSound}
 use Rattle.pb_strategy.specs.declared.script.ScriptFault.{ScriptFault}
 use Rattle.pb_strategy.specs.declared.script.ScriptRunner.{ScriptRunner}
-use Rattle.pb_cli.specs.Judged.{HasScriptFault, Judges, of_script}
-use Rattle.pb_cli.specs.Texts.{refusal_line, run_lines, status_for, verdict_line}
+use Rattle.pb_cli.specs.FileVerdicts.{HasScriptFault, Judges, of_script}
+use Rattle.pb_cli.specs.Texts.{not_built_line, refusal_line, run_lines, status_for, verdict_line}
 use Rattle.pb_cli.specs.declared.judge.Fault.{Fault}
 use Rattle.pb_cli.specs.declared.judge.Fault.TheVariants.{Refused, NoMemory}
 use Rattle.pb_cli.specs.declared.outcome.Bytes.{Bytes}
 use Rattle.pb_cli.specs.declared.outcome.Outcome.{Outcome}
+use Rattle.pb_cli.specs.declared.outcome.Stream.{Stream}
 use Rattle.pb_cli.specs.declared.outcome.Stream.TheVariants.{Output, Error}
 use Rattle.pb_cli.specs.declared.words.LineFault.{LineFault}
 use Rattle.pb_cli.specs.declared.words.LineFault.TheVariants as words
@@ -25,36 +28,38 @@ use Rattle.pb_cli.specs.declared.words.Source.{Source}
 use Rattle.pb_cli.specs.declared.words.Source.TheVariants.{Answers, Modules}
 
 -- the statuses: all is well, a refusal, a bad command line
-abbrev pub fine : ℕ
-fine = 0
+abbrev pub fine_status : ℕ
+fine_status = 0
 
-abbrev pub refused : ℕ
-refused = 1
+abbrev pub refused_status : ℕ
+refused_status = 1
 
-abbrev pub usage : ℕ
-usage = 64
+abbrev pub usage_status : ℕ
+usage_status = 64
 
 -- on words that name no options
 abbrev pub LineSays : LineFault → Result Outcome AllocError → Type 0
-LineSays (words.Help text) r = r ≡ Ok (record { stream = Error; text = text; status = fine })
-LineSays (words.Version text) r = r ≡ Ok (record { stream = Output; text = text; status = fine })
-LineSays (words.Line text) r = r ≡ Ok (record { stream = Error; text = text; status = usage })
+LineSays (words.Help text) r = r ≡ Ok (record { stream = Error; text = text; status = fine_status })
+LineSays (words.Version text) r =
+    r ≡ Ok (record { stream = Output; text = text; status = fine_status })
+LineSays (words.Line text) r =
+    r ≡ Ok (record { stream = Error; text = text; status = usage_status })
 LineSays words.NoMemory r = IsErr r
 
--- that text on standard output, and that status
-pub record Prints (line : List ℕ) (code : ℕ) (o : Outcome) : Type 0 where
-  pub output : o.stream ≡ Output
+-- that text is printed there, and that is the status
+pub record Prints (stream : Stream) (line : List ℕ) (code : ℕ) (o : Outcome) : Type 0 where
+  pub printed : o.stream ≡ stream
   pub text : string_bytes o.text ≡ line
   pub status : o.status ≡ code
 
 abbrev pub VerdictSays : Result Accepted Fault → Outcome → Type 0
-VerdictSays (Ok a) o = Prints (verdict_line (Ok a)) fine o
-VerdictSays (Err (Refused r)) o = Prints (refusal_line r) refused o
+VerdictSays (Ok a) o = Prints Output (verdict_line (Ok a)) fine_status o
+VerdictSays (Err (Refused r)) o = Prints Output (refusal_line r) refused_status o
 VerdictSays (Err NoMemory) o = ⊥
 
 abbrev pub RunSays : Result RunState Fault → Outcome → Type 0
-RunSays (Ok r) o = Prints (run_lines r) (status_for r.recaps) o
-RunSays (Err (Refused r)) o = Prints (refusal_line r) refused o
+RunSays (Ok r) o = Prints Output (run_lines r) (status_for r.recaps) o
+RunSays (Err (Refused r)) o = Prints Output (refusal_line r) refused_status o
 RunSays (Err NoMemory) o = ⊥
 
 -- the verdict on the files
@@ -83,17 +88,20 @@ pub record IsAnsweredBy (file : Fields) (a : Accepted) (r : RunState) : Type 0 w
 pub record IsScriptedRun (most : ℕ) (answers : List ℕ) (a : Accepted) (r : RunState) : Type 0 where
   pub whole : IsWholeRun most a r
   pub file : Fields
-  pub read : IsScript answers file
+  pub short : length answers ≤ most_answer_bytes
+  pub read : script_in answers ≡ Ok file
   pub answered : IsAnsweredBy file a r
 
 -- what becomes of a run of an accepted book: the fault of the answers, or the run
 abbrev pub RunsAnswers : ℕ → List ℕ → Accepted → Result RunState Fault → Type 0
 RunsAnswers forks answers a (Ok r) = IsScriptedRun forks answers a r
-RunsAnswers forks answers a (Err f) = (s : ScriptFault) × ((f ≡ of_script s) × HasScriptFault answers s)
+RunsAnswers forks answers a (Err f) =
+    (s : ScriptFault) × ((f ≡ of_script s) × HasScriptFault answers s)
 
 -- the verdict comes first: its fault, or what becomes of the run of what it accepts
 abbrev pub RunsFiles : ℕ → Bytes → Result RunState Fault → Type 0
-RunsFiles forks b r = ((f : Fault) × (JudgesFiles b (Err f) × (r ≡ Err f))) ⊎ ((a : Accepted) × (JudgesFiles b (Ok a) × RunsAnswers forks b.answers.items a r))
+RunsFiles forks b r = ((f : Fault) × (JudgesFiles b (Err f) × (r ≡ Err f)))
+    ⊎ ((a : Accepted) × (JudgesFiles b (Ok a) × RunsAnswers forks b.answers.items a r))
 
 -- what `check` comes to
 abbrev pub ChecksAs : Bytes → Outcome → Type 0
@@ -103,14 +111,10 @@ ChecksAs b o = (r : Result Accepted Fault) × (JudgesFiles b r × VerdictSays r 
 abbrev pub RunsAs : ℕ → Bytes → Outcome → Type 0
 RunsAs forks b o = (r : Result RunState Fault) × (RunsFiles forks b r × RunSays r o)
 
--- a bad command line
-abbrev pub IsLineFault : Outcome → Type 0
-IsLineFault o = (o.stream ≡ Error) × (o.status ≡ usage)
-
 -- by what answers the calls; programs aren't built yet
 abbrev pub RunsBy : Source → ℕ → Bytes → Outcome → Type 0
 RunsBy (Answers name) forks b o = RunsAs forks b o
-RunsBy (Modules name) forks b o = IsLineFault o
+RunsBy (Modules name) forks b o = Prints Error not_built_line usage_status o
 
 -- what the options and the files come to
 abbrev pub IsOutcome : Options → Bytes → Outcome → Type 0

@@ -1,5 +1,6 @@
 -- What the program prints.
-use Rattle.std.specs.Prelude.{ℕ, List, [], ◌∷◌, ◌++◌, map, Bool, nat_lt, if◌then◌else◌, codes, Option, Some, None, Result, Ok, Err, String, string_bytes}
+use Rattle.std.specs.Prelude.{ℕ, List, [], ◌∷◌, ◌++◌, map, Bool, nat_lt, if◌then◌else◌, codes}
+use Rattle.std.specs.Prelude.{Option, Some, None, Result, Ok, Err, String, string_bytes}
 use Rattle.std.specs.List.{flat_map, list_any, zip}
 use Rattle.std.specs.declared.alloc.Global.{Global}
 use Rattle.std.specs.Fmt.{decimal}
@@ -18,7 +19,13 @@ host_text None = codes "-"
 host_text (Some name) = string_bytes name
 
 abbrev pub refusal_line : Refusal → List ℕ
-refusal_line r = codes "refused " ++ (code_text r.code ++ (codes " line " ++ (decimal r.line ++ (codes " host " ++ (host_text r.host ++ (10 ∷ []))))))
+refusal_line r = codes "refused "
+    ++ (code_text r.code ++ (codes " line "
+    ++ (decimal r.line ++ (codes " host " ++ (host_text r.host ++ (10 ∷ []))))))
+
+-- where programs are to answer the calls
+abbrev pub not_built_line : List ℕ
+not_built_line = codes "playcheck: --modules is not built yet" ++ (10 ∷ [])
 
 -- the line of a verdict, with its line feed
 abbrev pub verdict_line : Result Accepted Fault → List ℕ
@@ -27,15 +34,20 @@ verdict_line (Err (Refused r)) = refusal_line r
 verdict_line (Err NoMemory) = []
 
 abbrev pub reached_text : Recap → List ℕ
-reached_text r = codes "ok=" ++ (decimal r.ok ++ (codes " changed=" ++ (decimal r.changed ++ (codes " unreachable=" ++ decimal r.unreachable))))
+reached_text r = codes "ok="
+    ++ (decimal r.ok ++ (codes " changed="
+    ++ (decimal r.changed ++ (codes " unreachable=" ++ decimal r.unreachable))))
 
 abbrev pub ended_text : Recap → List ℕ
 ended_text r =
-    codes "failed=" ++ (decimal r.failed ++ (codes " skipped=" ++ (decimal r.skipped ++ (codes " rescued=" ++ (decimal r.rescued ++ (codes " ignored=" ++ decimal r.ignored))))))
+    codes "failed=" ++ (decimal r.failed
+    ++ (codes " skipped=" ++ (decimal r.skipped
+    ++ (codes " rescued=" ++ (decimal r.rescued ++ (codes " ignored=" ++ decimal r.ignored))))))
 
 -- the line of one host's recap, with its line feed
 abbrev pub recap_line : List ℕ → Recap → List ℕ
-recap_line name r = name ++ (codes " : " ++ (reached_text r ++ (codes " " ++ (ended_text r ++ (10 ∷ [])))))
+recap_line name r =
+    name ++ (codes " : " ++ (reached_text r ++ (codes " " ++ (ended_text r ++ (10 ∷ [])))))
 
 -- the names of a run's hosts, in host order
 abbrev pub host_names : RunState → List (List ℕ)

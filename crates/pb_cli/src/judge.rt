@@ -3,7 +3,7 @@ ghost use Rattle.std.specs.Prelude.{◌≡◌, IfOk, Ok, option_map};
 ghost use Rattle.pb_sig.specs.Words.{built_modules, modules_of};
 ghost use Rattle.pb_inventory.specs.Words.{inventory_view};
 ghost use Rattle.pb_book.specs.Words.{book_of};
-ghost use Rattle.pb_cli.specs.Judged.{Judges, book_verdict, inventory_verdict, refused};
+ghost use Rattle.pb_cli.specs.FileVerdicts.{Judges, book_verdict, inventory_verdict, refused};
 
 use pb_book::book::Book;
 use pb_book::fault::BookFault;
@@ -27,7 +27,7 @@ impl From<AllocError> for Fault {
     ghost use Rattle.std.specs.Prelude.{◌≡◌};
     ghost use Rattle.pb_cli.specs.declared.judge.Fault.TheVariants.{NoMemory};
 
-    ghost from_gives = { λ _ f. f ≡ NoMemory };
+    ghost from_gives = { λ _ e. e ≡ NoMemory };
 
     fn from(_: AllocError) -> Fault {
         Fault::NoMemory
@@ -36,7 +36,7 @@ impl From<AllocError> for Fault {
 
 impl From<BookFault> for Fault {
     ghost use Rattle.std.specs.Prelude.{◌≡◌};
-    ghost use Rattle.pb_cli.specs.Judged.{of_book};
+    ghost use Rattle.pb_cli.specs.FileVerdicts.{of_book};
 
     ghost from_gives = { λ e f. f ≡ of_book e };
 
@@ -51,7 +51,7 @@ impl From<BookFault> for Fault {
 
 impl From<InventoryFault> for Fault {
     ghost use Rattle.std.specs.Prelude.{◌≡◌};
-    ghost use Rattle.pb_cli.specs.Judged.{of_inventory};
+    ghost use Rattle.pb_cli.specs.FileVerdicts.{of_inventory};
 
     ghost from_gives = { λ e f. f ≡ of_inventory e };
 
@@ -66,7 +66,7 @@ impl From<InventoryFault> for Fault {
 
 impl From<ScriptFault> for Fault {
     ghost use Rattle.std.specs.Prelude.{◌≡◌};
-    ghost use Rattle.pb_cli.specs.Judged.{of_script};
+    ghost use Rattle.pb_cli.specs.FileVerdicts.{of_script};
 
     ghost from_gives = { λ e f. f ≡ of_script e };
 
@@ -82,7 +82,7 @@ impl From<ScriptFault> for Fault {
 
 impl From<VerifyFault> for Fault {
     ghost use Rattle.std.specs.Prelude.{◌≡◌};
-    ghost use Rattle.pb_cli.specs.Judged.{of_verify};
+    ghost use Rattle.pb_cli.specs.FileVerdicts.{of_verify};
 
     ghost from_gives = { λ e f. f ≡ of_verify e };
 
@@ -105,17 +105,19 @@ pub fn whole(code: Code) -> Fault
     })
 }
 
-/// Judges a playbook for an inventory. Refusals come in this order: the signatures, the inventory, the playbook
-/// as it is written, then what the verifier finds. Signatures aren't built yet. What is accepted is the inventory
-/// that was read, with the built-in modules.
+/// Judges a playbook for an inventory. Refusals come in this order: the signatures, the inventory,
+/// the playbook as it is written, then what the verifier finds. Signatures aren't built yet. What
+/// is accepted is the inventory that was read, with the built-in modules.
 pub fn judge(
     alloc: Global,
     book: &[u8],
     inventory: &[u8],
     signatures: Option<&[u8]>,
 ) -> Result<Checked, Fault>
-    ensures verdict { Judges (option_map (λ s. s.now) signatures.entry) inventory.now book.now result }
-    ensures read { IfOk result (λ c. inventory_verdict inventory.now ≡ Ok (inventory_view c.inventory)) }
+    ensures verdict { Judges (option_map (λ s. s.now) signatures.entry) inventory.now book.now
+        result }
+    ensures read { IfOk result
+        (λ c. inventory_verdict inventory.now ≡ Ok (inventory_view c.inventory)) }
     ensures book_read { IfOk result (λ c. book_verdict book.now ≡ Ok (book_of c.book)) }
     ensures modules { IfOk result (λ c. modules_of c.registry ≡ built_modules) }
 {

@@ -1,11 +1,14 @@
 // The command line, read with `clap`.
-ghost use Rattle.std.specs.Prelude.{[], ◌≡◌, ◌≤◌, IfErr, IfOk, IfSome, codes, false, map};
-ghost use Rattle.std.specs.Prelude.{option_map, string_bytes, unwrap_or};
+ghost use Rattle.std.specs.Prelude.{[], ◌<◌, ◌^◌, ◌≡◌, ◌≤◌, IfErr, IfOk, IfSome, Some, codes};
+ghost use Rattle.std.specs.Prelude.{false};
+ghost use Rattle.std.specs.Prelude.{map, option_map, string_bytes, unwrap_or, ℕ};
 ghost use Rattle.clap.specs.Words.{app_of, fault_of as kinds_of, first_of, found_of, kind_of};
 ghost use Rattle.clap.specs.Words.{rows_of, rule_of, subcommand_of, subcommand_rows_of};
 ghost use Rattle.pb_cli.specs.Options.{Extends, HasForks, IsForkCount, IsLocal, IsOfKind};
-ghost use Rattle.pb_cli.specs.Options.{IsRefusal, NamesFiles, NamesNoCommand, NamesSource, Says};
-ghost use Rattle.pb_cli.specs.Options.{check_app, most_forks, option_rule, playcheck_app, run_app, top_app};
+ghost use Rattle.pb_cli.specs.Options.{IsMistakeWhere, IsRefusal, NamesFiles, NamesNoForks};
+ghost use Rattle.pb_cli.specs.Options.{NamesNoSource, NamesSource, Says, SaysNone};
+ghost use Rattle.pb_cli.specs.Options.{check_app, most_forks, option_rule, playcheck_app, run_app};
+ghost use Rattle.pb_cli.specs.Options.{top_app};
 ghost use Rattle.pb_cli.specs.Options.{with_files, with_sources};
 
 use crate::words::{LineFault, Options, Source, Subject};
@@ -22,15 +25,18 @@ const MOST_FORKS: u16 = 256;
 /// The workers of a run where the words name no number.
 const DEFAULT_FORKS: u16 = 5;
 
-/// Reads the words of the command line, the program's name first: the values are those that `clap` finds in them.
+/// Reads the words of the command line, the program's name first: the values are those that `clap`
+/// finds in them.
 ///
 /// # Errors
-/// `Help` and `Version` only where the words ask for them, with `clap`'s text; `Line` where `clap` finds a mistake in them
-/// or they name no options, with what is wrong.
+/// `Help` and `Version` only where the words ask for them, with `clap`'s text; `Line` where `clap`
+/// finds a mistake in them or they name no options, with what is wrong.
 pub fn options(alloc: Global, words: &[String]) -> Result<Options, LineFault>
     ensures says { IfOk result (Says (subcommand_of playcheck_app (map string_bytes words.now))) }
     ensures forks { IfOk result HasForks }
-    ensures refused { IfErr result (IsRefusal (kinds_of playcheck_app (map string_bytes words.now))) }
+    ensures refused { let words = map string_bytes words.now in
+        let found = subcommand_of playcheck_app words in
+        IfErr result (IsRefusal (kinds_of playcheck_app words) found) }
 {
     let command = command_of(alloc)?;
     match command.try_get_matches_from(words) {
@@ -53,7 +59,7 @@ fn fault_of(alloc: Global, e: &Error) -> LineFault
 fn chosen(alloc: Global, matches: &ArgMatches<'_>) -> Result<Options, LineFault>
     ensures says { IfOk result (Says (subcommand_rows_of matches.now)) }
     ensures forks { IfOk result HasForks }
-    ensures refused { IfErr result NamesNoCommand }
+    ensures refused { IfErr result (IsMistakeWhere (SaysNone (subcommand_rows_of matches.now))) }
 {
     match matches.subcommand() {
         Some(("check", found)) => Ok(Options::Check(subject_of(alloc, found)?)),
@@ -62,14 +68,11 @@ fn chosen(alloc: Global, matches: &ArgMatches<'_>) -> Result<Options, LineFault>
             subject: subject_of(alloc, found)?,
             source: source_of(alloc, found)?,
         }),
-        _ => Err(line(alloc, "playcheck: a command is wanted, check or run\n")?),
+        _ => Err(LineFault::Line(String::from_str(
+            alloc,
+            "playcheck: a command is wanted, check or run\n",
+        )?)),
     }
-}
-
-fn line(alloc: Global, text: &str) -> Result<LineFault, AllocError>
-    ensures { IfOk result NamesNoCommand }
-{
-    Ok(LineFault::Line(String::from_str(alloc, text)?))
 }
 
 // The first value of that name.
@@ -96,7 +99,8 @@ fn optional_of(
     found: &ArgMatches<'_>,
     name: &str,
 ) -> Result<Option<String>, AllocError>
-    ensures { IfOk result (λ o. option_map string_bytes o ≡ first_of name.now (rows_of (found_of found.now))) }
+    ensures { IfOk result (λ o. option_map string_bytes o
+        ≡ first_of name.now (rows_of (found_of found.now))) }
 {
     match value_of(found, name) {
         Some(text) => Ok(Some(String::from_str(alloc, text)?)),
@@ -104,9 +108,8 @@ fn optional_of(
     }
 }
 
-fn subject_of(alloc: Global, found: &ArgMatches<'_>) -> Result<Subject, LineFault>
-    ensures files { IfOk result (NamesFiles (rows_of (found_of found.now))) }
-    ensures refused { IfErr result NamesNoCommand }
+fn subject_of(alloc: Global, found: &ArgMatches<'_>) -> Result<Subject, AllocError>
+    ensures { IfOk result (NamesFiles (rows_of (found_of found.now))) }
 {
     Ok(Subject {
         book: text_of(alloc, found, "book")?,
@@ -116,19 +119,25 @@ fn subject_of(alloc: Global, found: &ArgMatches<'_>) -> Result<Subject, LineFaul
 }
 
 fn forks_of(alloc: Global, found: &ArgMatches<'_>) -> Result<u16, LineFault>
-    ensures numeral { IfOk result (IsForkCount (first_of (codes "forks") (rows_of (found_of found.now)))) }
+    ensures numeral { IfOk result
+        (IsForkCount (first_of (codes "forks") (rows_of (found_of found.now)))) }
     ensures range { IfOk result (λ n. (1 ≤ n) × (n ≤ most_forks)) }
-    ensures refused { IfErr result NamesNoCommand }
+    ensures refused { IfErr result (IsMistakeWhere (NamesNoForks (rows_of (found_of found.now)))) }
 {
     match number_of(value_of(found, "forks")) {
         Some(n) if n >= 1 && n <= MOST_FORKS => Ok(n),
-        _ => Err(line(alloc, "playcheck: forks are a whole number from 1 to 256\n")?),
+        _ => Err(LineFault::Line(String::from_str(
+            alloc,
+            "playcheck: forks are a whole number from 1 to 256\n",
+        )?)),
     }
 }
 
 // The number that the numeral writes, the default where there is none.
 fn number_of(text: Option<&str>) -> Option<u16>
-    ensures { IfSome result (IsForkCount (option_map (λ t. t.now) text.entry)) }
+    ensures number { IfSome result (IsForkCount (option_map (λ t. t.now) text.entry)) }
+    ensures fits { (n : ℕ) → IsForkCount (option_map (λ t. t.now) text.entry) n → n < 2 ^ 16
+        → result ≡ Some n }
 {
     match text {
         Some(text) => text.parse::<u16>().ok(),
@@ -138,15 +147,15 @@ fn number_of(text: Option<&str>) -> Option<u16>
 
 fn source_of(alloc: Global, found: &ArgMatches<'_>) -> Result<Source, LineFault>
     ensures source { IfOk result (NamesSource (rows_of (found_of found.now))) }
-    ensures refused { IfErr result NamesNoCommand }
+    ensures refused { IfErr result (IsMistakeWhere (NamesNoSource (rows_of (found_of found.now)))) }
 {
     match (value_of(found, "answers"), value_of(found, "modules")) {
         (Some(name), None) => Ok(Source::Answers(String::from_str(alloc, name)?)),
         (None, Some(name)) => Ok(Source::Modules(String::from_str(alloc, name)?)),
-        _ => Err(line(
+        _ => Err(LineFault::Line(String::from_str(
             alloc,
             "playcheck: run takes either --answers or --modules\n",
-        )?),
+        )?)),
     }
 }
 

@@ -1,10 +1,13 @@
-// What the words come to, of the bytes of the files that they name: what is printed where, and the status.
+// What the words come to, of the bytes of the files that they name: what is printed where, and the
+// status.
 ghost use Rattle.std.specs.Prelude.{◌+◌, ◌<◌, ◌^◌, ◌≡◌, IfOk, max, min};
 ghost use Rattle.pb_strategy.specs.Words.{answers_in};
 ghost use Rattle.pb_cli.specs.Options.{HasForks};
-ghost use Rattle.pb_cli.specs.Outcomes.{ChecksAs, IsAnsweredBy, IsLineFault, IsOutcome, IsWholeRun};
-ghost use Rattle.pb_cli.specs.Outcomes.{JudgesFiles, LineSays, RunSays, RunsAnswers, RunsAs};
-ghost use Rattle.pb_cli.specs.Outcomes.{RunsBy, RunsFiles, VerdictSays};
+ghost use Rattle.pb_cli.specs.Outcomes.{ChecksAs, IsAnsweredBy, IsOutcome, IsWholeRun};
+ghost use Rattle.pb_cli.specs.Outcomes.{JudgesFiles, LineSays, Prints, RunSays, RunsAnswers};
+ghost use Rattle.pb_cli.specs.Outcomes.{RunsAs};
+ghost use Rattle.pb_cli.specs.Outcomes.{RunsBy, RunsFiles, VerdictSays, usage_status};
+ghost use Rattle.pb_cli.specs.Texts.{not_built_line};
 
 use crate::judge::{Fault, judge};
 use crate::texts::{recap_text, refusal_text, status_of, verdict_text};
@@ -25,7 +28,8 @@ pub const REFUSED: u8 = 1;
 /// The status for want of memory.
 pub const NO_MEMORY: u8 = 3;
 
-/// The status of a bad command line, of a file that can't be read and of an output that can't be written.
+/// The status of a bad command line, of a file that can't be read and of an output that can't be
+/// written.
 pub const USAGE: u8 = 64;
 
 /// The bytes of the files that are named; no answers where no file of them is.
@@ -52,7 +56,8 @@ pub struct Outcome {
     pub status: u8,
 }
 
-/// What comes of words that name no options: help, the version or what is wrong with them. Nothing for want of memory.
+/// What comes of words that name no options: help, the version or what is wrong with them. Nothing
+/// for want of memory.
 pub fn line_outcome(fault: LineFault) -> Result<Outcome, AllocError>
     ensures { LineSays fault result }
 {
@@ -84,8 +89,8 @@ fn printed(text: String, status: u8) -> Outcome
     }
 }
 
-/// What comes of the options and the bytes of the files that they name: of `check` the verdict, of `run` the recap of the
-/// run, or the refusal. Nothing for want of memory.
+/// What comes of the options and the bytes of the files that they name: of `check` the verdict, of
+/// `run` the recap of the run, or the refusal. Nothing for want of memory.
 pub fn outcome_of(alloc: Global, options: &Options, bytes: &Bytes) -> Result<Outcome, AllocError>
     requires { HasForks options.now }
     ensures { IfOk result (IsOutcome options.now bytes.now) }
@@ -112,7 +117,7 @@ fn answered(
 }
 
 fn not_built(alloc: Global) -> Result<Outcome, AllocError>
-    ensures { IfOk result IsLineFault }
+    ensures { IfOk result (Prints Stream.Error not_built_line usage_status) }
 {
     let text = String::from_str(alloc, "playcheck: --modules is not built yet\n")?;
     Ok(told(text, USAGE))
@@ -178,8 +183,8 @@ fn verdict_of(alloc: Global, bytes: &Bytes) -> Result<Checked, Fault>
     )
 }
 
-/// The run of an accepted book to its end, with the answers of the file; else the verdict's refusal, and after it that of
-/// the answers.
+/// The run of an accepted book to its end, with the answers of the file; else the verdict's
+/// refusal, and after it that of the answers.
 pub fn run_of(alloc: Global, bytes: &Bytes, forks: u16) -> Result<Run, Fault>
     requires { 0 < forks }
     ensures { RunsFiles forks bytes.now result }
@@ -207,8 +212,8 @@ fn workers_of(forks: u16, hosts: usize) -> usize
     (forks as usize).min(hosts).max(1)
 }
 
-// The run of the book to its end, whose calls the file answers; want of memory also where there was none to give an answer
-// out.
+// The run of the book to its end, whose calls the file answers; want of memory also where there was
+// none to give an answer out.
 fn ended_run(
     alloc: Global,
     checked: &Checked,

@@ -1,5 +1,4 @@
 // The program: reads its words and the files that they name, and prints what comes of them.
-ghost use Rattle.std.specs.Prelude.{◌+◌, ◌<◌, ◌^◌};
 ghost use Rattle.pb_cli.specs.Options.{HasForks};
 
 use crate::files::read_bounded;
@@ -68,18 +67,19 @@ fn print_text<R: Print + Eprint>(rt: &R, text: &str, status: u8) -> u8 {
     }
 }
 
-// The files in the order book, inventory, signatures, answers; or the status where one can't be read.
+// The files in the order book, inventory, signatures, answers; or the status where one can't be
+// read.
 fn read_all<R: Files + AllocGlobal + Eprint>(rt: &R, options: &Options) -> Result<Bytes, u8> {
     let subject = subject_of(options);
     Ok(Bytes {
-        book: read_named(rt, subject.book.as_str(), BOOK_LIMIT)?,
-        inventory: read_named(rt, subject.inventory.as_str(), INVENTORY_LIMIT)?,
+        book: read_named(rt, subject.book.as_str(), BOOK_LIMIT as u32)?,
+        inventory: read_named(rt, subject.inventory.as_str(), INVENTORY_LIMIT as u32)?,
         signatures: match &subject.signatures {
-            Some(name) => Some(read_named(rt, name.as_str(), SIGNATURES_LIMIT)?),
+            Some(name) => Some(read_named(rt, name.as_str(), SIGNATURES_LIMIT as u32)?),
             None => None,
         },
         answers: match answers_name(options) {
-            Some(name) => read_named(rt, name, ANSWERS_LIMIT)?,
+            Some(name) => read_named(rt, name, ANSWERS_LIMIT as u32)?,
             None => Vec::new(rt.alloc()),
         },
     })
@@ -105,10 +105,8 @@ fn answers_name(options: &Options) -> Option<&str> {
 fn read_named<R: Files + AllocGlobal + Eprint>(
     rt: &R,
     name: &str,
-    most: usize,
-) -> Result<Vec<u8>, u8>
-    requires { most + 1 < 2 ^ 64 }
-{
+    most: u32,
+) -> Result<Vec<u8>, u8> {
     match open_bounded(rt, name, most) {
         Ok(bytes) => Ok(bytes),
         Err(e) => {
@@ -121,8 +119,6 @@ fn read_named<R: Files + AllocGlobal + Eprint>(
     }
 }
 
-fn open_bounded<R: Files + AllocGlobal>(rt: &R, name: &str, most: usize) -> io::Result<Vec<u8>>
-    requires { most + 1 < 2 ^ 64 }
-{
+fn open_bounded<R: Files + AllocGlobal>(rt: &R, name: &str, most: u32) -> io::Result<Vec<u8>> {
     read_bounded(rt.alloc(), fs::open(rt, name)?, most)
 }

@@ -91,7 +91,8 @@ fn ended_of(alloc: Global, recap: Recap) -> Result<String, AllocError>
     format!(in alloc; "failed={failed} skipped={skipped} rescued={rescued} ignored={ignored}")
 }
 
-/// The status of a run: 2 where some host's task failed, else 4 where some host couldn't be reached, else 0.
+/// The status of a run: 2 where some host's task failed, else 4 where some host couldn't be
+/// reached, else 0.
 pub fn status_of(run: &Run) -> u8
     ensures { result ≡ status_for run.now.recaps }
 {

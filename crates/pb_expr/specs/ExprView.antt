@@ -1,8 +1,12 @@
 -- The expression that an `Expr` stands for.
-use Rattle.std.specs.Prelude.{ℕ, List, [], ◌∷◌, map, String, string_bytes, Bool, true, false, Option, None}
+use Rattle.std.specs.Prelude.{ℕ, List, [], ◌∷◌, map, String, string_bytes, Bool, true, false}
+use Rattle.std.specs.Prelude.{Option, None}
 use Rattle.std.specs.declared.alloc.Global.{Global}
 use Rattle.pb_semantics.specs.Data.{Data, rec, opaque, field_value}
-use Rattle.pb_language.specs.Expression.{Name, equal, Expression, literal, path, negation, conjunction, disjunction, comparison, membership, list_of, record_of, variable, Expressions, no_expressions, expression, Parts, no_parts, part}
+use Rattle.pb_language.specs.Expression.{Name, equal, Expression, literal, path, negation}
+use Rattle.pb_language.specs.Expression.{conjunction, disjunction, comparison, membership, list_of}
+use Rattle.pb_language.specs.Expression.{record_of, variable, Expressions, no_expressions}
+use Rattle.pb_language.specs.Expression.{expression, Parts, no_parts, part}
 use Rattle.pb_value.specs.View.{view}
 use Rattle.pb_expr.specs.declared.expr.Expr.{Expr, fold-Expr}
 use Rattle.pb_expr.specs.declared.expr.Expr.TheOpen.{Expr-F}

@@ -1,5 +1,7 @@
--- The parts of a text that its readers ask for one by one: its first literal, its operator's tree, and where its braces stand.
-use Rattle.std.specs.Prelude.{ℕ, suc, List, [], ◌∷◌, ◌==◌, ◌&&◌, cond, Option, Some, None, option_map}
+-- The parts of a text that its readers ask for one by one: its first literal, its operator's tree,
+-- and where its braces stand.
+use Rattle.std.specs.Prelude.{ℕ, suc, List, [], ◌∷◌, ◌==◌, ◌&&◌, cond, Option, Some, None}
+use Rattle.std.specs.Prelude.{option_map}
 use Rattle.pb_language.specs.Expression.{equal, Expression, negation, comparison, membership}
 use Rattle.pb_language.specs.Grammar.{Cut, has_mark, literal_of, with_byte}
 use Rattle.pb_language.specs.Tokens.{Tokens, token}
@@ -19,7 +21,8 @@ related_by s a b = membership a b
 -- the place of the first `{{`, `{%` or `{#`
 abbrev pub opening_at : List ℕ → Option ℕ
 opening_at [] = None
-opening_at (b ∷ bs) = cond ((b == 123) && has_mark bs) (Some 0) (option_map (λ n. suc n) (opening_at bs))
+opening_at (b ∷ bs) =
+    cond ((b == 123) && has_mark bs) (Some 0) (option_map (λ n. suc n) (opening_at bs))
 
 -- these bytes before the rest
 abbrev pub with_bytes : List ℕ → Option Cut → Option Cut

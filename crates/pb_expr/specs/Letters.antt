@@ -1,9 +1,13 @@
 -- The tokens that a text has from a token of the code on.
-use Rattle.std.specs.Prelude.{◌≡◌, ℕ, ◌+◌, ◌-◌, List, [], ◌∷◌, Bool, true, false, ◌==◌, cond, Option, Some, None, drop, slice_range}
+use Rattle.std.specs.Prelude.{◌≡◌, ℕ, ◌+◌, ◌-◌, List, [], ◌∷◌, Bool, true, false, ◌==◌, cond}
+use Rattle.std.specs.Prelude.{Option, Some, None, drop, slice_range}
 use Rattle.pb_language.specs.Expression.{Name}
 use Rattle.pb_language.specs.Rules.{are_name_bytes}
 use Rattle.pb_language.specs.Tokens as language
-use Rattle.pb_language.specs.Tokens.{Tokens, finish, token, word, quoted, sign, and_word, or_word, not_word, in_word, is_word, truth_word, none_word, other_word, opening, closing, dot, equals, differs, order, bar, bracket, stray, escape_of, tokens_of}
+use Rattle.pb_language.specs.Tokens.{Tokens, finish, token, word, quoted, sign, and_word, or_word}
+use Rattle.pb_language.specs.Tokens.{not_word, in_word, is_word, truth_word, none_word, other_word}
+use Rattle.pb_language.specs.Tokens.{opening, closing, dot, equals, differs, order, bar, bracket}
+use Rattle.pb_language.specs.Tokens.{stray, escape_of, tokens_of}
 use Rattle.pb_expr.specs.declared.lexer.Sort.{Sort}
 use Rattle.pb_expr.specs.declared.lexer.Sort.TheVariants as sort
 use Rattle.pb_expr.specs.declared.lexer.Token.{Token}
@@ -17,7 +21,8 @@ letter_for (Some c) b = c
 abbrev pub unescaped : List ℕ → List ℕ
 unescaped [] = []
 unescaped (b ∷ []) = cond (b == 92) [] (b ∷ [])
-unescaped (b ∷ c ∷ bs) = cond (b == 92) (letter_for (escape_of c) c ∷ unescaped bs) (b ∷ unescaped (c ∷ bs))
+unescaped (b ∷ c ∷ bs) =
+    cond (b == 92) (letter_for (escape_of c) c ∷ unescaped bs) (b ∷ unescaped (c ∷ bs))
 
 -- what a text means that stands from the first place to before the second, with its quotes
 abbrev pub quoted_letters : List ℕ → ℕ → ℕ → List ℕ

@@ -1,4 +1,5 @@
--- A world in which a host has these variables, and in which nothing else is known; what stands for an outcome.
+-- A world in which a host has these variables, and in which nothing else is known; what stands for
+-- an outcome.
 use Rattle.std.specs.Prelude.{[]}
 use Rattle.pb_semantics.specs.Data.{Data, Fields, opaque}
 use Rattle.pb_language.specs.World.{World}

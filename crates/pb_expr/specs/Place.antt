@@ -1,7 +1,8 @@
 -- Places in a text.
 use Rattle.std.specs.Prelude.{ℕ}
 use Rattle.pb_expr.specs.declared.fault.ExprFault.{ExprFault}
-use Rattle.pb_expr.specs.declared.fault.ExprFault.TheVariants.{Unreadable, TooDeep, NotBuilt, NoMemory}
+use Rattle.pb_expr.specs.declared.fault.ExprFault.TheVariants.{Unreadable, TooDeep, NotBuilt}
+use Rattle.pb_expr.specs.declared.fault.ExprFault.TheVariants.{NoMemory}
 use Rattle.pb_expr.specs.declared.lexer.Sort.{Sort}
 use Rattle.pb_expr.specs.declared.lexer.Sort.TheVariants as sort
 

@@ -22,7 +22,8 @@ pub record IsToken (bs : List ℕ) (t : Token) : Type 0 where
   pub lettered : IsLettered bs t
 
 -- that tree is read from the first token on, and this token stands behind it
-pub record IsRead (bs : List ℕ) (t : Token) (r : Expr × Token) (x : Option (Reading Expression)) : Type 0 where
+pub record IsRead (bs : List ℕ) (t : Token) (r : Expr × Token)
+    (x : Option (Reading Expression)) : Type 0 where
   pub begins : t.start < r.1.start
   pub next : IsToken bs r.1
   pub simple : is_simple (expr_view r.0) ≡ true
@@ -39,6 +40,7 @@ joined_by sort.Not a b = negation (membership a b)
 joined_by s a b = related_by s a b
 
 -- the first operand with what relates it to the second, or alone
-abbrev pub read_on : List ℕ → Token → Option (Sort × Token) → Expression → Reader → Option (Reading Expression)
+abbrev pub read_on : List ℕ → Token → Option (Sort × Token) → Expression → Reader
+    → Option (Reading Expression)
 read_on bs t None a f = Some (reading a (tokens_at bs t))
 read_on bs t (Some r) a f = with_tree (λ b. joined_by r.0 a b) (f (tokens_at bs r.1))

@@ -1,7 +1,8 @@
 -- What a fault says of the tree that was to be read.
 use Rattle.std.specs.Prelude.{Option, Some, None}
 use Rattle.pb_expr.specs.declared.fault.ExprFault.{ExprFault}
-use Rattle.pb_expr.specs.declared.fault.ExprFault.TheVariants.{Unreadable, TooDeep, NotBuilt, NoMemory}
+use Rattle.pb_expr.specs.declared.fault.ExprFault.TheVariants.{Unreadable, TooDeep, NotBuilt}
+use Rattle.pb_expr.specs.declared.fault.ExprFault.TheVariants.{NoMemory}
 
 -- there is none, or it is want of memory
 abbrev pub no_tree : {D : Type 0} → ExprFault → Option (Option D)

@@ -19,11 +19,12 @@ use std::collections::BTreeMap;
 
 /// The value of an expression, which shares what it can with the variables and the expression.
 ///
-/// It is to be asked of a fit expression. One that has no value, as one that reads a name that holds nothing, is
-/// `Opaque`, which is what may not be read.
+/// It is to be asked of a fit expression. One that has no value, as one that reads a name that
+/// holds nothing, is `Opaque`, which is what may not be read.
 #[cycle(eval)]
 pub fn eval<V: Vars>(alloc: Global, expr: &Expr, vars: &V) -> Result<Value, AllocError>
-    ensures { IfOk result (λ v. view v ≡ shown (outcome_of (V.world vars.now) (expr_view expr.now))) }
+    ensures { IfOk result (λ v. view v
+        ≡ shown (outcome_of (V.world vars.now) (expr_view expr.now))) }
 {
     match expr {
         Expr::Literal(known) => known.clone(),
@@ -57,7 +58,8 @@ fn pair_of<V: Vars>(
     left: Value,
 ) -> Result<(Value, Value), AllocError>
     ensures left { IfOk result (λ v. v.0 ≡ left) }
-    ensures right { IfOk result (λ v. view v.1 ≡ shown (outcome_of (V.world vars.now) (expr_view right.now))) }
+    ensures right { IfOk result
+        (λ v. view v.1 ≡ shown (outcome_of (V.world vars.now) (expr_view right.now))) }
 {
     let right = eval(alloc, right, vars)?;
     Ok((left, right))
@@ -65,7 +67,8 @@ fn pair_of<V: Vars>(
 
 #[cycle(eval)]
 fn all_of<V: Vars>(alloc: Global, operands: &Vec<Expr>, vars: &V) -> Result<Value, AllocError>
-    ensures { IfOk result (λ v. view v ≡ shown (eval_all (V.world vars.now) (exprs_view operands.now.items))) }
+    ensures { IfOk result (λ v. view v
+        ≡ shown (eval_all (V.world vars.now) (exprs_view operands.now.items))) }
 {
     for operand in operands {
         let found = eval(alloc, operand, vars)?;
@@ -80,7 +83,8 @@ fn all_of<V: Vars>(alloc: Global, operands: &Vec<Expr>, vars: &V) -> Result<Valu
 
 #[cycle(eval)]
 fn any_of<V: Vars>(alloc: Global, operands: &Vec<Expr>, vars: &V) -> Result<Value, AllocError>
-    ensures { IfOk result (λ v. view v ≡ shown (eval_any (V.world vars.now) (exprs_view operands.now.items))) }
+    ensures { IfOk result (λ v. view v
+        ≡ shown (eval_any (V.world vars.now) (exprs_view operands.now.items))) }
 {
     for operand in operands {
         let found = eval(alloc, operand, vars)?;
@@ -95,7 +99,8 @@ fn any_of<V: Vars>(alloc: Global, operands: &Vec<Expr>, vars: &V) -> Result<Valu
 
 #[cycle(eval)]
 fn list_of<V: Vars>(alloc: Global, items: &Vec<Expr>, vars: &V) -> Result<Value, AllocError>
-    ensures { IfOk result (λ v. view v ≡ shown (eval_items (V.world vars.now) (exprs_view items.now.items))) }
+    ensures { IfOk result (λ v. view v
+        ≡ shown (eval_items (V.world vars.now) (exprs_view items.now.items))) }
 {
     let mut values = Vec::new(alloc);
     for item in items {
@@ -114,7 +119,8 @@ fn record_of<V: Vars>(
     fields: &BTreeMap<String, Expr>,
     vars: &V,
 ) -> Result<Value, AllocError>
-    ensures { IfOk result (λ v. view v ≡ shown (eval_parts (V.world vars.now) (parts_view fields.now.entries))) }
+    ensures { IfOk result (λ v. view v
+        ≡ shown (eval_parts (V.world vars.now) (parts_view fields.now.entries))) }
 {
     let mut values = BTreeMap::new(alloc);
     for (name, field) in fields.iter() {
@@ -128,7 +134,9 @@ fn record_of<V: Vars>(
 }
 
 fn value_of_path<V: Vars>(path: &Path, vars: &V) -> Result<Value, AllocError>
-    ensures { IfOk result (λ v. view v ≡ shown (read (names_of path.now.steps.items) (found (field_value (string_bytes path.now.root) (V.world vars.now).mine)))) }
+    ensures { IfOk result (λ v. view v
+        ≡ shown (read (names_of path.now.steps.items)
+        (found (field_value (string_bytes path.now.root) (V.world vars.now).mine)))) }
 {
     match vars.value(path.root.as_str()) {
         Some(held) => inner_value(held, &path.steps),
@@ -138,7 +146,8 @@ fn value_of_path<V: Vars>(path: &Path, vars: &V) -> Result<Value, AllocError>
 
 // The value at the end of the steps.
 fn inner_value(outer: &Value, steps: &Vec<String>) -> Result<Value, AllocError>
-    ensures { IfOk result (λ v. view v ≡ shown (value_below (names_of steps.now.items) (view outer.now))) }
+    ensures { IfOk result (λ v. view v
+        ≡ shown (value_below (names_of steps.now.items) (view outer.now))) }
 {
     let mut here = outer;
     for step in steps {

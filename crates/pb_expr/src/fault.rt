@@ -5,7 +5,8 @@ use thiserror::Error;
 /// Why a text isn't read as an expression or a template.
 #[derive(Debug, Drop, Error)]
 pub enum ExprFault {
-    /// The byte place of the first token that can't stand, or the length where the text ends too soon.
+    /// The byte place of the first token that can't stand, or the length where the text ends too
+    /// soon.
     #[error("unreadable at byte {at}")]
     Unreadable { at: usize },
     /// Parentheses and `not` nest over 32, or a path has over 16 steps.

@@ -1,8 +1,9 @@
 // The kind of an expression in an environment, and why it has none.
 ghost use Rattle.std.specs.Prelude.{◌∷◌, ◌≡◌, Bool, IfOk, List, MatchResult, None, OnOk, Some, not};
 ghost use Rattle.std.specs.Prelude.{option_map, string_bytes, true, ℕ};
-ghost use Rattle.pb_semantics.specs.Words.{Cases, any_case_holds, any_slot_holds, booleans};
-ghost use Rattle.pb_semantics.specs.Words.{count_of, holds_any as any_in, join as least_above};
+ghost use Rattle.pb_semantics.specs.Words.{Cases, Gives, any_case_holds, any_slot_holds};
+ghost use Rattle.pb_semantics.specs.Words.{booleans, count_of, holds_any as any_in};
+ghost use Rattle.pb_semantics.specs.Words.{join as least_above};
 ghost use Rattle.pb_semantics.specs.Words.{lists, never, put_slot, recs, results};
 ghost use Rattle.pb_semantics.specs.Words.{slot_at as spot_at, spot};
 ghost use Rattle.pb_language.specs.Words.{are_booleans, asks, can_compare, can_find, chain_fault};
@@ -15,7 +16,7 @@ ghost use Rattle.pb_language.specs.Words.{variable, wrong_kind};
 ghost use Rattle.pb_value.specs.Words.{cases_view, fields_view, items_view, kind_view, slots_view};
 ghost use Rattle.pb_value.specs.Words.{view};
 ghost use Rattle.pb_expr.specs.ExprView.{expr_view, exprs_view, names_of, parts_view};
-ghost use Rattle.pb_expr.specs.FitView.{Finds, FindsBeside, LeadsTo, certain, fault_view};
+ghost use Rattle.pb_expr.specs.FitView.{LeadsTo, certain, fault_found, fault_view};
 ghost use Rattle.pb_expr.specs.FitView.{joined_onto, own_scope};
 
 use crate::expr::{Expr, Path};
@@ -73,11 +74,14 @@ impl<T: Drop> From<AllocFailed<T>> for KindFault {
     }
 }
 
-/// The kind of a fit expression in an environment, or else the first fault from left to right, operands before the
-/// form round them.
+/// The kind of a fit expression in an environment, or else the first fault from left to right,
+/// operands before the form round them.
 #[cycle(kind_of)]
 pub fn kind_of(alloc: Global, expr: &Expr, slots: &Slots) -> Result<Kind, KindFault>
-    ensures { Finds result (fault (own_scope (slots_view slots.now.entries)) (expr_view expr.now)) (kind_found (own_scope (slots_view slots.now.entries)) (expr_view expr.now)) }
+    ensures fault { Gives (λ k. None) fault_found result
+        (fault (own_scope (slots_view slots.now.entries)) (expr_view expr.now)) }
+    ensures kind { IfOk result (λ k. kind_view k
+        ≡ kind_found (own_scope (slots_view slots.now.entries)) (expr_view expr.now)) }
 {
     match expr {
         Expr::Literal(known) => Ok(literal_kind(alloc, known)?),
@@ -105,7 +109,11 @@ fn pair_of(
     slots: &Slots,
     left: Kind,
 ) -> Result<(Kind, Kind), KindFault>
-    ensures { FindsBeside result left (fault (own_scope (slots_view slots.now.entries)) (expr_view right.now)) (kind_found (own_scope (slots_view slots.now.entries)) (expr_view right.now)) }
+    ensures fault { Gives (λ k. None) fault_found result
+        (fault (own_scope (slots_view slots.now.entries)) (expr_view right.now)) }
+    ensures left { IfOk result (λ k. k.0 ≡ left) }
+    ensures kind { IfOk result (λ k. kind_view k.1
+        ≡ kind_found (own_scope (slots_view slots.now.entries)) (expr_view right.now)) }
 {
     let right = kind_of(alloc, right, slots)?;
     Ok((left, right))
@@ -113,7 +121,13 @@ fn pair_of(
 
 #[cycle(kind_of)]
 fn chain_kind(alloc: Global, operands: &Vec<Expr>, slots: &Slots) -> Result<Kind, KindFault>
-    ensures { (answer : Bool) → Finds result (first (chain_fault (own_scope (slots_view slots.now.entries)) (exprs_view operands.now.items) answer) (asks wrong_kind (are_booleans (own_scope (slots_view slots.now.entries)) (exprs_view operands.now.items) answer))) booleans }
+    ensures fault { (answer : Bool) → Gives (λ k. None) fault_found result (first
+        (chain_fault (own_scope (slots_view slots.now.entries)) (exprs_view operands.now.items)
+        answer)
+        (asks wrong_kind
+        (are_booleans (own_scope (slots_view slots.now.entries)) (exprs_view operands.now.items)
+        answer))) }
+    ensures kind { IfOk result (λ k. kind_view k ≡ booleans) }
 {
     let mut are_bool = true;
     for operand in operands {
@@ -125,7 +139,11 @@ fn chain_kind(alloc: Global, operands: &Vec<Expr>, slots: &Slots) -> Result<Kind
 
 #[cycle(kind_of)]
 fn list_kind(alloc: Global, items: &Vec<Expr>, slots: &Slots) -> Result<Kind, KindFault>
-    ensures { Finds result (items_fault (own_scope (slots_view slots.now.entries)) (exprs_view items.now.items)) (lists (items_kind (own_scope (slots_view slots.now.entries)) (exprs_view items.now.items)) (count (exprs_view items.now.items))) }
+    ensures fault { Gives (λ k. None) fault_found result
+        (items_fault (own_scope (slots_view slots.now.entries)) (exprs_view items.now.items)) }
+    ensures kind { IfOk result (λ k. kind_view k
+        ≡ lists (items_kind (own_scope (slots_view slots.now.entries)) (exprs_view items.now.items))
+        (count (exprs_view items.now.items))) }
 {
     let mut kinds = Vec::new(alloc);
     for item in items {
@@ -142,7 +160,11 @@ fn record_kind(
     fields: &BTreeMap<String, Expr>,
     slots: &Slots,
 ) -> Result<Kind, KindFault>
-    ensures { Finds result (fields_fault (own_scope (slots_view slots.now.entries)) (parts_view fields.now.entries)) (recs (parts_slots (own_scope (slots_view slots.now.entries)) (parts_view fields.now.entries))) }
+    ensures fault { Gives (λ k. None) fault_found result
+        (fields_fault (own_scope (slots_view slots.now.entries)) (parts_view fields.now.entries)) }
+    ensures kind { IfOk result (λ k. kind_view k
+        ≡ recs (parts_slots (own_scope (slots_view slots.now.entries))
+        (parts_view fields.now.entries))) }
 {
     let mut kinds = BTreeMap::new(alloc);
     for (name, field) in fields.iter() {
@@ -155,14 +177,22 @@ fn record_kind(
 // The kind of an item or a field, which isn't `Any`.
 #[cycle(kind_of)]
 fn part_kind(alloc: Global, expr: &Expr, slots: &Slots) -> Result<Kind, KindFault>
-    ensures { Finds result (first (fault (own_scope (slots_view slots.now.entries)) (expr_view expr.now)) (asks wrong_kind (not (is_anything (kind_found (own_scope (slots_view slots.now.entries)) (expr_view expr.now)))))) (kind_found (own_scope (slots_view slots.now.entries)) (expr_view expr.now)) }
+    ensures fault { Gives (λ k. None) fault_found result (first
+        (fault (own_scope (slots_view slots.now.entries)) (expr_view expr.now))
+        (asks wrong_kind
+        (not (is_anything (kind_found (own_scope (slots_view slots.now.entries))
+        (expr_view expr.now)))))) }
+    ensures kind { IfOk result (λ k. kind_view k
+        ≡ kind_found (own_scope (slots_view slots.now.entries)) (expr_view expr.now)) }
 {
     let kind = kind_of(alloc, expr, slots)?;
     not_any(kind)
 }
 
 fn not_any(kind: Kind) -> Result<Kind, KindFault>
-    ensures { Finds result (asks wrong_kind (not (is_anything (kind_view kind)))) (kind_view kind) }
+    ensures fault { Gives (λ k. None) fault_found result
+        (asks wrong_kind (not (is_anything (kind_view kind)))) }
+    ensures kind { IfOk result (λ k. k ≡ kind) }
 {
     if kind.is_any() {
         return Err(KindFault::Unfit(Unfit::WrongKind));
@@ -182,13 +212,22 @@ fn join_all(alloc: Global, kinds: Vec<Kind>) -> Result<Kind, AllocError>
 }
 
 fn put(kinds: &mut Slots, name: &String, kind: Kind) -> Result<(), AllocError>
-    ensures { OnOk result (slots_view kinds.new.entries ≡ put_slot (string_bytes name.now) true (kind_view kind) (slots_view kinds.old.entries)) }
+    ensures { OnOk result (slots_view kinds.new.entries
+        ≡ put_slot (string_bytes name.now) true (kind_view kind) (slots_view kinds.old.entries)) }
 {
     put_slot(kinds, name.clone()?, Slot::always(kind))
 }
 
 fn path_kind(path: &Path, slots: &Slots) -> Result<Kind, KindFault>
-    ensures { let root = variable (string_bytes path.now.root) in let names = names_of path.now.steps.items in Finds result (first (read_fault (own_scope (slots_view slots.now.entries)) root) (steps_fault names (spot_kind (root_spot (own_scope (slots_view slots.now.entries)) root)))) (spot_kind (path_spot names (root_spot (own_scope (slots_view slots.now.entries)) root))) }
+    ensures fault { let c = own_scope (slots_view slots.now.entries) in
+        let root = variable (string_bytes path.now.root) in
+        let kind = spot_kind (root_spot c root) in
+        Gives (λ k. None) fault_found result
+        (first (read_fault c root) (steps_fault (names_of path.now.steps.items) kind)) }
+    ensures kind { let root = root_spot (own_scope (slots_view slots.now.entries))
+        (variable (string_bytes path.now.root)) in
+        IfOk result (λ k. kind_view k
+        ≡ spot_kind (path_spot (names_of path.now.steps.items) root)) }
 {
     match certain_kind(slots, path.root.as_str()) {
         Some(kind) => inner_kind(kind, &path.steps),
@@ -198,7 +237,10 @@ fn path_kind(path: &Path, slots: &Slots) -> Result<Kind, KindFault>
 
 // The kind at the end of the steps.
 fn inner_kind(outer: &Kind, steps: &Vec<String>) -> Result<Kind, KindFault>
-    ensures { Finds result (steps_fault (names_of steps.now.items) (kind_view outer.now)) (spot_kind (path_spot (names_of steps.now.items) (spot true (kind_view outer.now)))) }
+    ensures fault { Gives (λ k. None) fault_found result
+        (steps_fault (names_of steps.now.items) (kind_view outer.now)) }
+    ensures kind { IfOk result (λ k. kind_view k
+        ≡ spot_kind (path_spot (names_of steps.now.items) (spot true (kind_view outer.now)))) }
 {
     let mut here = outer;
     for step in steps {
@@ -213,8 +255,10 @@ fn inner_kind(outer: &Kind, steps: &Vec<String>) -> Result<Kind, KindFault>
 // The kind of a field, `Never` in `Never`.
 fn kind_in<'k>(outer: &'k Kind, name: &str) -> Result<&'k Kind, Unfit>
     ensures { MatchResult result
-        (λ k. (ns : List (List ℕ)) → LeadsTo (name.now ∷ ns) (kind_view outer.now) ns (kind_view k.now))
-        (λ u. (ns : List (List ℕ)) → steps_fault (name.now ∷ ns) (kind_view outer.now) ≡ Some (fault_view u)) }
+        (λ k. (ns : List (List ℕ))
+        → LeadsTo (name.now ∷ ns) (kind_view outer.now) ns (kind_view k.now))
+        (λ u. (ns : List (List ℕ))
+        → steps_fault (name.now ∷ ns) (kind_view outer.now) ≡ Some (fault_view u)) }
 {
     match outer {
         Kind::Never => Ok(outer),
@@ -227,8 +271,11 @@ fn kind_in<'k>(outer: &'k Kind, name: &str) -> Result<&'k Kind, Unfit>
 // The kind of a field of what is known of all cases of a result.
 fn kind_in_record<'k>(record: &'k Kind, name: &str) -> Result<&'k Kind, Unfit>
     ensures { MatchResult result
-        (λ k. (ns : List (List ℕ)) (cs : Cases) → LeadsTo (name.now ∷ ns) (results cs (kind_view record.now)) ns (kind_view k.now))
-        (λ u. (ns : List (List ℕ)) (cs : Cases) → steps_fault (name.now ∷ ns) (results cs (kind_view record.now)) ≡ Some (fault_view u)) }
+        (λ k. (ns : List (List ℕ)) (cs : Cases)
+        → LeadsTo (name.now ∷ ns) (results cs (kind_view record.now)) ns (kind_view k.now))
+        (λ u. (ns : List (List ℕ)) (cs : Cases)
+        → steps_fault (name.now ∷ ns) (results cs (kind_view record.now))
+        ≡ Some (fault_view u)) }
 {
     match record {
         Kind::Never => Ok(record),
@@ -240,7 +287,8 @@ fn kind_in_record<'k>(record: &'k Kind, name: &str) -> Result<&'k Kind, Unfit>
 fn kind_among<'k>(slots: &'k Slots, name: &str) -> Result<&'k Kind, Unfit>
     ensures { MatchResult result
         (λ k. certain (spot_at name.now (slots_view slots.now.entries)) ≡ Some (kind_view k.now))
-        (λ u. (certain (spot_at name.now (slots_view slots.now.entries)) ≡ None) × (u ≡ Unfit.MissingField)) }
+        (λ u. (certain (spot_at name.now (slots_view slots.now.entries)) ≡ None)
+        × (u ≡ Unfit.MissingField)) }
 {
     match certain_kind(slots, name) {
         Some(kind) => Ok(kind),
@@ -249,7 +297,8 @@ fn kind_among<'k>(slots: &'k Slots, name: &str) -> Result<&'k Kind, Unfit>
 }
 
 fn certain_kind<'k>(slots: &'k Slots, name: &str) -> Option<&'k Kind>
-    ensures { option_map (λ k. kind_view k.now) result ≡ certain (spot_at name.now (slots_view slots.now.entries)) }
+    ensures { option_map (λ k. kind_view k.now) result
+        ≡ certain (spot_at name.now (slots_view slots.now.entries)) }
 {
     let slot = find(slots, name)?;
     if slot.presence.is_always() {
@@ -261,7 +310,8 @@ fn certain_kind<'k>(slots: &'k Slots, name: &str) -> Option<&'k Kind>
 
 // The kind of a form whose operands are as it asks.
 fn asked(is_fit: bool) -> Result<Kind, KindFault>
-    ensures { Finds result (asks wrong_kind is_fit) booleans }
+    ensures fault { Gives (λ k. None) fault_found result (asks wrong_kind is_fit) }
+    ensures kind { IfOk result (λ k. kind_view k ≡ booleans) }
 {
     if is_fit {
         Ok(Kind::Bool)
@@ -271,15 +321,18 @@ fn asked(is_fit: bool) -> Result<Kind, KindFault>
 }
 
 fn negation_kind(operand: Kind) -> Result<Kind, KindFault>
-    ensures { Finds result (asks wrong_kind (is_boolean (kind_view operand))) booleans }
+    ensures fault { Gives (λ k. None) fault_found result
+        (asks wrong_kind (is_boolean (kind_view operand))) }
+    ensures kind { IfOk result (λ k. kind_view k ≡ booleans) }
 {
     asked(operand.is_bool())
 }
 
 // What `==` and `!=` give between operands of these kinds.
 fn comparison_kind(operands: (Kind, Kind)) -> Result<Kind, KindFault>
-    ensures { Finds result
-        (asks wrong_kind (can_compare equal (kind_view operands.0) (kind_view operands.1))) booleans }
+    ensures fault { Gives (λ k. None) fault_found result
+        (asks wrong_kind (can_compare equal (kind_view operands.0) (kind_view operands.1))) }
+    ensures kind { IfOk result (λ k. kind_view k ≡ booleans) }
 {
     asked(are_comparable(&operands.0, &operands.1))
 }
@@ -292,8 +345,9 @@ fn are_comparable(left: &Kind, right: &Kind) -> bool
 
 // What `in` gives between operands of these kinds.
 fn membership_kind(operands: (Kind, Kind)) -> Result<Kind, KindFault>
-    ensures { Finds result
-        (asks wrong_kind (can_find (kind_view operands.0) (kind_view operands.1))) booleans }
+    ensures fault { Gives (λ k. None) fault_found result
+        (asks wrong_kind (can_find (kind_view operands.0) (kind_view operands.1))) }
+    ensures kind { IfOk result (λ k. kind_view k ≡ booleans) }
 {
     asked(may_hold(&operands.1, &operands.0))
 }
@@ -377,7 +431,9 @@ fn literal_kind(alloc: Global, known: &Value) -> Result<Kind, AllocError>
 
 #[cycle(literal_kind)]
 fn literal_items(alloc: Global, items: &Vec<Value>) -> Result<Kind, AllocError>
-    ensures { IfOk result (λ k. kind_view k ≡ lists (known_items (items_view items.now.items)) (count_of (items_view items.now.items))) }
+    ensures { IfOk result (λ k. kind_view k
+        ≡ lists (known_items (items_view items.now.items))
+        (count_of (items_view items.now.items))) }
 {
     let mut joined = Kind::Never;
     for index in (0..items.len()).rev() {

@@ -63,11 +63,13 @@ pub struct Token {
 /// The first token at `from` or after it.
 pub fn token_at(text: &[u8], from: usize) -> Result<Token, ExprFault>
     requires { from ≤ length text.now }
+
     ensures begins { IfOk result (λ t. from ≤ t.start) }
     ensures ends { IfOk result (λ t. t.end ≤ length text.now) }
     ensures wide { IfOk result (λ t. t.start + least_width t.sort ≤ t.end) }
     ensures read { IfOk result (λ t. tokens_at text.now t ≡ tokens_of (drop from text.now)) }
     ensures lettered { IfOk result (λ t. IsLettered text.now t) }
+
     ensures refused { IfErr result (λ _. tokens_of (drop from text.now) ≡ unreadable) }
     ensures place { IfErr result (λ e. place_of e ≤ length text.now) }
 {
@@ -111,7 +113,8 @@ pub fn meaning_of(alloc: Global, text: &[u8], token: Token) -> Result<String, Ex
     requires within { token.end ≤ length text.now }
     ensures read { IfOk result (λ s. literal_of (quoted (meaning_at text.now token))
         ≡ Some (literal (text_data (string_bytes s)))) }
-    ensures refused { IfErr result (λ e. FaultGives (no_tree e) (literal_of (quoted (meaning_at text.now token)))) }
+    ensures refused { IfErr result
+        (λ e. FaultGives (no_tree e) (literal_of (quoted (meaning_at text.now token)))) }
     ensures place { IfErr result (λ e. place_of e ≤ length text.now) }
 {
     let letters = unescaped(alloc, &text[token.start + 1..token.end - 1])?;
@@ -161,7 +164,8 @@ fn after_blanks(text: &[u8], from: usize) -> usize
     ensures begins { from ≤ result }
     ensures ends { result ≤ length text.now }
     ensures same { tokens_of (drop result text.now) ≡ tokens_of (drop from text.now) }
-    ensures past { result < length text.now → tokens.is_blank (slice_index text.now result) ≡ false }
+    ensures past { result < length text.now
+        → tokens.is_blank (slice_index text.now result) ≡ false }
 {
     let mut at = from;
     while at < text.len() && is_blank(text[at]) {
@@ -174,11 +178,13 @@ fn after_blanks(text: &[u8], from: usize) -> usize
 fn sign_at(text: &[u8], start: usize) -> Result<Token, ExprFault>
     requires within { start < length text.now }
     requires apart { begins_other (slice_index text.now start) ≡ false }
+
     ensures begins { IfOk result (λ t. t.start ≡ start) }
     ensures ends { IfOk result (λ t. t.end ≤ length text.now) }
     ensures wide { IfOk result (λ t. t.start + least_width t.sort ≤ t.end) }
     ensures read { IfOk result (λ t. tokens_at text.now t ≡ tokens_of (drop start text.now)) }
     ensures lettered { IfOk result (λ t. is_lettered t.sort ≡ false) }
+
     ensures refused { IfErr result (λ _. tokens_of (drop start text.now) ≡ unreadable) }
     ensures place { IfErr result (λ e. place_of e ≤ length text.now) }
 {
@@ -211,7 +217,9 @@ fn sign_of(byte: u8, is_paired: bool) -> Option<Sort>
     ensures width { IfSome result (λ s. least_width s ≤ 1) }
     ensures lettered { IfSome result (λ s. is_lettered s ≡ false) }
     ensures pair { IfSome result (λ s. may_pair s ≡ tokens.is_paired byte) }
-    ensures sign { IfSome result (λ s. (n w : List ℕ) (ts : Tokens) → sort_tokens s n w ts ≡ sign_then (sign_with byte is_paired) ts) }
+    ensures sign { IfSome result
+        (λ s. (n w : List ℕ) (ts : Tokens)
+        → sort_tokens s n w ts ≡ sign_then (sign_with byte is_paired) ts) }
     ensures refused { IfNone result (sign_with byte is_paired ≡ None) }
 {
     match byte {
@@ -231,6 +239,7 @@ fn sign_of(byte: u8, is_paired: bool) -> Option<Sort>
 fn word_at(text: &[u8], start: usize) -> Token
     requires within { start < length text.now }
     requires letter { is_letter (slice_index text.now start) ≡ true }
+
     ensures begins { result.start ≡ start }
     ensures ends { result.end ≤ length text.now }
     ensures wide { result.start + least_width result.sort ≤ result.end }
@@ -250,7 +259,8 @@ fn word_at(text: &[u8], start: usize) -> Token
 
 fn word_of(word: &[u8]) -> Sort
     ensures width { least_width result ≡ 1 }
-    ensures word { (w : List ℕ) (ts : Tokens) → sort_tokens result word.now w ts ≡ token (word_token word.now) ts }
+    ensures word { (w : List ℕ) (ts : Tokens)
+        → sort_tokens result word.now w ts ≡ token (word_token word.now) ts }
 {
     match word {
         b"and" => Sort::And,
@@ -270,11 +280,13 @@ fn word_of(word: &[u8]) -> Sort
 fn number_at(text: &[u8], start: usize) -> Result<Token, ExprFault>
     requires within { start < length text.now }
     requires first { begins_numeral (slice_index text.now start) ≡ true }
+
     ensures begins { IfOk result (λ t. t.start ≡ start) }
     ensures ends { IfOk result (λ t. t.end ≤ length text.now) }
     ensures wide { IfOk result (λ t. t.start + least_width t.sort ≤ t.end) }
     ensures read { IfOk result (λ t. tokens_at text.now t ≡ tokens_of (drop start text.now)) }
     ensures lettered { IfOk result (λ t. is_lettered t.sort ≡ false) }
+
     ensures refused { IfErr result (λ _. tokens_of (drop start text.now) ≡ unreadable) }
     ensures place { IfErr result (λ e. place_of e ≤ length text.now) }
 {
@@ -295,7 +307,8 @@ fn after_digits(text: &[u8], from: usize) -> usize
     ensures ends { result ≤ length text.now }
     ensures digits { are_digits (slice_range text.now from result) ≡ true }
     ensures read { (w : List ℕ) → tokens_from (a_number w) (drop from text.now)
-        ≡ number_then (tokens.number_of (w ++ slice_range text.now from result)) (tokens_of (drop result text.now)) }
+        ≡ number_then (tokens.number_of (w ++ slice_range text.now from result))
+        (tokens_of (drop result text.now)) }
 {
     let mut at = from;
     while at < text.len() && text[at].is_ascii_digit() {
@@ -338,11 +351,13 @@ fn is_numeral(digits: &[u8]) -> bool
 fn text_at(text: &[u8], start: usize) -> Result<Token, ExprFault>
     requires within { start < length text.now }
     requires quote { tokens.is_quote (slice_index text.now start) ≡ true }
+
     ensures begins { IfOk result (λ t. t.start ≡ start) }
     ensures ends { IfOk result (λ t. t.end ≤ length text.now) }
     ensures wide { IfOk result (λ t. t.start + least_width t.sort ≤ t.end) }
     ensures read { IfOk result (λ t. tokens_at text.now t ≡ tokens_of (drop start text.now)) }
     ensures lettered { IfOk result (λ t. is_lettered t.sort ≡ false) }
+
     ensures refused { IfErr result (λ _. tokens_of (drop start text.now) ≡ unreadable) }
     ensures place { IfErr result (λ e. place_of e ≤ length text.now) }
 {
@@ -356,11 +371,12 @@ fn text_at(text: &[u8], start: usize) -> Result<Token, ExprFault>
     }
 }
 
-// The place after the quote that ends the text which the quote at `start` begins; none where the text
-// doesn't end or has an escape that isn't known.
+// The place after the quote that ends the text which the quote at `start` begins; none where the
+// text doesn't end or has an escape that isn't known.
 fn closing_after(text: &[u8], start: usize) -> Option<usize>
     requires within { start < length text.now }
     requires quote { tokens.is_quote (slice_index text.now start) ≡ true }
+
     ensures begins { IfSome result (λ end. start + 2 ≤ end) }
     ensures ends { IfSome result (λ end. end ≤ length text.now) }
     ensures read { IfSome result (λ end. tokens_of (drop start text.now)

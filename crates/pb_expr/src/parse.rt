@@ -1,7 +1,8 @@
 // Expressions and templates, read from their texts.
 ghost use Rattle.std.specs.Prelude.{◌+◌, ◌<◌, ◌≡◌, ◌≤◌, Err, IfErr, IfOk, IfSome, None, Some, drop};
 ghost use Rattle.std.specs.Prelude.{length, slice_range, true, vec_len, ℕ};
-ghost use Rattle.pb_semantics.specs.Words.{FaultGives, Gives, is_among};
+ghost use Rattle.pb_semantics.specs.Words.{FaultGives, Gives, is_among, most_nesting};
+ghost use Rattle.pb_semantics.specs.Words.{most_path_steps};
 ghost use Rattle.pb_language.specs.Words.{Deeper, Expression, are_name_bytes, closed};
 ghost use Rattle.pb_language.specs.Words.{conjunction_of, cut, cut_in, deeper, disjunction_of};
 ghost use Rattle.pb_language.specs.Words.{expression_of, is_mark, is_quote as is_quote_byte};
@@ -38,8 +39,8 @@ pub fn parse_expr(alloc: Global, text: &str) -> Result<Expr, ExprFault>
     expr_from(alloc, text.as_bytes(), 0)
 }
 
-/// Reads a text that may have templates: without any it is a literal text, and one that is `{{ e }}` from its
-/// first byte to its last is the expression `e`.
+/// Reads a text that may have templates: without any it is a literal text, and one that is
+/// `{{ e }}` from its first byte to its last is the expression `e`.
 pub fn parse_template(alloc: Global, text: &str) -> Result<Expr, ExprFault>
     ensures tree { Gives (λ e. Some (expr_view e)) no_tree result (template_of text.now) }
     ensures apart { (at : ℕ) → opening_at text.now ≡ Some at → 0 < at
@@ -143,7 +144,8 @@ fn after_quote(text: &[u8], from: usize, quote: u8) -> Option<usize>
 // The expression that the text is from there on.
 fn expr_from(alloc: Global, text: &[u8], from: usize) -> Result<Expr, ExprFault>
     requires { from ≤ length text.now }
-    ensures tree { Gives (λ e. Some (expr_view e)) no_tree result (expression_of (drop from text.now)) }
+    ensures tree { Gives (λ e. Some (expr_view e)) no_tree result
+        (expression_of (drop from text.now)) }
     ensures place { IfErr result (λ e. place_of e ≤ length text.now) }
     ensures simple { IfOk result (λ e. is_simple (expr_view e) ≡ true) }
 {
@@ -157,7 +159,7 @@ fn expr_from(alloc: Global, text: &[u8], from: usize) -> Result<Expr, ExprFault>
 // A chain of `or` that begins with the token, and the token after it.
 #[cycle(parser)]
 fn or_at(alloc: Global, text: &[u8], token: Token, depth: usize) -> Result<(Expr, Token), ExprFault>
-    requires bounded { depth ≤ 32 }
+    requires bounded { depth ≤ most_nesting }
     requires token { IsToken text.now token }
     ensures read { IfOk result (λ r. IsRead text.now token r
         (disjunction_of (deeper depth) (tokens_at text.now token))) }
@@ -186,7 +188,7 @@ fn and_at(
     token: Token,
     depth: usize,
 ) -> Result<(Expr, Token), ExprFault>
-    requires bounded { depth ≤ 32 }
+    requires bounded { depth ≤ most_nesting }
     requires token { IsToken text.now token }
     ensures read { IfOk result (λ r. IsRead text.now token r
         (conjunction_of (deeper depth) (tokens_at text.now token))) }
@@ -215,7 +217,7 @@ fn not_at(
     token: Token,
     depth: usize,
 ) -> Result<(Expr, Token), ExprFault>
-    requires bounded { depth ≤ 32 }
+    requires bounded { depth ≤ most_nesting }
     requires token { IsToken text.now token }
     ensures read { IfOk result (λ r. IsRead text.now token r
         (negation_of (deeper depth) (tokens_at text.now token))) }
@@ -240,7 +242,7 @@ fn relation_at(
     token: Token,
     depth: usize,
 ) -> Result<(Expr, Token), ExprFault>
-    requires bounded { depth ≤ 32 }
+    requires bounded { depth ≤ most_nesting }
     requires token { IsToken text.now token }
     ensures read { IfOk result (λ r. IsRead text.now token r
         (relation_of (deeper depth) (tokens_at text.now token))) }
@@ -261,7 +263,8 @@ fn relation_behind(text: &[u8], sign: Token) -> Result<Option<(Sort, Token)>, Ex
     ensures next { IfOk result (λ r. IfSome r (λ s.
         (sign.start ≤ s.1.start) × IsToken text.now s.1)) }
     ensures read { IfOk result (λ r. (a : Expression) (d : Deeper) →
-        related_tree a (tokens_at text.now sign) (operand_of d) ≡ read_on text.now sign r a (operand_of d)) }
+        related_tree a (tokens_at text.now sign) (operand_of d)
+        ≡ read_on text.now sign r a (operand_of d)) }
     ensures refused { IfErr result (λ e. (a : Expression) (d : Deeper) → IsRefused _ text.now e
         (related_tree a (tokens_at text.now sign) (operand_of d))) }
 {
@@ -306,7 +309,7 @@ fn operand_at(
     token: Token,
     depth: usize,
 ) -> Result<(Expr, Token), ExprFault>
-    requires bounded { depth ≤ 32 }
+    requires bounded { depth ≤ most_nesting }
     requires token { IsToken text.now token }
     ensures read { IfOk result (λ r. IsRead text.now token r
         (operand_of (deeper depth) (tokens_at text.now token))) }
@@ -337,7 +340,7 @@ fn bare_operand_at(
     token: Token,
     depth: usize,
 ) -> Result<(Expr, Token), ExprFault>
-    requires bounded { depth ≤ 32 }
+    requires bounded { depth ≤ most_nesting }
     requires token { IsToken text.now token }
     ensures read { IfOk result (λ r. IsRead text.now token r
         (bare_operand (deeper depth) (tokens_at text.now token))) }
@@ -359,7 +362,7 @@ fn inside(
     token: Token,
     depth: usize,
 ) -> Result<(Expr, Token), ExprFault>
-    requires bounded { depth ≤ 32 }
+    requires bounded { depth ≤ most_nesting }
     requires token { IsToken text.now token }
     ensures read { IfOk result (λ r. IsRead text.now token r
         (closed ((deeper depth).whole (tokens_of (drop token.end text.now))))) }
@@ -378,7 +381,8 @@ fn behind_closing(text: &[u8], close: Token) -> Result<Token, ExprFault>
     requires token { IsToken text.now close }
     ensures next { IfOk result (λ t. (close.start ≤ t.start) × IsToken text.now t) }
     ensures read { IfOk result (λ t. (e : Expression) →
-        closed (Some (reading e (tokens_at text.now close))) ≡ Some (reading e (tokens_at text.now t))) }
+        closed (Some (reading e (tokens_at text.now close)))
+        ≡ Some (reading e (tokens_at text.now t))) }
     ensures refused { IfErr result (λ f. (e : Expression) → IsRefused _ text.now f
         (closed (Some (reading e (tokens_at text.now close))))) }
 {
@@ -407,9 +411,13 @@ fn literal_at(alloc: Global, text: &[u8], token: Token) -> Result<(Expr, Token),
 fn literal_of(alloc: Global, text: &[u8], token: Token) -> Result<Value, ExprFault>
     requires wide { token.start + least_width token.sort ≤ token.end }
     requires within { token.end ≤ length text.now }
+
     ensures wide { IfOk result (λ _. token.start < token.end) }
-    ensures read { IfOk result (λ v. first_literal (tokens_at text.now token) ≡ Some (literal (view v))) }
-    ensures refused { IfErr result (λ e. FaultGives (no_tree e) (first_literal (tokens_at text.now token))) }
+    ensures read { IfOk result
+        (λ v. first_literal (tokens_at text.now token) ≡ Some (literal (view v))) }
+
+    ensures refused { IfErr result
+        (λ e. FaultGives (no_tree e) (first_literal (tokens_at text.now token))) }
     ensures place { IfErr result (λ e. place_of e ≤ length text.now) }
 {
     match token.sort {
@@ -455,12 +463,12 @@ fn is_special(root: &[u8]) -> bool
 // The steps from the token on, and the token after them.
 fn steps_at(alloc: Global, text: &[u8], token: Token) -> Result<(Vec<String>, Token), ExprFault>
     requires token { IsToken text.now token }
-    ensures short { IfOk result (λ r. vec_len r.0 ≤ 16) }
+    ensures short { IfOk result (λ r. vec_len r.0 ≤ most_path_steps) }
     ensures next { IfOk result (λ r. (token.start ≤ r.1.start) × IsToken text.now r.1) }
-    ensures read { IfOk result (λ r. steps_of 16 (tokens_at text.now token)
+    ensures read { IfOk result (λ r. steps_of most_path_steps (tokens_at text.now token)
         ≡ Some (reading (names_of r.0.items) (tokens_at text.now r.1))) }
     ensures refused { IfErr result (λ e.
-        IsRefused _ text.now e (steps_of 16 (tokens_at text.now token))) }
+        IsRefused _ text.now e (steps_of most_path_steps (tokens_at text.now token))) }
 {
     let mut steps = Vec::new(alloc);
     let mut after = token;

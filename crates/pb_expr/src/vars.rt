@@ -13,7 +13,8 @@ pub trait Vars {
     ghost world: { Self → World };
 
     fn value(&self, name: &str) -> Option<&Value>
-        ensures { option_map (λ v. view v.now) result ≡ field_value name.now (world self.now).mine };
+        ensures { option_map (λ v. view v.now) result
+            ≡ field_value name.now (world self.now).mine };
 }
 
 impl Vars for Fields {

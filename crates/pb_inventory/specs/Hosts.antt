@@ -1,5 +1,6 @@
 -- Which inventory a JSON value describes: `{"all":{"hosts":[NAME]}}` with one host.
-use Rattle.std.specs.Prelude.{ℕ, zero, List, [], ◌∷◌, length, Bool, true, false, ◌&&◌, ◌||◌, cond, nat_le, ◌==◌, Option, Some, None, option_map, codes}
+use Rattle.std.specs.Prelude.{ℕ, zero, List, [], ◌∷◌, length, Bool, true, false, ◌&&◌, ◌||◌, cond}
+use Rattle.std.specs.Prelude.{nat_le, ◌==◌, Option, Some, None, option_map, codes}
 use Rattle.std.specs.Str.{bytes_eq}
 use Rattle.pb_semantics.specs.Limits.{most_host_name_bytes}
 use Rattle.pb_semantics.specs.Data.{Data, Fields, text, list, rec, no_items, item, no_fields, field}
@@ -21,7 +22,9 @@ pub record InventoryData : Type 0 where
 
 -- an ASCII letter or digit, `.`, `_` or `-`
 abbrev pub is_host_byte : ℕ → Bool
-is_host_byte b = (nat_le 97 b && nat_le b 122) || ((nat_le 65 b && nat_le b 90) || ((nat_le 48 b && nat_le b 57) || ((b == 46) || ((b == 95) || (b == 45)))))
+is_host_byte b = (nat_le 97 b && nat_le b 122)
+    || ((nat_le 65 b && nat_le b 90)
+    || ((nat_le 48 b && nat_le b 57) || ((b == 46) || ((b == 95) || (b == 45)))))
 
 abbrev pub are_host_bytes : List ℕ → Bool
 are_host_bytes [] = true
@@ -55,7 +58,8 @@ host_of d = host_name (only_text (only_field (codes "hosts") (only_field (codes 
 abbrev pub one_host : List ℕ → InventoryData
 one_host n = record {
   hosts = record { name = n; groups = codes "ungrouped" ∷ []; vars = no_fields } ∷ [];
-  groups = record { name = codes "all"; members = 0 ∷ [] } ∷ record { name = codes "ungrouped"; members = 0 ∷ [] } ∷ [];
+  groups = record { name = codes "all"; members = 0 ∷ [] }
+      ∷ record { name = codes "ungrouped"; members = 0 ∷ [] } ∷ [];
 }
 
 abbrev pub are_names : List (List ℕ) → List (List ℕ) → Bool

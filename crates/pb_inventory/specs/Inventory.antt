@@ -6,7 +6,8 @@ use Rattle.pb_inventory.specs.Views.{host_view, group_view}
 use Rattle.pb_inventory.specs.declared.inventory.Inventory.{Inventory}
 
 abbrev pub inventory_view : Inventory → InventoryData
-inventory_view i = record { hosts = map host_view i.hosts.entries; groups = map group_view i.groups.entries }
+inventory_view i =
+    record { hosts = map host_view i.hosts.entries; groups = map group_view i.groups.entries }
 
 abbrev pub group_at : List ℕ → List GroupData → Option (List ℕ)
 group_at n [] = None

@@ -6,7 +6,12 @@ use Rattle.pb_inventory.specs.Hosts.{HostData, GroupData}
 use Rattle.pb_inventory.specs.declared.inventory.Host.{Host}
 
 abbrev pub host_view : String Global × Host → HostData
-host_view h = record { name = string_bytes h.0; groups = map (λ n. string_bytes n.value) h.1.groups.items; vars = fields_view h.1.vars.entries }
+host_view h = record {
+  name = string_bytes h.0;
+  groups = map (λ n. string_bytes n.value)
+      h.1.groups.items;
+  vars = fields_view h.1.vars.entries;
+}
 
 abbrev pub group_view : String Global × Vec ℕ Global → GroupData
 group_view g = record { name = string_bytes g.0; members = g.1.items }

@@ -22,15 +22,17 @@ struct Host {
     vars: Fields,
 }
 
-/// The hosts of a run in host order, at most 1,024, and the groups. A host is named by its place in that order. So far
-/// there is one host, without variables.
+/// The hosts of a run in host order, at most 1,024, and the groups. A host is named by its place in
+/// that order. So far there is one host, without variables.
 #[derive(Drop)]
 pub struct Inventory {
     hosts: IndexMap<String, Host>,
     groups: IndexMap<String, Vec<usize>>,
     ghost few: { index_map_len hosts ≤ most_hosts },
-    ghost lone: { is_lone (record { hosts = map host_view hosts.entries; groups = map group_view groups.entries })
-        ≡ true },
+    ghost lone: { is_lone (record {
+      hosts = map host_view hosts.entries;
+      groups = map group_view groups.entries;
+    }) ≡ true },
 }
 
 impl Inventory {

@@ -57,8 +57,8 @@ impl From<JsonFault> for InventoryFault {
 }
 
 impl Inventory {
-    /// The inventory of one host that stands in no group: `{"all":{"hosts":[NAME]}}`, where the name
-    /// has 1 to 253 ASCII letters, digits, `.`, `_` or `-`.
+    /// The inventory of one host that stands in no group: `{"all":{"hosts":[NAME]}}`, where the
+    /// name has 1 to 253 ASCII letters, digits, `.`, `_` or `-`.
     ///
     /// # Errors
     /// `NotBuilt` where there are more than 4,194,304 bytes; else `NotJson` where they aren't JSON;
@@ -67,10 +67,13 @@ impl Inventory {
         ensures ok { IfOk result (λ i. (d : Data) × (json_data bytes.now ≡ Some d)
             × (inventory_of d ≡ Some (inventory_view i))) }
         ensures one_host { IfOk result (λ i. length (inventory_view i).hosts ≡ 1) }
+
         ensures not_json { result ≡ Err InventoryFault.NotJson → json_data bytes.now ≡ None }
-        ensures not_built { result ≡ Err InventoryFault.NotBuilt → length bytes.now ≤ most_inventory_bytes
+        ensures not_built { result ≡ Err InventoryFault.NotBuilt
+            → length bytes.now ≤ most_inventory_bytes
             → (d : Data) × (json_data bytes.now ≡ Some d) × (inventory_of d ≡ None) }
-        ensures large { most_inventory_bytes < length bytes.now → result ≡ Err InventoryFault.NotBuilt }
+        ensures large { most_inventory_bytes < length bytes.now
+            → result ≡ Err InventoryFault.NotBuilt }
         ensures no_text { is_utf8 bytes.now ≡ false → length bytes.now ≤ most_inventory_bytes
             → result ≡ Err InventoryFault.NotJson }
     {

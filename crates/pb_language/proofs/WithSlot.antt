@@ -6,7 +6,7 @@ use Rattle.pb_semantics.specs.Keeps.{filled, all_listed, keeps, slots_kept, spot
 use Rattle.pb_semantics.specs.Well.{are_once, Well, WellSlots}
 use Rattle.pb_semantics.proofs.Bools.{untrue, and-left, and-right, and-both, not-true, true-false}
 use Rattle.pb_semantics.proofs.Names.{same_name, own_name}
-use Rattle.pb_semantics.proofs.Slots.{listed_is_there, unlisted_nowhere}
+use Rattle.pb_semantics.proofs.Slots.{later_spot, listed_is_there, own_spot}
 use Rattle.pb_semantics.proofs.PutSlots.{at_put, once_put, well_put, is_not}
 use Rattle.pb_semantics.proofs.Kept.{kept_models}
 use Rattle.pb_language.specs.Scope.{without_slot, with_slot, with_spot}
@@ -95,19 +95,6 @@ well_with n a k ss w v = (once_with n a k ss v.0, well_put n a k (without_slot n
 ok_filled : (a : Bool) (k : KindData) (o : Option Data) → spot_ok o (spot a k) ≡ true → filled a (option_map (λ d. keeps d k) o) ≡ true
 ok_filled a k None h = h
 ok_filled a k (Some d) h = h
-
-own_spot : (q : Bool) (a : Bool) (k : KindData) (s : Spot) → q ≡ true → cond q (spot a k) s ≡ spot a k
-own_spot true a k s h = refl
-own_spot false a k s h = untrue h
-
--- a name that isn't listed is no other's
-later_spot : (q : Bool) (p n : List ℕ) (a b : Bool) (k m : KindData) (ss : Slots) → bytes_eq p n ≡ q → is_listed n ss ≡ false → slot_at p ss ≡ spot b m → cond q (spot a k) (slot_at p ss) ≡ spot b m
-later_spot true p n a b k m ss e h i =
-    let x : slot_at n ss ≡ spot b m = rw (same_name p n e) at i in
-    let y : slot_at n ss ≡ nowhere = unlisted_nowhere n ss h in
-    let z : nowhere ≡ spot b m = sym y ∙ x in
-    absurd (cc)
-later_spot false p n a b k m ss e h i = i
 
 slots_from : (fs : Fields) (ss : Slots) → are_once ss ≡ true → ((p : List ℕ) (b : Bool) (m : KindData) → slot_at p ss ≡ spot b m → spot_ok (field_value p fs) (spot b m) ≡ true) → slots_kept fs ss ≡ true
 slots_from fs no_slots o f = refl

@@ -1,10 +1,15 @@
--- What a task registers and sets, and of which kind (Ansible's pages on return values and on error handling).
-use Rattle.std.specs.Prelude.{ℕ, [], ◌∷◌, Bool, true, false, not, ◌&&◌, ◌||◌, cond, Option, Some, None, is_some, codes}
+-- What a task registers and sets, and of which kind (Ansible's pages on return values and on error
+-- handling).
+use Rattle.std.specs.Prelude.{ℕ, [], ◌∷◌, Bool, true, false, not, ◌&&◌, ◌||◌, cond, Option, Some}
+use Rattle.std.specs.Prelude.{None, is_some, codes}
 use Rattle.std.specs.Str.{bytes_eq}
-use Rattle.pb_semantics.specs.Kind.{KindData, Slots, Cases, Spot, never, booleans, texts, lists, recs, results, anything, no_slots, slot, no_cases, one, spot, slot_at, is_listed, ok_shape, failure_shape, skipped_shape}
+use Rattle.pb_semantics.specs.Kind.{KindData, Slots, Cases, Spot, never, booleans, texts, lists}
+use Rattle.pb_semantics.specs.Kind.{recs, results, anything, no_slots, slot, no_cases, one, spot}
+use Rattle.pb_semantics.specs.Kind.{slot_at, is_listed, ok_shape, failure_shape, skipped_shape}
 use Rattle.pb_semantics.specs.Join.{append_cases, join_spot}
 use Rattle.pb_semantics.specs.Signature.{ModuleData, is_certain_boolean}
-use Rattle.pb_language.specs.Expression.{Name, Expressions, no_expressions, expression, Parts, no_parts, part}
+use Rattle.pb_language.specs.Expression.{Name, Expressions, no_expressions, expression, Parts}
+use Rattle.pb_language.specs.Expression.{no_parts, part}
 use Rattle.pb_language.specs.Scope.{Scope, with_slot, with_spot}
 use Rattle.pb_language.specs.Kinds.{kind_of}
 use Rattle.pb_language.specs.Narrow.{results_of, cases_with}
@@ -33,9 +38,12 @@ abbrev mutual
   are_plain no_slots = true
   are_plain (slot n a k ss) = not (is_listed n ss) && (is_plain k && are_plain ss)
 
--- a shape of a module: a record that holds no result, with `changed`, and none of the fields that every result has
+-- a shape of a module: a record that holds no result, with `changed`, and none of the fields that
+-- every result has
 abbrev pub is_lawful_shape : KindData → Bool
-is_lawful_shape (recs ss) = is_plain (recs ss) && (is_certain_boolean (slot_at (codes "changed") ss) && (not (is_listed (codes "failed") ss) && not (is_listed (codes "skipped") ss)))
+is_lawful_shape (recs ss) = is_plain (recs ss)
+    && (is_certain_boolean (slot_at (codes "changed") ss)
+    && (not (is_listed (codes "failed") ss) && not (is_listed (codes "skipped") ss)))
 is_lawful_shape k = false
 
 -- the fields of a lawful shape; a module that keeps no law is refused
@@ -60,10 +68,12 @@ failure_case n ss = one n failure_shape true (ended_kind ss) no_cases
 
 -- what a module or an action answers: ok and not failed, or a failure
 abbrev pub answered_cases : Action → Cases
-answered_cases (call_of m ps) = append_cases (ok_case m.name (shape_slots m.ok)) (failure_case m.name (shape_slots m.failure))
+answered_cases (call_of m ps) =
+    append_cases (ok_case m.name (shape_slots m.ok)) (failure_case m.name (shape_slots m.failure))
 answered_cases (debug e) = ok_case (codes "debug") changed_slots
 answered_cases (set_fact ps) = ok_case (codes "set_fact") changed_slots
-answered_cases (assertion es o) = append_cases (ok_case (codes "assert") message_slots) (failure_case (codes "assert") message_slots)
+answered_cases (assertion es o) = append_cases (ok_case (codes "assert") message_slots)
+    (failure_case (codes "assert") message_slots)
 answered_cases (failure_of o) = failure_case (codes "fail") message_slots
 
 -- each shape with either status
@@ -77,7 +87,9 @@ ended_cases a None = answered_cases a
 ended_cases a (Some es) = either_status (answered_cases a)
 
 abbrev pub skipped_slots : Slots
-skipped_slots = slot (codes "changed") true booleans (slot (codes "failed") true booleans (slot (codes "skip_reason") true texts (slot (codes "skipped") true booleans no_slots)))
+skipped_slots = slot (codes "changed") true booleans
+    (slot (codes "failed") true booleans
+    (slot (codes "skip_reason") true texts (slot (codes "skipped") true booleans no_slots)))
 
 abbrev pub is_conditional : Expressions → Bool
 is_conditional no_expressions = false
@@ -85,7 +97,8 @@ is_conditional (expression e es) = true
 
 -- a task under a condition may be skipped
 abbrev pub skipped_cases : Task → Cases
-skipped_cases t = cond (is_conditional t.conditions) (one (action_name t.action) skipped_shape false (recs skipped_slots) no_cases) no_cases
+skipped_cases t = cond (is_conditional t.conditions)
+    (one (action_name t.action) skipped_shape false (recs skipped_slots) no_cases) no_cases
 
 -- every result that the task, or one item of it, can have
 abbrev pub all_results : Task → Cases
@@ -100,7 +113,10 @@ failing_cases t = cond t.ignores no_cases (cases_with (λ sh fl k. fl) (all_resu
 
 -- what a task with a `loop` registers
 abbrev pub looped_kind : Task → ℕ → KindData
-looped_kind t n = recs (slot (codes "changed") true booleans (slot (codes "failed") true booleans (slot (codes "results") true (lists (results_of (all_results t)) n) (slot (codes "skipped") true booleans no_slots))))
+looped_kind t n = recs (slot (codes "changed") true booleans
+    (slot (codes "failed") true booleans
+    (slot (codes "results") true (lists (results_of (all_results t)) n)
+    (slot (codes "skipped") true booleans no_slots))))
 
 -- the kind of the items, and the greatest number of them
 abbrev pub item_kind : KindData → KindData
@@ -153,7 +169,8 @@ facts_set a no_slots = no_sets
 facts_set a (slot n b k ss) = sets n (a && b) k (facts_set a ss)
 
 abbrev pub gathered : Bool → Spot → Sets
-gathered a (spot b (recs ss)) = sets (codes "ansible_facts") (a && b) (recs (stripped_slots ss)) (facts_set (a && b) ss)
+gathered a (spot b (recs ss)) =
+    sets (codes "ansible_facts") (a && b) (recs (stripped_slots ss)) (facts_set (a && b) ss)
 gathered a s = no_sets
 
 abbrev pub is_setup : ModuleData → Bool
@@ -168,7 +185,9 @@ abbrev pub is_certain_to_run : Task → Bool
 is_certain_to_run t = not (is_conditional t.conditions) && not (is_some t.loop)
 
 abbrev pub action_sets : Scope → Task → Action → Sets
-action_sets c t (call_of m ps) = cond (is_setup m) (gathered (is_certain_to_run t && not (may_go_on_failed t)) (slot_at (codes "ansible_facts") (shape_slots m.ok))) no_sets
+action_sets c t (call_of m ps) = cond (is_setup m)
+    (gathered (is_certain_to_run t && not (may_go_on_failed t))
+    (slot_at (codes "ansible_facts") (shape_slots m.ok))) no_sets
 action_sets c t (debug e) = no_sets
 action_sets c t (set_fact ps) = parts_set c (is_certain_to_run t) ps
 action_sets c t (assertion es o) = no_sets

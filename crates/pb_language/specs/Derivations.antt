@@ -1,12 +1,20 @@
--- The grammar of expressions as productions: which lists of tokens have which trees, in no order of reading; and the law that a text's tree is the one that they derive.
-use Rattle.std.specs.Prelude.{◌≡◌, ◌≤◌, ℕ, zero, suc, ℤ, List, [], ◌∷◌, ◌++◌, Bool, true, false, Option, Some, None, length}
+-- The grammar of expressions as productions: which lists of tokens have which trees, in no order of
+-- reading; and the law that a text's tree is the one that they derive.
+use Rattle.std.specs.Prelude.{◌≡◌, ◌≤◌, ℕ, zero, suc, ℤ, List, [], ◌∷◌, ◌++◌, Bool, true, false}
+use Rattle.std.specs.Prelude.{Option, Some, None, length}
 use Rattle.std.specs.Str.{is_utf8}
 use Rattle.pb_semantics.specs.Data.{boolean, int, text}
 use Rattle.pb_semantics.specs.Keeps.{is_among}
-use Rattle.pb_language.specs.Expression.{Name, equal, Expression, literal, path, negation, conjunction, disjunction, comparison, membership, variable, Expressions, no_expressions, expression}
+use Rattle.pb_semantics.specs.Limits.{most_nesting, most_path_steps}
+use Rattle.pb_language.specs.Expression.{Name, equal, Expression, literal, path, negation}
+use Rattle.pb_language.specs.Expression.{conjunction, disjunction, comparison, membership, variable}
+use Rattle.pb_language.specs.Expression.{Expressions, no_expressions, expression}
 use Rattle.pb_language.specs.Grammar.{expression_of}
 use Rattle.pb_language.specs.Simple.{shared_names}
-use Rattle.pb_language.specs.Tokens.{Word, and_word, or_word, not_word, in_word, truth_word, opening, closing, dot, equals, differs, Token, name, word, number, quoted, sign, Tokens, finish, unreadable, token, tokens_of}
+use Rattle.pb_language.specs.Tokens.{Word, and_word, or_word, not_word, in_word, truth_word}
+use Rattle.pb_language.specs.Tokens.{opening, closing, dot, equals, differs, Token, name, word}
+use Rattle.pb_language.specs.Tokens.{number, quoted, sign, Tokens, finish, unreadable, token}
+use Rattle.pb_language.specs.Tokens.{tokens_of}
 
 -- these tokens have that tree
 abbrev pub Derivation : Type 1
@@ -24,38 +32,51 @@ pub data Letters : Token → Name → Type 0 where
 
 pub data Steps : List Token → List Name → Type 0 where
   no_step : Steps [] []
-  step : {t : Token} {n : Name} {ts : List Token} {ns : List Name} → Letters t n → Steps ts ns → Steps (sign dot ∷ t ∷ ts) (n ∷ ns)
+  step : {t : Token} {n : Name} {ts : List Token} {ns : List Name} → Letters t n → Steps ts ns
+      → Steps (sign dot ∷ t ∷ ts) (n ∷ ns)
 
--- operand := number | truth value | text | name steps | "(" or ")", with at most 16 steps and none of the shared names
+-- operand := number | truth value | text | name steps | "(" or ")", with at most 16 steps and none
+-- of the shared names
 pub data Operand (d : Nested) : List Token → Expression → Type 0 where
   a_number : {z : ℤ} → Operand d (number z ∷ []) (literal (int z))
   a_truth : {b : Bool} {n : Name} → Operand d (word (truth_word b) n ∷ []) (literal (boolean b))
   a_text : {w : Name} → is_utf8 w ≡ true → Operand d (quoted w ∷ []) (literal (text w))
-  a_path : {n : Name} {ts : List Token} {ns : List Name} → is_among n shared_names ≡ false → Steps ts ns → length ns ≤ 16 → Operand d (name n ∷ ts) (path (variable n) ns)
-  enclosed : {ts : List Token} {e : Expression} → d.whole ts e → Operand d (sign opening ∷ ts ++ sign closing ∷ []) e
+  a_path : {n : Name} {ts : List Token} {ns : List Name} → is_among n shared_names ≡ false
+      → Steps ts ns → length ns ≤ most_path_steps → Operand d (name n ∷ ts) (path (variable n) ns)
+  enclosed : {ts : List Token} {e : Expression} → d.whole ts e
+      → Operand d (sign opening ∷ ts ++ sign closing ∷ []) e
 
 -- relation := operand [("==" | "!=" | "in" | "not" "in") operand]
 pub data Relation (d : Nested) : List Token → Expression → Type 0 where
   one_operand : {ts : List Token} {a : Expression} → Operand d ts a → Relation d ts a
-  are_equal : {ts us : List Token} {a b : Expression} → Operand d ts a → Operand d us b → Relation d (ts ++ sign equals ∷ us) (comparison equal a b)
-  are_different : {ts us : List Token} {a b : Expression} → Operand d ts a → Operand d us b → Relation d (ts ++ sign differs ∷ us) (negation (comparison equal a b))
-  is_in : (n : Name) {ts us : List Token} {a b : Expression} → Operand d ts a → Operand d us b → Relation d (ts ++ word in_word n ∷ us) (membership a b)
-  is_not_in : (n m : Name) {ts us : List Token} {a b : Expression} → Operand d ts a → Operand d us b → Relation d (ts ++ word not_word n ∷ word in_word m ∷ us) (negation (membership a b))
+  are_equal : {ts us : List Token} {a b : Expression} → Operand d ts a → Operand d us b
+      → Relation d (ts ++ sign equals ∷ us) (comparison equal a b)
+  are_different : {ts us : List Token} {a b : Expression} → Operand d ts a → Operand d us b
+      → Relation d (ts ++ sign differs ∷ us) (negation (comparison equal a b))
+  is_in : (n : Name) {ts us : List Token} {a b : Expression} → Operand d ts a → Operand d us b
+      → Relation d (ts ++ word in_word n ∷ us) (membership a b)
+  is_not_in : (n m : Name) {ts us : List Token} {a b : Expression} → Operand d ts a → Operand d us b
+      → Relation d (ts ++ word not_word n ∷ word in_word m ∷ us) (negation (membership a b))
 
 -- not := "not" not | relation
 pub data Negation (d : Nested) : List Token → Expression → Type 0 where
   a_relation : {ts : List Token} {e : Expression} → Relation d ts e → Negation d ts e
-  a_negation : {n : Name} {ts : List Token} {e : Expression} → d.negated ts e → Negation d (word not_word n ∷ ts) (negation e)
+  a_negation : {n : Name} {ts : List Token} {e : Expression} → d.negated ts e
+      → Negation d (word not_word n ∷ ts) (negation e)
 
 -- operand (word operand)*
 pub data Chain (w : Word) (operand : Derivation) : List Token → Expressions → Type 0 where
-  last : {ts : List Token} {e : Expression} → operand ts e → Chain w operand ts (expression e no_expressions)
-  more : (n : Name) {ts us : List Token} {e : Expression} {es : Expressions} → operand ts e → Chain w operand us es → Chain w operand (ts ++ word w n ∷ us) (expression e es)
+  last : {ts : List Token} {e : Expression} → operand ts e
+      → Chain w operand ts (expression e no_expressions)
+  more : (n : Name) {ts us : List Token} {e : Expression} {es : Expressions} → operand ts e
+      → Chain w operand us es → Chain w operand (ts ++ word w n ∷ us) (expression e es)
 
 -- one operand is itself, and more of them are one tree
-pub data Joined (w : Word) (make : Expressions → Expression) (operand : Derivation) : List Token → Expression → Type 0 where
+pub data Joined (w : Word) (make : Expressions → Expression) (operand : Derivation) : List Token
+    → Expression → Type 0 where
   alone : {ts : List Token} {e : Expression} → operand ts e → Joined w make operand ts e
-  several : (n : Name) {ts us : List Token} {e : Expression} {es : Expressions} → operand ts e → Chain w operand us es → Joined w make operand (ts ++ word w n ∷ us) (make (expression e es))
+  several : (n : Name) {ts us : List Token} {e : Expression} {es : Expressions} → operand ts e
+      → Chain w operand us es → Joined w make operand (ts ++ word w n ∷ us) (make (expression e es))
 
 -- and := not ("and" not)*, or := and ("or" and)*
 abbrev pub Conjunction : Nested → Derivation
@@ -84,8 +105,10 @@ listed (token t ts) = with_token t (listed ts)
 
 -- a text's tree is derived
 abbrev pub TreesAreDerived : Type 0
-TreesAreDerived = (bs : List ℕ) (e : Expression) → expression_of bs ≡ Some e → (ts : List Token) × (listed (tokens_of bs) ≡ Some ts) × Derives 32 ts e
+TreesAreDerived = (bs : List ℕ) (e : Expression) → expression_of bs ≡ Some e
+    → (ts : List Token) × (listed (tokens_of bs) ≡ Some ts) × Derives most_nesting ts e
 
 -- and a tree that is derived is the text's
 abbrev pub DerivedAreTrees : Type 0
-DerivedAreTrees = (bs : List ℕ) (e : Expression) (ts : List Token) → listed (tokens_of bs) ≡ Some ts → Derives 32 ts e → expression_of bs ≡ Some e
+DerivedAreTrees = (bs : List ℕ) (e : Expression) (ts : List Token) → listed (tokens_of bs) ≡ Some ts
+    → Derives most_nesting ts e → expression_of bs ≡ Some e

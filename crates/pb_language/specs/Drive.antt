@@ -1,8 +1,11 @@
--- Which host starts next, and a run whose jobs are answered one after the other (Ansible's page on strategies; one job at a time is this project's own).
-use Rattle.std.specs.Prelude.{ℕ, zero, suc, List, [], ◌∷◌, nat_lt, cond, Option, Some, None, take, drop}
+-- Which host starts next, and a run whose jobs are answered one after the other (Ansible's page on
+-- strategies; one job at a time is this project's own).
+use Rattle.std.specs.Prelude.{ℕ, zero, suc, List, [], ◌∷◌, nat_lt, cond, Option, Some, None, take}
+use Rattle.std.specs.Prelude.{drop}
 use Rattle.pb_language.specs.Start.{call_count}
 use Rattle.pb_language.specs.Give.{Answer}
-use Rattle.pb_language.specs.Machine.{start, give, turn, begins, Stage, waits, runs, Host, State, host_at, enabled, step}
+use Rattle.pb_language.specs.Machine.{start, give, turn, begins, Stage, waits, runs, Host, State}
+use Rattle.pb_language.specs.Machine.{host_at, enabled, step}
 
 -- a host that can start, and its place
 pub record Starting : Type 0 where
@@ -10,7 +13,8 @@ pub record Starting : Type 0 where
   pub place : ℕ
 
 abbrev pub starting : State → ℕ → Stage → Option Starting
-starting s k (waits (begins t a b)) = cond (enabled s (start k)) (Some (record { number = k; place = t.place })) None
+starting s k (waits (begins t a b)) =
+    cond (enabled s (start k)) (Some (record { number = k; place = t.place })) None
 starting s k g = None
 
 -- the lowest place, ties by host order
@@ -51,7 +55,8 @@ pub record Driven : Type 0 where
   pub answers : List (List Answer)
 
 abbrev pub given_next : ℕ → ℕ → List (List Answer) → State → Driven
-given_next k n xss s = record { state = step s (give k (take n (answers_at k xss))); answers = answers_used k n xss }
+given_next k n xss s =
+    record { state = step s (give k (take n (answers_at k xss))); answers = answers_used k n xss }
 
 abbrev pub started_next : ℕ → List (List Answer) → State → Driven
 started_next k xss s = given_next k (calls_out (host_at k s.hosts)) xss s
@@ -62,7 +67,8 @@ drive_start (Some x) d = started_next x.number d.answers (step d.state (start x.
 
 -- a Turn where one is enabled, else the next job with its answers
 abbrev pub drive_step : Driven → Driven
-drive_step d = cond (enabled d.state turn) (record d { state = step d.state turn }) (drive_start (next_start d.state) d)
+drive_step d = cond (enabled d.state turn) (record d { state = step d.state turn })
+    (drive_start (next_start d.state) d)
 
 abbrev pub drive : ℕ → Driven → Driven
 drive zero d = d

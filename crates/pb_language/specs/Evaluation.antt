@@ -1,10 +1,22 @@
--- The value of an expression in a world, where it has one (Ansible's pages on templating, tests, filters and conditionals).
-use Rattle.std.specs.Prelude.{ℕ, ℤ, suc, pos, List, [], ◌∷◌, ◌++◌, Bool, true, false, not, ◌&&◌, ◌||◌, cond, Option, Some, None, is_some, nat_le, nat_lt, int_le, int_lt, codes}
-use Rattle.pb_semantics.specs.Data.{Data, Items, Fields, boolean, int, text, list, rec, opaque, no_items, item, no_fields, field, field_value, count_of}
+-- The value of an expression in a world, where it has one (Ansible's pages on templating, tests,
+-- filters and conditionals).
+use Rattle.std.specs.Prelude.{ℕ, ℤ, suc, pos, List, [], ◌∷◌, ◌++◌, Bool, true, false, not, ◌&&◌}
+use Rattle.std.specs.Prelude.{◌||◌, cond, Option, Some, None, is_some, nat_le, nat_lt, int_le}
+use Rattle.std.specs.Prelude.{int_lt, codes}
+use Rattle.pb_semantics.specs.Data.{Data, Items, Fields, boolean, int, text, list, rec, opaque}
+use Rattle.pb_semantics.specs.Data.{no_items, item, no_fields, field, field_value, count_of}
 use Rattle.pb_semantics.specs.Equal.{data_eq, is_item, is_part}
 use Rattle.pb_semantics.specs.Keeps.{is_among, flag_is}
 use Rattle.pb_semantics.specs.Render.{is_plain, rendered}
-use Rattle.pb_language.specs.Expression.{Name, Comparison, equal, less, at_most, more, at_least, Status, is_failed, is_changed, is_skipped, Term, named_host, this_host, item_host, group_member, Expression, literal, path, hostvars_alone, negation, conjunction, disjunction, comparison, membership, in_batch, defined, undefinable, path_status, value_status, path_or, value_or, length_of, joined_by, concatenation, list_of, record_of, Root, variable, alias, other, member, Expressions, no_expressions, expression, Parts, no_parts, part}
+use Rattle.pb_language.specs.Expression.{Name, Comparison, equal, less, at_most, more, at_least}
+use Rattle.pb_language.specs.Expression.{Status, is_failed, is_changed, is_skipped, Term}
+use Rattle.pb_language.specs.Expression.{named_host, this_host, item_host, group_member, Expression}
+use Rattle.pb_language.specs.Expression.{literal, path, hostvars_alone, negation, conjunction}
+use Rattle.pb_language.specs.Expression.{disjunction, comparison, membership, in_batch, defined}
+use Rattle.pb_language.specs.Expression.{undefinable, path_status, value_status, path_or, value_or}
+use Rattle.pb_language.specs.Expression.{length_of, joined_by, concatenation, list_of, record_of}
+use Rattle.pb_language.specs.Expression.{Root, variable, alias, other, member, Expressions}
+use Rattle.pb_language.specs.Expression.{no_expressions, expression, Parts, no_parts, part}
 use Rattle.pb_language.specs.World.{World, variables_of, member_of}
 
 -- why a step can't be made
@@ -136,11 +148,13 @@ abbrev mutual
 
   pub any_field_opaque : List Name → Fields → Bool
   any_field_opaque seen no_fields = false
-  any_field_opaque seen (field n d fs) = (not (is_among n seen) && holds_opaque d) || any_field_opaque (n ∷ seen) fs
+  any_field_opaque seen (field n d fs) =
+      (not (is_among n seen) && holds_opaque d) || any_field_opaque (n ∷ seen) fs
 
 -- neither holds what may not be read
 abbrev pub equal_values : Data → Data → Outcome
-equal_values d e = cond (holds_opaque d || holds_opaque e) (stuck wrong_sort) (value (boolean (data_eq d e)))
+equal_values d e =
+    cond (holds_opaque d || holds_opaque e) (stuck wrong_sort) (value (boolean (data_eq d e)))
 
 abbrev pub ordered : (ℤ → ℤ → Bool) → Data → Data → Outcome
 ordered f (int y) (int z) = value (boolean (f y z))
@@ -155,7 +169,8 @@ compared at_least d e = ordered (λ y z. int_le z y) d e
 
 -- an equal item, a part of a text, or a field of a record
 abbrev pub found_in : Data → Data → Outcome
-found_in d (list es) = cond (holds_opaque d || any_item_opaque es) (stuck wrong_sort) (value (boolean (is_item d es)))
+found_in d (list es) =
+    cond (holds_opaque d || any_item_opaque es) (stuck wrong_sort) (value (boolean (is_item d es)))
 found_in (text s) (text t) = value (boolean (is_part s t))
 found_in (text s) (rec fs) = value (boolean (is_some (field_value s fs)))
 found_in d e = stuck wrong_sort
@@ -171,7 +186,8 @@ member_among (Some h) ns = value (boolean (is_among h ns))
 abbrev pub is_active : World → Term → Outcome
 is_active w (named_host n) = value (boolean (is_among n w.batch))
 is_active w this_host = value (boolean (is_among w.this w.batch))
-is_active w item_host = or_stuck undefined (λ d. is_text_among d w.batch) (field_value (codes "item") w.mine)
+is_active w item_host =
+    or_stuck undefined (λ d. is_text_among d w.batch) (field_value (codes "item") w.mine)
 is_active w (group_member g n) = member_among (member_of g n w.groups) w.batch
 
 abbrev pub flag_of : Option Data → Outcome
@@ -192,7 +208,8 @@ field_count (field n d fs) = suc (field_count fs)
 -- the bytes that begin a character
 abbrev pub character_count : List ℕ → ℕ
 character_count [] = 0
-character_count (b ∷ bs) = cond (nat_lt b 128 || nat_le 192 b) (suc (character_count bs)) (character_count bs)
+character_count (b ∷ bs) =
+    cond (nat_lt b 128 || nat_le 192 b) (suc (character_count bs)) (character_count bs)
 
 abbrev pub counted : Data → Outcome
 counted (list ds) = value (int (pos (count_of ds)))
@@ -211,7 +228,8 @@ with_text s d = stuck wrong_sort
 abbrev pub joined_items : List ℕ → Items → Outcome
 joined_items s no_items = value (text [])
 joined_items s (item d no_items) = plain_text d (λ t. value (text t))
-joined_items s (item d (item e ds)) = plain_text d (λ t. then_go (joined_items s (item e ds)) (with_text (t ++ s)))
+joined_items s (item d (item e ds)) =
+    plain_text d (λ t. then_go (joined_items s (item e ds)) (with_text (t ++ s)))
 
 abbrev pub joined : Data → Data → Outcome
 joined (list ds) (text s) = joined_items s ds
@@ -274,7 +292,8 @@ abbrev mutual
 
   pub eval_text : World → Expressions → Outcome
   eval_text w no_expressions = value (text [])
-  eval_text w (expression e es) = then_go (eval w e) (λ d. plain_text d (λ s. then_go (eval_text w es) (with_text s)))
+  eval_text w (expression e es) =
+      then_go (eval w e) (λ d. plain_text d (λ s. then_go (eval_text w es) (with_text s)))
 
   pub eval_items : World → Expressions → Outcome
   eval_items w no_expressions = value (list no_items)

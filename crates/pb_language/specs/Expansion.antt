@@ -1,7 +1,13 @@
 -- The values of `vars` in the expressions that read them (Ansible's page on variables).
 use Rattle.std.specs.Prelude.{ℕ, zero, suc, max, cond, Option, Some, None, option_map}
 use Rattle.std.specs.Str.{bytes_eq}
-use Rattle.pb_language.specs.Expression.{Name, Expression, literal, path, hostvars_alone, negation, conjunction, disjunction, comparison, membership, in_batch, defined, undefinable, path_status, value_status, path_or, value_or, length_of, joined_by, concatenation, list_of, record_of, Root, variable, alias, other, member, Expressions, no_expressions, expression, Parts, no_parts, part}
+use Rattle.pb_language.specs.Expression.{Name, Expression, literal, path, hostvars_alone, negation}
+use Rattle.pb_language.specs.Expression.{conjunction, disjunction, comparison, membership, in_batch}
+use Rattle.pb_language.specs.Expression.{defined, undefinable, path_status, value_status, path_or}
+use Rattle.pb_language.specs.Expression.{value_or, length_of, joined_by, concatenation, list_of}
+use Rattle.pb_language.specs.Expression.{record_of, Root, variable, alias, other, member}
+use Rattle.pb_language.specs.Expression.{Expressions, no_expressions, expression, Parts, no_parts}
+use Rattle.pb_language.specs.Expression.{part}
 
 -- the value of a name, the innermost first
 abbrev pub part_named : Name → Parts → Option Expression

@@ -55,7 +55,8 @@ mutual
     list_of : Expressions → Expression
     record_of : Parts → Expression
 
-  -- a variable of the host, a value of `vars` with its tree, a variable of another host, the name of a host of a group
+  -- a variable of the host, a value of `vars` with its tree, a variable of another host, the name
+  -- of a host of a group
   pub data Root : Type 0 where
     variable : Name → Root
     alias : Name → Expression → Root

@@ -1,11 +1,22 @@
 -- Which expressions have a value in every world that the scope describes (this project's own).
-use Rattle.std.specs.Prelude.{List, [], ◌∷◌, Bool, true, false, not, ◌&&◌, ◌||◌, Option, Some, None, is_some, codes}
-use Rattle.pb_semantics.specs.Kind.{KindData, Spot, never, booleans, ints, texts, hosts, lists, recs, results, nowhere, spot, slot_at}
+use Rattle.std.specs.Prelude.{List, [], ◌∷◌, Bool, true, false, not, ◌&&◌, ◌||◌, Option, Some, None}
+use Rattle.std.specs.Prelude.{is_some, codes}
+use Rattle.pb_semantics.specs.Kind.{KindData, Spot, never, booleans, ints, texts, hosts, lists}
+use Rattle.pb_semantics.specs.Kind.{recs, results, nowhere, spot, slot_at}
 use Rattle.pb_semantics.specs.Fit.{holds_any}
 pub use Rattle.pb_semantics.specs.Fit.{is_any, is_boolean}
-use Rattle.pb_language.specs.Expression.{Name, Comparison, equal, less, at_most, more, at_least, Term, named_host, this_host, item_host, group_member, Expression, literal, path, hostvars_alone, negation, conjunction, disjunction, comparison, membership, in_batch, defined, undefinable, path_status, value_status, path_or, value_or, length_of, joined_by, concatenation, list_of, record_of, Root, variable, alias, other, member, Expressions, no_expressions, expression, Parts, no_parts, part}
+use Rattle.pb_language.specs.Expression.{Name, Comparison, equal, less, at_most, more, at_least}
+use Rattle.pb_language.specs.Expression.{Term, named_host, this_host, item_host, group_member}
+use Rattle.pb_language.specs.Expression.{Expression, literal, path, hostvars_alone, negation}
+use Rattle.pb_language.specs.Expression.{conjunction, disjunction, comparison, membership, in_batch}
+use Rattle.pb_language.specs.Expression.{defined, undefinable, path_status, value_status, path_or}
+use Rattle.pb_language.specs.Expression.{value_or, length_of, joined_by, concatenation, list_of}
+use Rattle.pb_language.specs.Expression.{record_of, Root, variable, alias, other, member}
+use Rattle.pb_language.specs.Expression.{Expressions, no_expressions, expression, Parts, no_parts}
+use Rattle.pb_language.specs.Expression.{part}
 use Rattle.pb_language.specs.World.{member_of}
-use Rattle.pb_language.specs.Scope.{Scope, Hosts, these, any_host, no_hosts, nobody, is_present, spot_kind, is_certain, hosts_of, other_spot}
+use Rattle.pb_language.specs.Scope.{Scope, Hosts, these, any_host, no_hosts, nobody, is_present}
+use Rattle.pb_language.specs.Scope.{spot_kind, is_certain, hosts_of, other_spot}
 use Rattle.pb_language.specs.Kinds.{kind_of, root_spot, path_spot}
 use Rattle.pb_language.specs.Narrow.{narrow}
 
@@ -88,7 +99,8 @@ may_be_flag (spot a k) = is_boolean k
 
 abbrev pub is_status_record : KindData → Bool
 is_status_record never = true
-is_status_record (recs ss) = is_flag (slot_at (codes "changed") ss) && (is_flag (slot_at (codes "failed") ss) && may_be_flag (slot_at (codes "skipped") ss))
+is_status_record (recs ss) = is_flag (slot_at (codes "changed") ss)
+    && (is_flag (slot_at (codes "failed") ss) && may_be_flag (slot_at (codes "skipped") ss))
 is_status_record k = false
 
 -- a result, or a record that can be asked like one
@@ -127,7 +139,8 @@ term_fault c (group_member g n) = asks unknown_name (is_some (member_of g n c.gr
 abbrev pub active_fault : Scope → Term → Option Fault
 active_fault c (named_host n) = None
 active_fault c this_host = None
-active_fault c item_host = asks wrong_kind (not (holds_any (spot_kind (slot_at (codes "item") c.own))))
+active_fault c item_host =
+    asks wrong_kind (not (holds_any (spot_kind (slot_at (codes "item") c.own))))
 active_fault c (group_member g n) = None
 
 -- nothing is asked of what a test showed to be there, but what is asked under the test
@@ -138,22 +151,33 @@ path_fault false tested root steps = first root steps
 abbrev mutual
   pub fault : Scope → Expression → Option Fault
   fault c (literal d) = None
-  fault c (path r ns) = path_fault (is_present c r ns) (tested_fault c r) (read_fault c r) (steps_fault ns (spot_kind (root_spot c r)))
+  fault c (path r ns) = path_fault (is_present c r ns) (tested_fault c r) (read_fault c r)
+      (steps_fault ns (spot_kind (root_spot c r)))
   fault c (hostvars_alone o) = Some wrong_kind
   fault c (negation e) = first (fault c e) (asks wrong_kind (is_boolean (kind_of c e)))
-  fault c (conjunction es) = first (chain_fault c es true) (asks wrong_kind (are_booleans c es true))
-  fault c (disjunction es) = first (chain_fault c es false) (asks wrong_kind (are_booleans c es false))
-  fault c (comparison x a b) = first (fault c a) (first (fault c b) (asks wrong_kind (can_compare x (kind_of c a) (kind_of c b))))
-  fault c (membership a b) = first (fault c a) (first (fault c b) (asks wrong_kind (can_find (kind_of c a) (kind_of c b))))
+  fault c (conjunction es) =
+      first (chain_fault c es true) (asks wrong_kind (are_booleans c es true))
+  fault c (disjunction es) =
+      first (chain_fault c es false) (asks wrong_kind (are_booleans c es false))
+  fault c (comparison x a b) = first (fault c a)
+      (first (fault c b) (asks wrong_kind (can_compare x (kind_of c a) (kind_of c b))))
+  fault c (membership a b) =
+      first (fault c a) (first (fault c b) (asks wrong_kind (can_find (kind_of c a) (kind_of c b))))
   fault c (in_batch t) = first (term_fault c t) (active_fault c t)
   fault c (defined r ns) = tested_fault c r
   fault c (undefinable e) = first (fault c e) (Some wrong_kind)
-  fault c (path_status s r ns) = first (path_fault (is_present c r ns) (tested_fault c r) (read_fault c r) (steps_fault ns (spot_kind (root_spot c r)))) (asks wrong_kind (is_result (spot_kind (path_spot ns (root_spot c r)))))
+  fault c (path_status s r ns) = first
+      (path_fault (is_present c r ns) (tested_fault c r) (read_fault c r)
+      (steps_fault ns (spot_kind (root_spot c r))))
+      (asks wrong_kind (is_result (spot_kind (path_spot ns (root_spot c r)))))
   fault c (value_status s e) = first (fault c e) (asks wrong_kind (is_result (kind_of c e)))
-  fault c (path_or r ns e) = first (tested_fault c r) (first (fault c e) (asks wrong_kind (not (is_any (kind_of c e)))))
-  fault c (value_or a e) = first (fault c a) (first (fault c e) (asks wrong_kind (not (is_any (kind_of c a) || is_any (kind_of c e)))))
+  fault c (path_or r ns e) =
+      first (tested_fault c r) (first (fault c e) (asks wrong_kind (not (is_any (kind_of c e)))))
+  fault c (value_or a e) = first (fault c a)
+      (first (fault c e) (asks wrong_kind (not (is_any (kind_of c a) || is_any (kind_of c e)))))
   fault c (length_of e) = first (fault c e) (asks wrong_kind (has_length (kind_of c e)))
-  fault c (joined_by e s) = first (fault c e) (first (fault c s) (asks wrong_kind (is_plain_list (kind_of c e) && is_text (kind_of c s))))
+  fault c (joined_by e s) = first (fault c e)
+      (first (fault c s) (asks wrong_kind (is_plain_list (kind_of c e) && is_text (kind_of c s))))
   fault c (concatenation es) = first (parts_fault c es) (asks wrong_kind (are_plain c es))
   fault c (list_of es) = items_fault c es
   fault c (record_of ps) = fields_fault c ps
@@ -162,7 +186,9 @@ abbrev mutual
   pub read_fault : Scope → Root → Option Fault
   read_fault c (variable n) = asks perhaps_undefined (is_certain (slot_at n c.own))
   read_fault c (alias n e) = first (fault c e) (asks wrong_kind (not (is_any (kind_of c e))))
-  read_fault c (other t x) = first (term_fault c t) (first (hosts_fault (hosts_of c t)) (asks perhaps_undefined_there (is_certain (other_spot c t x))))
+  read_fault c (other t x) = first (term_fault c t)
+      (first (hosts_fault (hosts_of c t))
+      (asks perhaps_undefined_there (is_certain (other_spot c t x))))
   read_fault c (member g n) = asks unknown_name (is_some (member_of g n c.groups))
 
   -- a value that is tested: a value of `vars` is asked for all the same
@@ -191,8 +217,10 @@ abbrev mutual
 
   pub items_fault : Scope → Expressions → Option Fault
   items_fault c no_expressions = None
-  items_fault c (expression e es) = first (first (fault c e) (asks wrong_kind (not (is_any (kind_of c e))))) (items_fault c es)
+  items_fault c (expression e es) =
+      first (first (fault c e) (asks wrong_kind (not (is_any (kind_of c e))))) (items_fault c es)
 
   pub fields_fault : Scope → Parts → Option Fault
   fields_fault c no_parts = None
-  fields_fault c (part n e ps) = first (first (fault c e) (asks wrong_kind (not (is_any (kind_of c e))))) (fields_fault c ps)
+  fields_fault c (part n e ps) =
+      first (first (fault c e) (asks wrong_kind (not (is_any (kind_of c e))))) (fields_fault c ps)

@@ -1,7 +1,11 @@
--- What is made of the answers to a task's calls (Ansible's pages on return values and on error handling; admission is this project's own).
-use Rattle.std.specs.Prelude.{ℕ, List, [], ◌∷◌, Bool, true, false, not, ◌&&◌, ◌||◌, cond, Option, Some, None, codes}
-use Rattle.pb_semantics.specs.Data.{Data, Items, Fields, boolean, text, list, rec, no_items, item, no_fields, field, field_value, put_field}
-use Rattle.pb_semantics.specs.Kind.{Slots, Spot, recs, no_slots, slot, spot, slot_at, Shape, ok_shape, failure_shape, skipped_shape, is_skipped}
+-- What is made of the answers to a task's calls (Ansible's pages on return values and on error
+-- handling; admission is this project's own).
+use Rattle.std.specs.Prelude.{ℕ, List, [], ◌∷◌, Bool, true, false, not, ◌&&◌, ◌||◌, cond, Option}
+use Rattle.std.specs.Prelude.{Some, None, codes}
+use Rattle.pb_semantics.specs.Data.{Data, Items, Fields, boolean, text, list, rec, no_items, item}
+use Rattle.pb_semantics.specs.Data.{no_fields, field, field_value, put_field}
+use Rattle.pb_semantics.specs.Kind.{Slots, Spot, recs, no_slots, slot, spot, slot_at, Shape}
+use Rattle.pb_semantics.specs.Kind.{ok_shape, failure_shape, skipped_shape, is_skipped}
 use Rattle.pb_semantics.specs.Keeps.{flag_is}
 use Rattle.pb_semantics.specs.Admission.{AdmissionData, taken, failed, admission}
 use Rattle.pb_semantics.specs.Signature.{ModuleData}
@@ -42,7 +46,8 @@ stripped_with o p fs = fs
 -- the facts that the shape names, by their names without the prefix
 abbrev pub stripped : Slots → Fields → Fields
 stripped no_slots fs = no_fields
-stripped (slot n a k ss) fs = stripped_with (after_prefix fact_prefix n) (field_value n fs) (stripped ss fs)
+stripped (slot n a k ss) fs =
+    stripped_with (after_prefix fact_prefix n) (field_value n fs) (stripped ss fs)
 
 -- the facts that the shape names; one that the answer doesn't have stays as it was
 abbrev pub facts_changed : Slots → Fields → Changes
@@ -50,27 +55,37 @@ facts_changed no_slots fs = no_changes
 facts_changed (slot n a k ss) fs = change n (field_value n fs) (facts_changed ss fs)
 
 abbrev pub facts_of : Spot → Option Data → Changes
-facts_of (spot a (recs ss)) (Some (rec fs)) = change (codes "ansible_facts") (Some (rec (stripped ss fs))) (facts_changed ss fs)
+facts_of (spot a (recs ss)) (Some (rec fs)) =
+    change (codes "ansible_facts") (Some (rec (stripped ss fs))) (facts_changed ss fs)
 facts_of s o = no_changes
 
 -- what an ok answer of `setup` sets
 abbrev pub set_by_answer : ModuleData → Fields → Changes
-set_by_answer m fs = cond (is_setup m) (facts_of (slot_at (codes "ansible_facts") (shape_slots m.ok)) (field_value (codes "ansible_facts") fs)) no_changes
+set_by_answer m fs = cond (is_setup m)
+    (facts_of (slot_at (codes "ansible_facts") (shape_slots m.ok))
+    (field_value (codes "ansible_facts") fs)) no_changes
 
 abbrev pub own_of : Option Data → ModuleData → AdmissionData → (Own → Admitted) → Admitted
-own_of o m (taken (rec fs)) go = go (record { item = o; shape = ok_shape; fields = fs; sets = set_by_answer m fs })
-own_of o m (failed (rec fs)) go = go (record { item = o; shape = failure_shape; fields = fs; sets = no_changes })
+own_of o m (taken (rec fs)) go =
+    go (record { item = o; shape = ok_shape; fields = fs; sets = set_by_answer m fs })
+own_of o m (failed (rec fs)) go =
+    go (record { item = o; shape = failure_shape; fields = fs; sets = no_changes })
 own_of o m a go = breached
 
 -- the first breach or unreachable answer decides; a missing answer is a breach
-abbrev pub admit_answer : Option Data → Action → List Answer → (Own → List Answer → Admitted) → Admitted
+abbrev pub admit_answer : Option Data → Action → List Answer → (Own → List Answer → Admitted)
+    → Admitted
 admit_answer o a [] go = breached
-admit_answer o (call_of m ps) (object d ∷ xs) go = own_of o m (admission m.ok m.failure d) (λ own. go own xs)
+admit_answer o (call_of m ps) (object d ∷ xs) go =
+    own_of o m (admission m.ok m.failure d) (λ own. go own xs)
 admit_answer o a (unreachable ∷ xs) go = unreached
 admit_answer o a (x ∷ xs) go = breached
 
 abbrev pub skip_fields : Fields
-skip_fields = field (codes "changed") (boolean false) (field (codes "failed") (boolean false) (field (codes "skip_reason") (text (codes "Conditional result was False")) (field (codes "skipped") (boolean true) no_fields)))
+skip_fields = field (codes "changed") (boolean false)
+    (field (codes "failed") (boolean false)
+    (field (codes "skip_reason") (text (codes "Conditional result was False"))
+    (field (codes "skipped") (boolean true) no_fields)))
 
 abbrev pub is_failure : Shape → Bool
 is_failure ok_shape = false
@@ -78,12 +93,19 @@ is_failure failure_shape = true
 is_failure skipped_shape = false
 
 abbrev pub acted : Option Data → Shape → Fields → Changes → Own
-acted o sh fs gs = record { item = o; shape = sh; fields = put_field (codes "failed") (boolean (is_failure sh)) fs; sets = gs }
+acted o sh fs gs = record {
+  item = o;
+  shape = sh;
+  fields = put_field (codes "failed")
+      (boolean (is_failure sh)) fs;
+  sets = gs;
+}
 
 abbrev pub skipped_own : Option Data → Own
 skipped_own o = record { item = o; shape = skipped_shape; fields = skip_fields; sets = no_changes }
 
-abbrev pub admit_entry : Action → Option Data → Entry → (List Answer → Admitted) → List Answer → Admitted
+abbrev pub admit_entry : Action → Option Data → Entry → (List Answer → Admitted) → List Answer
+    → Admitted
 admit_entry a o skips go xs = with_own (skipped_own o) (go xs)
 admit_entry a o (acts sh fs gs) go xs = with_own (acted o sh fs gs) (go xs)
 admit_entry a o (calls d) go xs = admit_answer o a xs (λ own ys. with_own own (go ys))
@@ -108,7 +130,8 @@ pub data Results : Type 0 where
 abbrev pub ended_with : Own → Bool → Bool → Ended
 ended_with o c f = record {
   shape = o.shape;
-  fields = put_field (codes "failed") (boolean f) (put_field (codes "changed") (boolean c) o.fields);
+  fields =
+      put_field (codes "failed") (boolean f) (put_field (codes "changed") (boolean c) o.fields);
   sets = o.sets;
   changed = c;
   failed = f;
@@ -124,7 +147,8 @@ with_own_field None d fs = fs
 with_own_field (Some n) d fs = field n d fs
 
 abbrev pub own_world : World → Task → Own → World
-own_world w t o = record w { mine = with_own_field t.register (rec o.fields) (with_local (codes "item") o.item w.mine) }
+own_world w t o = record w
+    { mine = with_own_field t.register (rec o.fields) (with_local (codes "item") o.item w.mine) }
 
 abbrev pub with_status : Outcome → (Bool → Results) → Results
 with_status (value (boolean b)) go = go b
@@ -139,8 +163,10 @@ with_ended e (no_results s) = no_results s
 abbrev pub end_own : World → Task → Own → Results → Results
 end_own w t o rs =
     cond (is_skipped o.shape) (with_ended (ended_with o false false) rs)
-    (with_status (keyword_of (own_world w t o) t.changed_when (flag_is true (field_value (codes "changed") o.fields))) (λ c.
-    with_status (keyword_of (own_world w t o) t.failed_when (flag_is true (field_value (codes "failed") o.fields))) (λ f.
+    (with_status (keyword_of (own_world w t o) t.changed_when
+    (flag_is true (field_value (codes "changed") o.fields))) (λ c.
+    with_status (keyword_of (own_world w t o) t.failed_when
+    (flag_is true (field_value (codes "failed") o.fields))) (λ f.
     with_ended (ended_with o c f) rs)))
 
 abbrev pub end_all : World → Task → List Own → Results
@@ -208,4 +234,6 @@ register_field (Some n) d vars = put_field n d vars
 -- the result is registered; what is set is set where the task isn't failed, or is ignored
 abbrev pub written_variables : Task → List Ended → Fields → Fields
 written_variables t es vars =
-    cond (any_failed es && not t.ignores) (register_field t.register (rec (registered_fields t.loop es)) vars) (with_all_sets es (register_field t.register (rec (registered_fields t.loop es)) vars))
+    cond (any_failed es && not t.ignores)
+    (register_field t.register (rec (registered_fields t.loop es)) vars)
+    (with_all_sets es (register_field t.register (rec (registered_fields t.loop es)) vars))

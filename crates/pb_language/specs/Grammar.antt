@@ -1,11 +1,19 @@
--- The trees of texts (Ansible's pages on templating): expressions without tests, filters, orders, lists and steps in brackets, and templates that are one expression.
-use Rattle.std.specs.Prelude.{ℕ, zero, suc, List, [], ◌∷◌, Bool, false, ◌&&◌, ◌||◌, ◌==◌, cond, Option, Some, None, take, drop, codes}
+-- The trees of texts (Ansible's pages on templating): expressions without tests, filters, orders,
+-- lists and steps in brackets, and templates that are one expression.
+use Rattle.std.specs.Prelude.{ℕ, zero, suc, List, [], ◌∷◌, Bool, false, ◌&&◌, ◌||◌, ◌==◌, cond}
+use Rattle.std.specs.Prelude.{Option, Some, None, take, drop, codes}
 use Rattle.std.specs.Str.{is_utf8, bytes_eq}
 use Rattle.pb_semantics.specs.Data.{boolean, int, text}
 use Rattle.pb_semantics.specs.Keeps.{is_among}
-use Rattle.pb_language.specs.Expression.{Name, equal, Expression, literal, path, negation, conjunction, disjunction, comparison, membership, variable, Expressions, no_expressions, expression}
+use Rattle.pb_semantics.specs.Limits.{most_nesting, most_path_steps}
+use Rattle.pb_language.specs.Expression.{Name, equal, Expression, literal, path, negation}
+use Rattle.pb_language.specs.Expression.{conjunction, disjunction, comparison, membership, variable}
+use Rattle.pb_language.specs.Expression.{Expressions, no_expressions, expression}
 use Rattle.pb_language.specs.Simple.{shared_names}
-use Rattle.pb_language.specs.Tokens.{Word, and_word, or_word, not_word, in_word, is_word, truth_word, opening, closing, dot, equals, differs, order, bar, bracket, Token, name, word, number, quoted, sign, Tokens, finish, unreadable, token, is_quote, tokens_of}
+use Rattle.pb_language.specs.Tokens.{Word, and_word, or_word, not_word, in_word, is_word}
+use Rattle.pb_language.specs.Tokens.{truth_word, opening, closing, dot, equals, differs, order, bar}
+use Rattle.pb_language.specs.Tokens.{bracket, Token, name, word, number, quoted, sign, Tokens}
+use Rattle.pb_language.specs.Tokens.{finish, unreadable, token, is_quote, tokens_of}
 
 -- what tokens begin with, and the tokens behind it
 pub data Reading (T : Type 0) : Type 0 where
@@ -39,7 +47,8 @@ abbrev pub step_then : Option Name → Option (Reading (List Name)) → Option (
 step_then None r = None
 step_then (Some n) r = with_step n r
 
-abbrev pub behind_dot : (Tokens → Option (Reading (List Name))) → Tokens → Option (Reading (List Name))
+abbrev pub behind_dot : (Tokens → Option (Reading (List Name))) → Tokens
+    → Option (Reading (List Name))
 behind_dot steps finish = None
 behind_dot steps unreadable = None
 behind_dot steps (token t ts) = step_then (letters_of t) (steps ts)
@@ -56,7 +65,7 @@ as_path n (Some (reading ns (token (sign bracket) ts))) = None
 as_path n (Some (reading ns ts)) = Some (reading (path (variable n) ns) ts)
 
 abbrev pub path_of : Name → Reader
-path_of n ts = cond (is_among n shared_names) None (as_path n (steps_of 16 ts))
+path_of n ts = cond (is_among n shared_names) None (as_path n (steps_of most_path_steps ts))
 
 -- operand := number | text | truth value | path | "(" or ")", and no filter behind it
 abbrev pub closed : Option (Reading Expression) → Option (Reading Expression)
@@ -88,15 +97,18 @@ abbrev pub operand_of : Deeper → Reader
 operand_of d ts = unfiltered (operand_at d ts)
 
 -- relation := operand [("==" | "!=" | "in" | "not" "in") operand]
-abbrev pub with_tree : (Expression → Expression) → Option (Reading Expression) → Option (Reading Expression)
+abbrev pub with_tree : (Expression → Expression) → Option (Reading Expression)
+    → Option (Reading Expression)
 with_tree f None = None
 with_tree f (Some (reading e ts)) = Some (reading (f e) ts)
 
 abbrev pub related : Expression → Tokens → Reader → Option (Reading Expression)
 related a (token (sign equals) ts) operand = with_tree (λ b. comparison equal a b) (operand ts)
-related a (token (sign differs) ts) operand = with_tree (λ b. negation (comparison equal a b)) (operand ts)
+related a (token (sign differs) ts) operand =
+    with_tree (λ b. negation (comparison equal a b)) (operand ts)
 related a (token (word in_word n) ts) operand = with_tree (λ b. membership a b) (operand ts)
-related a (token (word not_word n) (token (word in_word m) ts)) operand = with_tree (λ b. negation (membership a b)) (operand ts)
+related a (token (word not_word n) (token (word in_word m) ts)) operand =
+    with_tree (λ b. negation (membership a b)) (operand ts)
 related a (token (word not_word n) ts) operand = None
 related a (token (sign order) ts) operand = None
 related a (token (word is_word n) ts) operand = None
@@ -124,11 +136,13 @@ abbrev pub with_first : Expression → Option (Reading Expressions) → Option (
 with_first e None = None
 with_first e (Some (reading es ts)) = Some (reading (expression e es) ts)
 
-abbrev pub chain_on : Expression → Tokens → Option Tokens → (Tokens → Option (Reading Expressions)) → Option (Reading Expressions)
+abbrev pub chain_on : Expression → Tokens → Option Tokens → (Tokens → Option (Reading Expressions))
+    → Option (Reading Expressions)
 chain_on e ts None more = Some (reading (expression e no_expressions) ts)
 chain_on e ts (Some us) more = with_first e (more us)
 
-abbrev pub chain_from : Word → Option (Reading Expression) → (Tokens → Option (Reading Expressions)) → Option (Reading Expressions)
+abbrev pub chain_from : Word → Option (Reading Expression) → (Tokens → Option (Reading Expressions))
+    → Option (Reading Expressions)
 chain_from w None more = None
 chain_from w (Some (reading e ts)) more = chain_on e ts (behind_word w ts) more
 
@@ -141,7 +155,8 @@ abbrev pub joined : (Expressions → Expression) → Expressions → Expression
 joined make (expression e no_expressions) = e
 joined make es = make es
 
-abbrev pub as_chain : (Expressions → Expression) → Option (Reading Expressions) → Option (Reading Expression)
+abbrev pub as_chain : (Expressions → Expression) → Option (Reading Expressions)
+    → Option (Reading Expression)
 as_chain make None = None
 as_chain make (Some (reading es ts)) = Some (reading (joined make es) ts)
 
@@ -168,7 +183,7 @@ all_of r = None
 
 -- the tree of an expression's text, if it has one
 abbrev pub expression_of : List ℕ → Option Expression
-expression_of bs = all_of (disjunction_of (deeper 32) (tokens_of bs))
+expression_of bs = all_of (disjunction_of (deeper most_nesting) (tokens_of bs))
 
 -- `{{`, `{%` or `{#` stands in the text
 abbrev pub is_mark : ℕ → Bool
@@ -197,9 +212,11 @@ ends_here b (c ∷ bs) = (b == 125) && (c == 125)
 -- inside a text in that quote, or in none
 abbrev pub cut_in : Option ℕ → List ℕ → Option Cut
 cut_in q [] = None
-cut_in None (b ∷ bs) = cond (ends_here b bs) (Some (cut [] (drop 1 bs))) (with_byte b (cut_in (cond (is_quote b) (Some b) None) bs))
+cut_in None (b ∷ bs) = cond (ends_here b bs) (Some (cut [] (drop 1 bs)))
+    (with_byte b (cut_in (cond (is_quote b) (Some b) None) bs))
 cut_in (Some q) (b ∷ []) = None
-cut_in (Some q) (b ∷ c ∷ bs) = cond (b == 92) (with_byte b (with_byte c (cut_in (Some q) bs))) (with_byte b (cut_in (cond (b == q) None (Some q)) (c ∷ bs)))
+cut_in (Some q) (b ∷ c ∷ bs) = cond (b == 92) (with_byte b (with_byte c (cut_in (Some q) bs)))
+    (with_byte b (cut_in (cond (b == q) None (Some q)) (c ∷ bs)))
 
 abbrev pub template_in : Option Cut → Option Expression
 template_in (Some (cut bs [])) = expression_of bs

@@ -7,4 +7,5 @@ use Rattle.pb_language.specs.Verdict.{Verdict, flow_verdict, offence_verdict}
 
 -- first the rules that need no flow, then what the ways of each host show
 abbrev pub judged : Registry → Inventory → Book → Verdict
-judged ms inventory b = offence_verdict (rules_offence ms inventory b) (flow_verdict (program_of ms inventory b) inventory)
+judged ms inventory b = offence_verdict (rules_offence ms inventory b)
+    (flow_verdict (program_of ms inventory b) inventory)

@@ -1,24 +1,31 @@
 -- What is asked of a task in an environment (this project's own).
-use Rattle.std.specs.Prelude.{ℕ, List, [], ◌∷◌, Bool, true, false, not, ◌&&◌, cond, Option, Some, None}
+use Rattle.std.specs.Prelude.{ℕ, List, [], ◌∷◌, Bool, true, false, not, ◌&&◌, cond, Option, Some}
+use Rattle.std.specs.Prelude.{None}
 use Rattle.std.specs.Str.{bytes_eq}
 use Rattle.pb_semantics.specs.Kind.{KindData, Slots, Cases, never, no_cases}
 use Rattle.pb_semantics.specs.Kind.{one as a_case}
 use Rattle.pb_semantics.specs.Below.{below}
 use Rattle.pb_semantics.specs.Signature.{ParameterData, ModuleData}
-use Rattle.pb_language.specs.Expression.{Name, Expression, Expressions, no_expressions, expression, Parts, no_parts, part}
+use Rattle.pb_language.specs.Expression.{Name, Expression, Expressions, no_expressions, expression}
+use Rattle.pb_language.specs.Expression.{Parts, no_parts, part}
 use Rattle.pb_language.specs.Scope.{Scope}
 use Rattle.pb_language.specs.Kinds.{kind_of}
 use Rattle.pb_language.specs.Narrow.{narrow}
-use Rattle.pb_language.specs.Fit.{Fault, wrong_kind, unknown_handler, malformed, first, asks, is_any, is_boolean, is_text, is_list, fault, fields_fault}
+use Rattle.pb_language.specs.Fit.{Fault, wrong_kind, unknown_handler, malformed, first, asks}
+use Rattle.pb_language.specs.Fit.{is_any, is_boolean, is_text, is_list, fault, fields_fault}
 use Rattle.pb_language.specs.Notify.{all_notified, names_something}
 use Rattle.pb_language.specs.Task.{Action, call_of, debug, set_fact, assertion, failure_of, Task}
-use Rattle.pb_language.specs.Cases.{Sets, no_sets, sets, append_sets, action_sets, going_cases, failing_cases, registered_kind, with_register, with_sets, length_bound, is_lawful_shape}
-use Rattle.pb_language.specs.Setting.{Setting, start_scope, loop_kind, item_scope, action_scope, give_scope}
+use Rattle.pb_language.specs.Cases.{Sets, no_sets, sets, append_sets, action_sets, going_cases}
+use Rattle.pb_language.specs.Cases.{failing_cases, registered_kind, with_register, with_sets}
+use Rattle.pb_language.specs.Cases.{length_bound, is_lawful_shape}
+use Rattle.pb_language.specs.Setting.{Setting, start_scope, loop_kind, item_scope, action_scope}
+use Rattle.pb_language.specs.Setting.{give_scope}
 
 -- each condition where those before it hold
 abbrev pub conditions_fault : Scope → Expressions → Option Fault
 conditions_fault c no_expressions = None
-conditions_fault c (expression e es) = first (fault c e) (first (asks wrong_kind (is_boolean (kind_of c e))) (conditions_fault (narrow c e true) es))
+conditions_fault c (expression e es) = first (fault c e)
+    (first (asks wrong_kind (is_boolean (kind_of c e))) (conditions_fault (narrow c e true) es))
 
 abbrev pub keyword_fault : Scope → Option Expressions → Option Fault
 keyword_fault c None = None
@@ -35,7 +42,10 @@ parameter_kind n (p ∷ ps) = cond (bytes_eq n p.name) p.kind (parameter_kind n 
 -- each argument keeps its parameter's kind
 abbrev pub arguments_fault : Scope → List ParameterData → Parts → Option Fault
 arguments_fault c ps no_parts = None
-arguments_fault c ps (part n e qs) = first (first (fault c e) (asks wrong_kind (not (is_any (kind_of c e)) && below (kind_of c e) (parameter_kind n ps)))) (arguments_fault c ps qs)
+arguments_fault c ps (part n e qs) = first
+    (first (fault c e) (asks wrong_kind
+    (not (is_any (kind_of c e)) && below (kind_of c e) (parameter_kind n ps))))
+    (arguments_fault c ps qs)
 
 abbrev pub text_fault : Scope → Option Expression → Option Fault
 text_fault c None = None
@@ -53,7 +63,8 @@ action_fault c (set_fact ps) = fields_fault c ps
 action_fault c (assertion es o) = first (text_fault c o) (conditions_fault c es)
 action_fault c (failure_of o) = text_fault c o
 
--- the loop, the conditions, the arguments, `changed_when`, `failed_when`; then the texts that are notified
+-- the loop, the conditions, the arguments, `changed_when`, `failed_when`; then the texts that are
+-- notified
 abbrev pub task_fault : Setting → Task → Slots → Option Fault
 task_fault st t env =
     first (loop_fault (start_scope st t env) t.loop)
@@ -84,7 +95,8 @@ task_sets st t env = action_sets (action_scope st t env) t t.action
 
 -- the environments after a task: where it goes on, and where it fails
 abbrev pub going_slots : Setting → Task → Slots → Slots
-going_slots st t env = with_sets (task_sets st t env) (with_register t.register (task_kind st t env (going_cases t)) env)
+going_slots st t env = with_sets (task_sets st t env)
+    (with_register t.register (task_kind st t env (going_cases t)) env)
 
 abbrev pub failing_slots : Setting → Task → Slots → Slots
 failing_slots st t env = with_register t.register (task_kind st t env (failing_cases t)) env
@@ -107,8 +119,10 @@ register_writes (Some n) b k = cond b (sets n true k no_sets) no_sets
 -- everything that the task may write, with its kind
 abbrev pub task_writes : Setting → Task → Slots → Sets
 task_writes st t env =
-    append_sets (register_writes t.register (has_going t t.loop) (task_kind st t env (going_cases t)))
-    (append_sets (register_writes t.register (has_case (failing_cases t)) (task_kind st t env (failing_cases t))) (task_sets st t env))
+    append_sets (register_writes t.register (has_going t t.loop)
+    (task_kind st t env (going_cases t)))
+    (append_sets (register_writes t.register (has_case (failing_cases t))
+    (task_kind st t env (failing_cases t))) (task_sets st t env))
 
 -- the greatest number of items
 abbrev pub loop_length : Setting → Task → Slots → Option Expression → ℕ

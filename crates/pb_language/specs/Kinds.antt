@@ -1,11 +1,22 @@
 -- The kind of an expression in a scope, fit or not (this project's own).
-use Rattle.std.specs.Prelude.{ℕ, suc, List, [], ◌∷◌, Bool, true, false, Option, Some, None, unwrap_or}
-use Rattle.pb_semantics.specs.Data.{Data, Items, Fields, null, boolean, int, text, list, rec, opaque, no_items, item, no_fields, field, count_of}
-use Rattle.pb_semantics.specs.Kind.{KindData, Slots, Spot, never, nulls, booleans, ints, texts, hosts, lists, recs, results, anything, no_slots, nowhere, spot, slot_at}
+use Rattle.std.specs.Prelude.{ℕ, suc, List, [], ◌∷◌, Bool, true, false, Option, Some, None}
+use Rattle.std.specs.Prelude.{unwrap_or}
+use Rattle.pb_semantics.specs.Data.{Data, Items, Fields, null, boolean, int, text, list, rec}
+use Rattle.pb_semantics.specs.Data.{opaque, no_items, item, no_fields, field, count_of}
+use Rattle.pb_semantics.specs.Kind.{KindData, Slots, Spot, never, nulls, booleans, ints, texts}
+use Rattle.pb_semantics.specs.Kind.{hosts, lists, recs, results, anything, no_slots, nowhere, spot}
+use Rattle.pb_semantics.specs.Kind.{slot_at}
 use Rattle.pb_semantics.specs.Join.{join}
-use Rattle.pb_language.specs.Expression.{Name, Expression, literal, path, hostvars_alone, negation, conjunction, disjunction, comparison, membership, in_batch, defined, undefinable, path_status, value_status, path_or, value_or, length_of, joined_by, concatenation, list_of, record_of, Root, variable, alias, other, member, Expressions, no_expressions, expression, Parts, no_parts, part}
+use Rattle.pb_language.specs.Expression.{Name, Expression, literal, path, hostvars_alone, negation}
+use Rattle.pb_language.specs.Expression.{conjunction, disjunction, comparison, membership, in_batch}
+use Rattle.pb_language.specs.Expression.{defined, undefinable, path_status, value_status, path_or}
+use Rattle.pb_language.specs.Expression.{value_or, length_of, joined_by, concatenation, list_of}
+use Rattle.pb_language.specs.Expression.{record_of, Root, variable, alias, other, member}
+use Rattle.pb_language.specs.Expression.{Expressions, no_expressions, expression, Parts, no_parts}
+use Rattle.pb_language.specs.Expression.{part}
 use Rattle.pb_language.specs.World.{member_of}
-use Rattle.pb_language.specs.Scope.{Scope, learned_kind, is_present, spot_kind, sure, with_slot, below_spot, other_spot}
+use Rattle.pb_language.specs.Scope.{Scope, learned_kind, is_present, spot_kind, sure, with_slot}
+use Rattle.pb_language.specs.Scope.{below_spot, other_spot}
 
 -- the kind of a value that is known
 abbrev mutual
@@ -75,7 +86,8 @@ abbrev mutual
   kind_of c (undefinable e) = booleans
   kind_of c (path_status s r ns) = booleans
   kind_of c (value_status s e) = booleans
-  kind_of c (path_or r ns e) = default_kind (shown_spot (is_present c r ns) (path_spot ns (root_spot c r))) (kind_of c e)
+  kind_of c (path_or r ns e) =
+      default_kind (shown_spot (is_present c r ns) (path_spot ns (root_spot c r))) (kind_of c e)
   kind_of c (value_or a e) = kind_of c a
   kind_of c (length_of e) = ints
   kind_of c (joined_by e s) = texts

@@ -1,5 +1,7 @@
 -- A run as a machine over events (Ansible's page on strategies).
-use Rattle.std.specs.Prelude.{ℕ, zero, suc, ◌+◌, ◌-◌, List, [], ◌∷◌, ◌++◌, Bool, true, false, not, ◌&&◌, ◌||◌, nat_le, nat_lt, nat_eq, cond, Option, Some, None, length, drop}
+use Rattle.std.specs.Prelude.{ℕ, zero, suc, ◌+◌, ◌-◌, List, [], ◌∷◌, ◌++◌, Bool, true, false, not}
+use Rattle.std.specs.Prelude.{◌&&◌, ◌||◌, nat_le, nat_lt, nat_eq, cond, Option, Some, None, length}
+use Rattle.std.specs.Prelude.{drop}
 use Rattle.std.specs.Str.{bytes_eq}
 use Rattle.pb_semantics.specs.Data.{Fields}
 use Rattle.pb_semantics.specs.Keeps.{is_among}
@@ -9,7 +11,9 @@ use Rattle.pb_language.specs.Task.{Task}
 use Rattle.pb_language.specs.Rest.{Rest, done, left, next, ask, rescue, hold, release, rest_of}
 use Rattle.pb_language.specs.Setting.{named_fields}
 use Rattle.pb_language.specs.Start.{Pass, Plan, planned, halted, plan_of, call_count}
-use Rattle.pb_language.specs.Give.{Answer, Admitted, admitted, breached, unreached, admit_passes, Ended, Results, results_are, no_results, end_all, any_changed, any_failed, all_skipped, message_of, written_variables}
+use Rattle.pb_language.specs.Give.{Answer, Admitted, admitted, breached, unreached, admit_passes}
+use Rattle.pb_language.specs.Give.{Ended, Results, results_are, no_results, end_all, any_changed}
+use Rattle.pb_language.specs.Give.{any_failed, all_skipped, message_of, written_variables}
 use Rattle.pb_language.specs.Notify.{Notified, handlers_are, names_nothing, all_notified}
 use Rattle.pb_language.specs.Program.{Inventory, Play, Program, Batch, all_batches, setting_of}
 
@@ -19,7 +23,8 @@ pub data Event : Type 0 where
   turn : Event
   stop : Event
 
--- what comes next on a host: nothing in this play, nothing since it left, or a task with the two ways on
+-- what comes next on a host: nothing in this play, nothing since it left, or a task with the two
+-- ways on
 pub data Ready : Type 0 where
   over : Ready
   gone : Ready
@@ -45,7 +50,8 @@ pub record Host : Type 0 where
   pub variables : Fields
   -- the numbers of the notified handlers
   pub marks : List ℕ
-  -- the latest failure's text, those of the open `rescue` parts, and those held by open `always` parts, the innermost first
+  -- the latest failure's text, those of the open `rescue` parts, and those held by open `always`
+  -- parts, the innermost first
   pub failure : List ℕ
   pub rescues : List (List ℕ)
   pub holds : List (List ℕ)
@@ -84,7 +90,8 @@ abbrev pub settled : Host → Rest → Host
 settled h done = record h { stage = waits over }
 settled h left = record h { stage = waits gone }
 settled h (next t a b) = record h { stage = waits (begins t a b) }
-settled h (ask n a b) = cond (is_marked n h.marks) (settled (record h { marks = unmarked n h.marks }) a) (settled h b)
+settled h (ask n a b) =
+    cond (is_marked n h.marks) (settled (record h { marks = unmarked n h.marks }) a) (settled h b)
 settled h (rescue d r) = settled (record h { rescues = h.failure ∷ outermost d h.rescues }) r
 settled h (hold m r) = settled (record h { holds = h.failure ∷ outermost m h.holds }) r
 settled h (release m r) = settled (record h { failure = innermost (outermost (suc m) h.holds) }) r
@@ -115,7 +122,8 @@ variables_seen (h ∷ hs) = record { name = h.name; variables = h.variables } �
 -- the world of a host's task
 abbrev pub world_of : State → Batch → Host → Task → World
 world_of s b h t = record {
-  mine = named_fields (setting_of s.inventory b.play [] [] h.name) t.depth (innermost (outermost t.depth h.rescues)) (still_active s.hosts b.members) h.variables;
+  mine = named_fields (setting_of s.inventory b.play [] [] h.name) t.depth
+      (innermost (outermost t.depth h.rescues)) (still_active s.hosts b.members) h.variables;
   this = h.name;
   hosts = variables_seen s.hosts;
   batch = still_active s.hosts b.members;
@@ -153,7 +161,8 @@ all_stand p (h ∷ hs) = stands_at p h.stage && all_stand p hs
 
 -- fewer than `forks` hosts run, and under `linear` nobody is behind
 abbrev pub can_start : State → Batch → Stage → Bool
-can_start s b (waits (begins t x y)) = nat_lt (running s.hosts) s.forks && (not b.play.is_linear || all_stand t.place s.hosts)
+can_start s b (waits (begins t x y)) =
+    nat_lt (running s.hosts) s.forks && (not b.play.is_linear || all_stand t.place s.hosts)
 can_start s b g = false
 
 abbrev pub is_idle : Stage → Bool
@@ -189,7 +198,11 @@ stuck_state s = record s { is_stuck = true }
 
 abbrev pub on_plan : State → ℕ → Host → Task → Rest → Rest → Plan → State
 on_plan s k h t a b (halted y) = stuck_state s
-on_plan s k h t a b (planned ps) = record s { hosts = put_host k (record h { stage = runs t ps a b }) s.hosts; handed = s.handed + call_count ps }
+on_plan s k h t a b (planned ps) = record s {
+  hosts = put_host k (record h { stage = runs t ps a b }) s.hosts;
+  handed = s.handed
+      + call_count ps;
+}
 
 abbrev pub on_start : State → Batch → ℕ → Host → Stage → State
 on_start s b k h (waits (begins t x y)) = on_plan s k h t x y (plan_of (world_of s b h t) t t.loop)
@@ -211,34 +224,50 @@ ok_recap c r = record r { ok = suc r.ok; changed = count_if c r.changed }
 abbrev pub ended_recap : Bool → Bool → Bool → Bool → Bool → Recap → Recap
 ended_recap true changed failed ignored saved r = record r { skipped = suc r.skipped }
 ended_recap false changed false ignored saved r = ok_recap changed r
-ended_recap false changed true true saved r = record (ok_recap changed r) { ignored = suc r.ignored }
+ended_recap false changed true true saved r =
+    record (ok_recap changed r) { ignored = suc r.ignored }
 ended_recap false changed true false true r = record r { rescued = suc r.rescued }
 ended_recap false changed true false false r = record r { failed = suc r.failed }
 
 abbrev pub task_recap : Task → List Ended → Recap → Recap
-task_recap t es r = ended_recap (all_skipped es) (any_changed es) (any_failed es) t.ignores t.rescued r
+task_recap t es r =
+    ended_recap (all_skipped es) (any_changed es) (any_failed es) t.ignores t.rescued r
 
 -- the host after its task: a failure that isn't ignored goes the other way
 abbrev pub after_task : Host → Task → List Ended → List ℕ → Host
-after_task h t es ms = record h { variables = written_variables t es h.variables; marks = ms ++ h.marks; failure = cond (any_failed es && not t.ignores) (message_of t.loop es) h.failure; recap = task_recap t es h.recap }
+after_task h t es ms = record h {
+  variables = written_variables t es h.variables;
+  marks = ms
+      ++ h.marks;
+  failure = cond (any_failed es && not t.ignores) (message_of t.loop es) h.failure;
+  recap = task_recap t es h.recap;
+}
 
 abbrev pub way_on : Task → List Ended → Rest → Rest → Rest
 way_on t es a b = cond (any_failed es && not t.ignores) b a
 
 abbrev pub on_notified : State → ℕ → Host → Task → Rest → Rest → List Ended → Notified → State
 on_notified s k h t a b es names_nothing = stuck_state s
-on_notified s k h t a b es (handlers_are ms) = with_host s k (settled (after_task h t es ms) (way_on t es a b))
+on_notified s k h t a b es (handlers_are ms) =
+    with_host s k (settled (after_task h t es ms) (way_on t es a b))
 
 -- a task notifies where it is changed and not failed
 abbrev pub on_results : State → Batch → ℕ → Host → Task → Rest → Rest → Results → State
 on_results s b k h t x y (no_results w) = stuck_state s
-on_results s b k h t x y (results_are es) = on_notified s k h t x y es (notified_by b.play t (any_changed es && not (any_failed es)))
+on_results s b k h t x y (results_are es) =
+    on_notified s k h t x y es (notified_by b.play t (any_changed es && not (any_failed es)))
 
 -- a host that can't be reached or that breaks its module's word leaves at once
 abbrev pub on_admitted : State → Batch → ℕ → Host → Task → Rest → Rest → Admitted → State
 on_admitted s b k h t x y (admitted os) = on_results s b k h t x y (end_all (world_of s b h t) t os)
-on_admitted s b k h t x y breached = with_host s k (record h { stage = waits gone; recap = record h.recap { failed = suc h.recap.failed } })
-on_admitted s b k h t x y unreached = with_host s k (record h { stage = waits gone; recap = record h.recap { unreachable = suc h.recap.unreachable } })
+on_admitted s b k h t x y breached = with_host s k
+    (record h { stage = waits gone; recap = record h.recap { failed = suc h.recap.failed } })
+on_admitted s b k h t x y unreached = with_host s k
+    (record h {
+      stage = waits gone;
+      recap = record h.recap
+          { unreachable = suc h.recap.unreachable };
+    })
 
 abbrev pub on_give : State → Batch → ℕ → Host → List Answer → Stage → State
 on_give s b k h xs (waits r) = s
@@ -246,7 +275,8 @@ on_give s b k h xs (runs t ps x y) = on_admitted s b k h t x y (admit_passes t.a
 
 -- an active host of the batch begins its play
 abbrev pub begun : Batch → Host → Host
-begun b h = cond (is_on h && is_among h.name b.members) (settled (record h { marks = []; rescues = []; holds = [] }) (rest_of b.play.row 0 done left)) h
+begun b h = cond (is_on h && is_among h.name b.members)
+    (settled (record h { marks = []; rescues = []; holds = [] }) (rest_of b.play.row 0 done left)) h
 
 abbrev pub all_begun : Batch → List Host → List Host
 all_begun b [] = []
@@ -260,7 +290,8 @@ abbrev pub any_names : List Name → Bool
 any_names [] = false
 any_names (n ∷ ns) = true
 
--- with no active host in the batch the run ends; else the next batch begins, or the run ends after the last
+-- with no active host in the batch the run ends; else the next batch begins, or the run ends after
+-- the last
 abbrev pub on_turn : State → Batch → List Batch → State
 on_turn s b bs = with_batches s (cond (any_names (still_active s.hosts b.members)) bs [])
 
@@ -280,14 +311,40 @@ abbrev pub step : State → Event → State
 step s e = cond (enabled s e) (happened s s.batches e) s
 
 abbrev pub empty_recap : Recap
-empty_recap = record { ok = 0; changed = 0; unreachable = 0; failed = 0; skipped = 0; rescued = 0; ignored = 0 }
+empty_recap = record {
+  ok = 0;
+  changed = 0;
+  unreachable = 0;
+  failed = 0;
+  skipped = 0;
+  rescued = 0;
+  ignored = 0;
+}
 
 abbrev pub opening_hosts : List HostVariables → List Host
 opening_hosts [] = []
-opening_hosts (x ∷ xs) = record { name = x.name; variables = x.variables; marks = []; failure = []; rescues = []; holds = []; stage = waits over; recap = empty_recap } ∷ opening_hosts xs
+opening_hosts (x ∷ xs) = record {
+  name = x.name;
+  variables = x.variables;
+  marks = [];
+  failure = [];
+  rescues = [];
+  holds = [];
+  stage = waits over;
+  recap = empty_recap;
+} ∷ opening_hosts xs
 
 abbrev pub opening : Program → Inventory → ℕ → State
-opening program inventory forks = with_batches (record { inventory = inventory; forks = forks; hosts = opening_hosts inventory.hosts; batches = []; handed = 0; is_stuck = false; is_stopped = false }) (all_batches program)
+opening program inventory forks = with_batches
+    (record {
+      inventory = inventory;
+      forks = forks;
+      hosts = opening_hosts inventory.hosts;
+      batches = [];
+      handed = 0;
+      is_stuck = false;
+      is_stopped = false;
+    }) (all_batches program)
 
 abbrev pub run_from : State → List Event → State
 run_from s [] = s

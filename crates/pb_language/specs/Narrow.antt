@@ -1,11 +1,19 @@
 -- What a test teaches (Ansible's page on conditionals).
-use Rattle.std.specs.Prelude.{List, [], ◌∷◌, Bool, true, false, not, ◌||◌, cond, Option, Some, None, codes}
+use Rattle.std.specs.Prelude.{List, [], ◌∷◌, Bool, true, false, not, ◌||◌, cond, Option, Some, None}
+use Rattle.std.specs.Prelude.{codes}
 use Rattle.pb_semantics.specs.Data.{bool_eq}
-use Rattle.pb_semantics.specs.Kind.{KindData, Cases, Shape, Spot, never, recs, results, anything, no_cases, one, nowhere, spot, slot_at, is_listed, is_skipped as is_skip}
+use Rattle.pb_semantics.specs.Kind.{KindData, Cases, Shape, Spot, never, recs, results, anything}
+use Rattle.pb_semantics.specs.Kind.{no_cases, one, nowhere, spot, slot_at, is_listed}
+use Rattle.pb_semantics.specs.Kind.{is_skipped as is_skip}
 use Rattle.pb_semantics.specs.Join.{join}
-use Rattle.pb_language.specs.Expression.{Name, Status, is_failed, is_changed, is_skipped, Term, named_host, this_host, item_host, group_member, Expression, negation, conjunction, disjunction, in_batch, defined, path_status, Root, variable, alias, other, member, Expressions, no_expressions, expression}
+use Rattle.pb_language.specs.Expression.{Name, Status, is_failed, is_changed, is_skipped, Term}
+use Rattle.pb_language.specs.Expression.{named_host, this_host, item_host, group_member, Expression}
+use Rattle.pb_language.specs.Expression.{negation, conjunction, disjunction, in_batch, defined}
+use Rattle.pb_language.specs.Expression.{path_status, Root, variable, alias, other, member}
+use Rattle.pb_language.specs.Expression.{Expressions, no_expressions, expression}
 use Rattle.pb_language.specs.World.{member_of}
-use Rattle.pb_language.specs.Scope.{Scope, resolved, spot_kind, with_spot, taught, view_of, put_view, host_spot, other_spot, both_scopes}
+use Rattle.pb_language.specs.Scope.{Scope, resolved, spot_kind, with_spot, taught, view_of}
+use Rattle.pb_language.specs.Scope.{put_view, host_spot, other_spot, both_scopes}
 use Rattle.pb_language.specs.Kinds.{root_spot}
 
 -- the least record above the cases
@@ -19,7 +27,8 @@ results_of cs = results cs (least_record cs)
 -- the cases with that shape, failed status and record
 abbrev pub cases_with : (Shape → Bool → KindData → Bool) → Cases → Cases
 cases_with f no_cases = no_cases
-cases_with f (one m sh fl k cs) = cond (f sh fl k) (one m sh fl k (cases_with f cs)) (cases_with f cs)
+cases_with f (one m sh fl k cs) =
+    cond (f sh fl k) (one m sh fl k (cases_with f cs)) (cases_with f cs)
 
 abbrev pub has_slot : Name → KindData → Bool
 has_slot n (recs ss) = is_listed n ss
@@ -44,7 +53,8 @@ changed_spot f (spot a k) = spot a (f k)
 -- the kind with that change at the end of a path through records
 abbrev pub changed_at : List Name → (KindData → KindData) → KindData → KindData
 changed_at [] f k = f k
-changed_at (n ∷ ns) f (recs ss) = recs (with_spot n (changed_spot (changed_at ns f) (slot_at n ss)) ss)
+changed_at (n ∷ ns) f (recs ss) =
+    recs (with_spot n (changed_spot (changed_at ns f) (slot_at n ss)) ss)
 changed_at (n ∷ ns) f k = k
 
 -- whether a value of the kind may have the steps
@@ -72,18 +82,21 @@ with_step n f k = k
 -- the cases that can have the steps, with the first of them there
 abbrev pub cases_stepped : (KindData → Bool) → (KindData → KindData) → Cases → Cases
 cases_stepped p f no_cases = no_cases
-cases_stepped p f (one m sh fl k cs) = cond (p k) (one m sh fl (f k) (cases_stepped p f cs)) (cases_stepped p f cs)
+cases_stepped p f (one m sh fl k cs) =
+    cond (p k) (one m sh fl (f k) (cases_stepped p f cs)) (cases_stepped p f cs)
 
 -- each step of the path is there
 abbrev pub defined_at : List Name → KindData → KindData
 defined_at [] k = k
 defined_at (n ∷ ns) (recs ss) = with_step n (defined_at ns) (recs ss)
-defined_at (n ∷ ns) (results cs r) = results_of (cases_stepped (can_have (n ∷ ns)) (with_step n (defined_at ns)) cs)
+defined_at (n ∷ ns) (results cs r) =
+    results_of (cases_stepped (can_have (n ∷ ns)) (with_step n (defined_at ns)) cs)
 defined_at (n ∷ ns) k = k
 
 -- what is taught of the variable of a host
 abbrev pub teach_host : Scope → (Spot → Spot) → Name → Name → Scope
-teach_host c f x g = record c { views = put_view g (with_spot x (f (host_spot c false x g)) (view_of g c.views)) c.views }
+teach_host c f x g = record c
+    { views = put_view g (with_spot x (f (host_spot c false x g)) (view_of g c.views)) c.views }
 
 abbrev pub teach_member : Scope → (Spot → Spot) → Name → Option Name → Scope
 teach_member c f x None = c
@@ -92,16 +105,19 @@ teach_member c f x (Some g) = teach_host c f x g
 -- what is taught of the value at a root
 abbrev pub teach : Scope → (Spot → Spot) → Root → Scope
 teach c f (variable n) = record c { own = with_spot n (f (slot_at n c.own)) c.own }
-teach c f (alias n e) = record c { learned = taught n e (spot_kind (f (root_spot c (alias n e)))) c.learned }
+teach c f (alias n e) =
+    record c { learned = taught n e (spot_kind (f (root_spot c (alias n e)))) c.learned }
 teach c f (other (named_host g) x) = teach_host c f x g
 teach c f (other this_host x) = teach_host c f x c.this
-teach c f (other item_host x) = record c { item_slots = with_spot x (f (other_spot c item_host x)) c.item_slots }
+teach c f (other item_host x) =
+    record c { item_slots = with_spot x (f (other_spot c item_host x)) c.item_slots }
 teach c f (other (group_member g n) x) = teach_member c f x (member_of g n c.groups)
 teach c f (member g n) = c
 
 -- each step of the path is there
 abbrev pub teach_present : Scope → Root → List Name → Scope
-teach_present c r ns = record (teach c (there_spot (defined_at ns)) r) { present = record { root = resolved c r; steps = ns } ∷ c.present }
+teach_present c r ns = record (teach c (there_spot (defined_at ns)) r)
+    { present = record { root = resolved c r; steps = ns } ∷ c.present }
 
 abbrev pub active_member : Scope → Option Name → Scope
 active_member c None = c
@@ -144,7 +160,8 @@ abbrev mutual
   narrow c (disjunction es) false = narrow_each c es false
   narrow c (in_batch t) true = teach_active c t
   narrow c (defined r ns) true = teach_present c r ns
-  narrow c (path_status s r ns) b = teach c (changed_spot (changed_at ns (on_results (cases_with (answers s b))))) r
+  narrow c (path_status s r ns) b =
+      teach c (changed_spot (changed_at ns (on_results (cases_with (answers s b))))) r
   narrow c e b = c
 
   -- each of them had that answer
@@ -156,4 +173,5 @@ abbrev mutual
   pub narrow_some : Scope → Expressions → Bool → Scope
   narrow_some c no_expressions b = c
   narrow_some c (expression e no_expressions) b = narrow c e b
-  narrow_some c (expression e (expression f es)) b = both_scopes (narrow c e b) (narrow_some (narrow c e (not b)) (expression f es) b)
+  narrow_some c (expression e (expression f es)) b =
+      both_scopes (narrow c e b) (narrow_some (narrow c e (not b)) (expression f es) b)

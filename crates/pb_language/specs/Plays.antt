@@ -1,16 +1,24 @@
--- How a book runs on an inventory: the rows of its plays, with their places and batches (Ansible's pages on plays, on patterns and on strategies).
-use Rattle.std.specs.Prelude.{ℕ, zero, suc, ◌+◌, ◌-◌, ◌*◌, ◌/◌, max, List, [], ◌∷◌, ◌++◌, Bool, true, false, ◌||◌, cond, Option, Some, None, codes, length, unwrap_or}
+-- How a book runs on an inventory: the rows of its plays, with their places and batches (Ansible's
+-- pages on plays, on patterns and on strategies).
+use Rattle.std.specs.Prelude.{ℕ, zero, suc, ◌+◌, ◌-◌, ◌*◌, ◌/◌, max, List, [], ◌∷◌, ◌++◌, Bool}
+use Rattle.std.specs.Prelude.{true, false, ◌||◌, cond, Option, Some, None, codes, length, unwrap_or}
 use Rattle.std.specs.Str.{bytes_eq}
 use Rattle.pb_semantics.specs.Data.{null}
 use Rattle.pb_semantics.specs.Kind.{never}
 use Rattle.pb_semantics.specs.Keeps.{is_among}
 use Rattle.pb_semantics.specs.Signature.{ModuleData}
-use Rattle.pb_language.specs.Expression.{Name, Expression, literal, Expressions, no_expressions, expression, Parts, no_parts, part}
+use Rattle.pb_language.specs.Expression.{Name, Expression, literal, Expressions, no_expressions}
+use Rattle.pb_language.specs.Expression.{expression, Parts, no_parts, part}
 use Rattle.pb_language.specs.Expansion.{expanded, all_expanded, parts_expanded, part_named, trees}
 use Rattle.pb_language.specs.World.{Group, HostVariables}
 use Rattle.pb_language.specs.Notify.{HandlerNames}
-use Rattle.pb_language.specs.Task.{Action, call_of, debug, set_fact, assertion, failure_of, Task, Handlers, no_handlers, handler, Row, end, task, flush, block}
-use Rattle.pb_language.specs.Book.{Asserted, not_given, not_well_formed, conditions_are, Work, module_work, debug_work, set_fact_work, assert_work, fail_work, TaskData, BlockData, Steps, no_steps, task_step, block_step, flush_step, HandlerData, Cut, host_count, percentage, PlayData, Book, Registry}
+use Rattle.pb_language.specs.Task.{Action, call_of, debug, set_fact, assertion, failure_of, Task}
+use Rattle.pb_language.specs.Task.{Handlers, no_handlers, handler, Row, end, task, flush, block}
+use Rattle.pb_language.specs.Book.{Asserted, not_given, not_well_formed, conditions_are, Work}
+use Rattle.pb_language.specs.Book.{module_work, debug_work, set_fact_work, assert_work, fail_work}
+use Rattle.pb_language.specs.Book.{TaskData, BlockData, Steps, no_steps, task_step, block_step}
+use Rattle.pb_language.specs.Book.{flush_step, HandlerData, Cut, host_count, percentage, PlayData}
+use Rattle.pb_language.specs.Book.{Book, Registry}
 use Rattle.pb_language.specs.Program.{Inventory, Play, Program}
 
 abbrev pub append_parts : Parts → Parts → Parts
@@ -60,7 +68,8 @@ abbrev pub action_of : Registry → (Name → Option Expression) → Work → Ac
 action_of ms f (module_work n ps) = call_of (module_named n ms) (parts_expanded f ps)
 action_of ms f (debug_work ps) = debug (expanded f (argument_or (part_named (codes "msg") ps)))
 action_of ms f (set_fact_work ps) = set_fact (parts_expanded f ps)
-action_of ms f (assert_work a ps) = assertion (all_expanded f (conditions_of a)) (expanded_option f (part_named (codes "fail_msg") ps))
+action_of ms f (assert_work a ps) = assertion (all_expanded f (conditions_of a))
+    (expanded_option f (part_named (codes "fail_msg") ps))
 action_of ms f (fail_work ps) = failure_of (expanded_option f (part_named (codes "msg") ps))
 
 abbrev pub task_with : Surroundings → ℕ → TaskData → (Name → Option Expression) → Task
@@ -85,7 +94,11 @@ task_at s p t = task_with s p t (trees (append_parts t.vars s.scope))
 
 -- what a block adds to what stands round it
 abbrev pub inside : Surroundings → BlockData → Surroundings
-inside s b = record s { conditions = append_expressions s.conditions b.condition; scope = append_parts b.vars s.scope; ignores = unwrap_or b.ignore_errors s.ignores }
+inside s b = record s {
+  conditions = append_expressions s.conditions b.condition;
+  scope = append_parts b.vars s.scope;
+  ignores = unwrap_or b.ignore_errors s.ignores;
+}
 
 abbrev pub is_given : Steps → Bool
 is_given no_steps = false
@@ -97,7 +110,8 @@ is_given (flush_step l ss) = true
 abbrev pub places_in : ℕ → Steps → ℕ
 places_in hs no_steps = 0
 places_in hs (task_step t ss) = suc (places_in hs ss)
-places_in hs (block_step b x y z ss) = places_in hs x + (places_in hs y + (places_in hs z + places_in hs ss))
+places_in hs (block_step b x y z ss) =
+    places_in hs x + (places_in hs y + (places_in hs z + places_in hs ss))
 places_in hs (flush_step l ss) = hs + places_in hs ss
 
 -- the handlers of a flush, from this number and this place on
@@ -105,7 +119,8 @@ abbrev pub handlers_at : Surroundings → ℕ → ℕ → List HandlerData → H
 handlers_at s i p [] = no_handlers
 handlers_at s i p (h ∷ hs) = handler i (task_at s p h.work) (handlers_at s (suc i) (suc p) hs)
 
--- the row of a list of steps from a place on, before what follows it; given the handlers of a flush at a place, and how many they are
+-- the row of a list of steps from a place on, before what follows it; given the handlers of a flush
+-- at a place, and how many they are
 abbrev pub row_of : (ℕ → Handlers) → ℕ → Surroundings → ℕ → Steps → Row → Row
 row_of hs n s p no_steps row = row
 row_of hs n s p (task_step t ss) row = task (task_at s p t) (row_of hs n s (suc p) ss row)
@@ -120,10 +135,12 @@ row_of hs n s p (block_step b x y z ss) row =
 
 -- a section that isn't empty ends with a flush
 abbrev pub section_row : (ℕ → Handlers) → ℕ → Surroundings → ℕ → Steps → (ℕ → Row) → Row
-section_row hs n s p ss go = cond (is_given ss) (row_of hs n s p ss (flush (hs (places_in n ss + p)) (go (n + (places_in n ss + p))))) (go p)
+section_row hs n s p ss go = cond (is_given ss)
+    (row_of hs n s p ss (flush (hs (places_in n ss + p)) (go (n + (places_in n ss + p))))) (go p)
 
 abbrev pub sections_row : (ℕ → Handlers) → ℕ → Surroundings → ℕ → PlayData → Row
-sections_row hs n s p play = section_row hs n s p play.pre_tasks (λ q. section_row hs n s q play.tasks (λ r. section_row hs n s r play.post_tasks (λ t. end)))
+sections_row hs n s p play = section_row hs n s p play.pre_tasks
+    (λ q. section_row hs n s q play.tasks (λ r. section_row hs n s r play.post_tasks (λ t. end)))
 
 -- the task that gathers facts
 abbrev pub gathering_task : ℕ → TaskData
@@ -142,13 +159,22 @@ gathering_task l = record {
 
 abbrev pub gathered_row : (ℕ → Handlers) → ℕ → Surroundings → PlayData → Option ℕ → Row
 gathered_row hs n s play None = sections_row hs n s 0 play
-gathered_row hs n s play (Some l) = task (task_at s 0 (gathering_task l)) (sections_row hs n s 1 play)
+gathered_row hs n s play (Some l) =
+    task (task_at s 0 (gathering_task l)) (sections_row hs n s 1 play)
 
 abbrev pub play_surroundings : Registry → PlayData → Surroundings
-play_surroundings ms play = record { registry = ms; conditions = no_expressions; scope = play.vars; ignores = false; rescued = false; depth = 0 }
+play_surroundings ms play = record {
+  registry = ms;
+  conditions = no_expressions;
+  scope = play.vars;
+  ignores = false;
+  rescued = false;
+  depth = 0;
+}
 
 abbrev pub play_row : Registry → PlayData → Row
-play_row ms play = gathered_row (λ p. handlers_at (play_surroundings ms play) 0 p play.handlers) (length play.handlers) (play_surroundings ms play) play play.gathering
+play_row ms play = gathered_row (λ p. handlers_at (play_surroundings ms play) 0 p play.handlers)
+    (length play.handlers) (play_surroundings ms play) play play.gathering
 
 -- the hosts of a word of a pattern: of a group of that name, else the host
 abbrev pub group_named : Name → List Group → Option (List Name)
@@ -170,7 +196,8 @@ add_hosts ns (m ∷ ms) = add_hosts (cond (is_among m ns) ns (ns ++ m ∷ [])) m
 -- the union in the order of the words
 abbrev pub pattern_hosts : Inventory → List Name → List Name → List Name
 pattern_hosts inventory ns [] = ns
-pattern_hosts inventory ns (w ∷ ws) = pattern_hosts inventory (add_hosts ns (unwrap_or (word_hosts inventory w (group_named w inventory.groups)) [])) ws
+pattern_hosts inventory ns (w ∷ ws) = pattern_hosts inventory
+    (add_hosts ns (unwrap_or (word_hosts inventory w (group_named w inventory.groups)) [])) ws
 
 -- the size of a batch: a percentage is of all hosts of the play, rounded down, at least 1
 abbrev pub cut_size : ℕ → Cut → ℕ
@@ -202,7 +229,8 @@ other_hosts (suc k) (h ∷ hs) = other_hosts k hs
 abbrev pub cut_hosts : ℕ → ℕ → List Cut → List Name → List (List Name)
 cut_hosts n zero cs hs = []
 cut_hosts n (suc k) cs [] = []
-cut_hosts n (suc k) cs (h ∷ hs) = (h ∷ first_hosts (first_size n cs - 1) hs) ∷ cut_hosts n k (next_cuts cs) (other_hosts (first_size n cs - 1) hs)
+cut_hosts n (suc k) cs (h ∷ hs) = (h ∷ first_hosts (first_size n cs - 1) hs)
+    ∷ cut_hosts n k (next_cuts cs) (other_hosts (first_size n cs - 1) hs)
 
 -- without `serial` there is one batch; a play of no host has none
 abbrev pub batches_for : List Cut → List Name → List (List Name)
@@ -225,4 +253,5 @@ play_with ms play hs = record {
 -- how a book runs
 abbrev pub program_of : Registry → Inventory → Book → Program
 program_of ms inventory [] = []
-program_of ms inventory (p ∷ ps) = play_with ms p (pattern_hosts inventory [] p.pattern) ∷ program_of ms inventory ps
+program_of ms inventory (p ∷ ps) =
+    play_with ms p (pattern_hosts inventory [] p.pattern) ∷ program_of ms inventory ps

@@ -1,4 +1,5 @@
--- Inventories, and books as they run: plays with their rows, their handlers and their batches (Ansible's pages on inventories and on plays).
+-- Inventories, and books as they run: plays with their rows, their handlers and their batches
+-- (Ansible's pages on inventories and on plays).
 use Rattle.std.specs.Prelude.{ℕ, List, [], ◌∷◌, ◌++◌, Bool, not, ◌&&◌, cond, codes}
 use Rattle.std.specs.Str.{bytes_eq}
 use Rattle.pb_semantics.specs.Keeps.{is_among}
@@ -41,7 +42,8 @@ all_batches (p ∷ ps) = batches_of p p.batches ++ all_batches ps
 -- the groups of a host, but for the one of all hosts
 abbrev pub memberships_of : Name → List Group → List Name
 memberships_of h [] = []
-memberships_of h (g ∷ gs) = cond (is_among h g.hosts && not (bytes_eq g.name (codes "all"))) (g.name ∷ memberships_of h gs) (memberships_of h gs)
+memberships_of h (g ∷ gs) = cond (is_among h g.hosts && not (bytes_eq g.name (codes "all")))
+    (g.name ∷ memberships_of h gs) (memberships_of h gs)
 
 abbrev pub setting_of : Inventory → Play → List View → List Later → Name → Setting
 setting_of inventory p views laters h = record {

@@ -1,6 +1,7 @@
 -- What a host still has to do: the ways through a row (Ansible's pages on blocks and on handlers).
 use Rattle.std.specs.Prelude.{ℕ, suc, Bool, cond}
-use Rattle.pb_language.specs.Task.{Task, Handlers, no_handlers, handler, Row, end, task, flush, block}
+use Rattle.pb_language.specs.Task.{Task, Handlers, no_handlers, handler, Row, end, task, flush}
+use Rattle.pb_language.specs.Task.{block}
 
 pub data Rest : Type 0 where
   -- the play is over
@@ -33,11 +34,15 @@ saved_rest d saves rescued well hurt = cond saves (rescue d (rescued well hurt))
 abbrev pub block_rest : ℕ → (Rest → Rest → Rest) → Bool → (Rest → Rest → Rest) → Rest → Rest → Rest
 block_rest d body saves rescued well hurt = body well (saved_rest d saves rescued well hurt)
 
--- the ways through a row, from where they go on when it is well and when it failed; the number counts the `always` parts round it that run after a failure.
--- A failure in a block enters its rescue; without one the always, and goes outwards. A rescue that completes clears the failure. The always runs in the end, whatever happened.
+-- the ways through a row, from where they go on when it is well and when it failed; the number
+-- counts the `always` parts round it that run after a failure. A failure in a block enters its
+-- rescue; without one the always, and goes outwards. A rescue that completes clears the failure.
+-- The always runs in the end, whatever happened.
 abbrev pub rest_of : Row → ℕ → Rest → Rest → Rest
 rest_of end m well hurt = well
 rest_of (task t row) m well hurt = next t (rest_of row m well hurt) hurt
 rest_of (flush hs row) m well hurt = flush_rest hs (rest_of row m well hurt) hurt
 rest_of (block d body saves rescued always row) m well hurt =
-    block_rest d (rest_of body m) saves (rest_of rescued m) (rest_of always m (rest_of row m well hurt) hurt) (hold m (rest_of always (suc m) (release m hurt) hurt))
+    block_rest d (rest_of body m) saves (rest_of rescued m)
+    (rest_of always m (rest_of row m well hurt) hurt)
+    (hold m (rest_of always (suc m) (release m hurt) hurt))

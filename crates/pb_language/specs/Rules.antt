@@ -1,16 +1,29 @@
 -- The rules that need no flow (this project's own).
-use Rattle.std.specs.Prelude.{ℕ, ◌+◌, List, [], ◌∷◌, ◌++◌, Bool, true, false, not, ◌&&◌, ◌||◌, nat_le, nat_lt, cond, Option, Some, None, is_some, codes, length}
+use Rattle.std.specs.Prelude.{ℕ, ◌+◌, List, [], ◌∷◌, ◌++◌, Bool, true, false, not, ◌&&◌, ◌||◌}
+use Rattle.std.specs.Prelude.{nat_le, nat_lt, cond, Option, Some, None, is_some, codes, length}
 use Rattle.std.specs.Str.{bytes_eq}
 use Rattle.pb_semantics.specs.Keeps.{is_among}
+use Rattle.pb_semantics.specs.Limits.{most_name_bytes, most_play_steps}
 use Rattle.pb_semantics.specs.Signature.{ParameterData, ModuleData}
-use Rattle.pb_language.specs.Expression.{Name, Term, named_host, this_host, item_host, group_member, Expression, literal, path, hostvars_alone, negation, conjunction, disjunction, comparison, membership, in_batch, defined, undefinable, path_status, value_status, path_or, value_or, length_of, joined_by, concatenation, list_of, record_of, Root, variable, alias, other, member, Expressions, no_expressions, expression, Parts, no_parts, part}
+use Rattle.pb_language.specs.Expression.{Name, Term, named_host, this_host, item_host, group_member}
+use Rattle.pb_language.specs.Expression.{Expression, literal, path, hostvars_alone, negation}
+use Rattle.pb_language.specs.Expression.{conjunction, disjunction, comparison, membership, in_batch}
+use Rattle.pb_language.specs.Expression.{defined, undefinable, path_status, value_status, path_or}
+use Rattle.pb_language.specs.Expression.{value_or, length_of, joined_by, concatenation, list_of}
+use Rattle.pb_language.specs.Expression.{record_of, Root, variable, alias, other, member}
+use Rattle.pb_language.specs.Expression.{Expressions, no_expressions, expression, Parts, no_parts}
+use Rattle.pb_language.specs.Expression.{part}
 use Rattle.pb_language.specs.Expansion.{expanded, part_named, trees, chain_length}
 use Rattle.pb_language.specs.World.{Group, member_of}
 use Rattle.pb_language.specs.Notify.{HandlerNames, notified, all_notified, names_something}
-use Rattle.pb_language.specs.Book.{Asserted, not_given, not_well_formed, conditions_are, Work, module_work, debug_work, set_fact_work, assert_work, fail_work, TaskData, Book, Registry}
-use Rattle.pb_language.specs.Plays.{append_expressions, module_named, group_named, word_hosts, is_host, names_of_handlers}
+use Rattle.pb_language.specs.Book.{Asserted, not_given, not_well_formed, conditions_are, Work}
+use Rattle.pb_language.specs.Book.{module_work, debug_work, set_fact_work, assert_work, fail_work}
+use Rattle.pb_language.specs.Book.{TaskData, Book, Registry}
+use Rattle.pb_language.specs.Plays.{append_expressions, module_named, group_named, word_hosts}
+use Rattle.pb_language.specs.Plays.{is_host, names_of_handlers}
 use Rattle.pb_language.specs.Program.{Inventory}
-use Rattle.pb_language.specs.Sites.{Thing, a_play, a_block, a_flush, the_gathering, a_task, a_handler, Site, sites_of, steps_of}
+use Rattle.pb_language.specs.Sites.{Thing, a_play, a_block, a_flush, the_gathering, a_task}
+use Rattle.pb_language.specs.Sites.{a_handler, Site, sites_of, steps_of}
 use Rattle.pb_language.specs.Verdict.{Refusal, earlier}
 
 -- the task or handler at a line
@@ -45,7 +58,8 @@ has_required (p ∷ ps) qs = (not p.required || has_part p.name qs) && has_requi
 
 -- a letter or `_`, then letters, digits and `_`
 abbrev pub is_letter : ℕ → Bool
-is_letter b = (nat_le 65 b && nat_le b 90) || ((nat_le 97 b && nat_le b 122) || (nat_le 95 b && nat_le b 95))
+is_letter b =
+    (nat_le 65 b && nat_le b 90) || ((nat_le 97 b && nat_le b 122) || (nat_le 95 b && nat_le b 95))
 
 abbrev pub is_digit : ℕ → Bool
 is_digit b = nat_le 48 b && nat_le b 57
@@ -56,11 +70,12 @@ are_name_bytes (b ∷ bs) = (is_letter b || is_digit b) && are_name_bytes bs
 
 abbrev pub is_variable_name : Name → Bool
 is_variable_name [] = false
-is_variable_name (b ∷ bs) = is_letter b && (are_name_bytes bs && nat_lt (length bs) 128)
+is_variable_name (b ∷ bs) = is_letter b && (are_name_bytes bs && nat_lt (length bs) most_name_bytes)
 
 abbrev pub can_be_set : Parts → Bool
 can_be_set no_parts = true
-can_be_set (part n e ps) = (is_variable_name n && not (bytes_eq n (codes "cacheable"))) && can_be_set ps
+can_be_set (part n e ps) =
+    (is_variable_name n && not (bytes_eq n (codes "cacheable"))) && can_be_set ps
 
 abbrev pub is_well_asserted : Asserted → Bool
 is_well_asserted not_given = false
@@ -84,9 +99,15 @@ breaks_parameters ms s = of_task (task_at_site s.thing) (λ t. not (is_well_form
 -- V08: a name clash or a reserved name
 abbrev pub reserved_names : List Name
 reserved_names =
-    codes "inventory_hostname" ∷ codes "groups" ∷ codes "group_names" ∷ codes "hostvars" ∷ codes "ansible_play_batch" ∷ codes "item" ∷ codes "ansible_failed_result" ∷ codes "ansible_facts"
-    ∷ codes "ansible_hostname" ∷ codes "ansible_system" ∷ codes "ansible_os_family" ∷ codes "ansible_distribution" ∷ codes "ansible_processor_vcpus" ∷ codes "ansible_memtotal_mb"
-    ∷ codes "and" ∷ codes "or" ∷ codes "not" ∷ codes "in" ∷ codes "is" ∷ codes "true" ∷ codes "false" ∷ codes "True" ∷ codes "False" ∷ codes "none" ∷ codes "None" ∷ codes "if" ∷ codes "else" ∷ []
+    codes "inventory_hostname" ∷ codes "groups" ∷ codes "group_names" ∷ codes "hostvars"
+    ∷ codes "ansible_play_batch" ∷ codes "item" ∷ codes "ansible_failed_result"
+    ∷ codes "ansible_facts"
+    ∷ codes "ansible_hostname" ∷ codes "ansible_system" ∷ codes "ansible_os_family"
+    ∷ codes "ansible_distribution" ∷ codes "ansible_processor_vcpus"
+    ∷ codes "ansible_memtotal_mb"
+    ∷ codes "and" ∷ codes "or" ∷ codes "not" ∷ codes "in" ∷ codes "is" ∷ codes "true"
+    ∷ codes "false" ∷ codes "True" ∷ codes "False" ∷ codes "none" ∷ codes "None" ∷ codes "if"
+    ∷ codes "else" ∷ []
 
 abbrev pub part_names : Parts → List Name
 part_names no_parts = []
@@ -112,9 +133,11 @@ abbrev pub any_among : List Name → List Name → Bool
 any_among [] ms = false
 any_among (n ∷ ns) ms = is_among n ms || any_among ns ms
 
--- a name that is registered or set is neither reserved nor given by any `vars`, and no `vars` gives a reserved name
+-- a name that is registered or set is neither reserved nor given by any `vars`, and no `vars` gives
+-- a reserved name
 abbrev pub breaks_names : List Name → Site → Bool
-breaks_names given s = any_among (written_names (task_at_site s.thing)) (reserved_names ++ given) || any_among (part_names s.vars) reserved_names
+breaks_names given s = any_among (written_names (task_at_site s.thing)) (reserved_names ++ given)
+    || any_among (part_names s.vars) reserved_names
 
 -- V10: a chain of `vars` that is too long or has a cycle, asked of every name in scope at a task
 abbrev pub any_too_long : Parts → Parts → Bool
@@ -153,15 +176,18 @@ abbrev pub work_expressions : Work → Expressions
 work_expressions (module_work n ps) = part_expressions ps
 work_expressions (debug_work ps) = part_expressions ps
 work_expressions (set_fact_work ps) = part_expressions ps
-work_expressions (assert_work a ps) = append_expressions (part_expressions ps) (asserted_expressions a)
+work_expressions (assert_work a ps) =
+    append_expressions (part_expressions ps) (asserted_expressions a)
 work_expressions (fail_work ps) = part_expressions ps
 
 -- what `changed_when` and `failed_when` read
 abbrev pub give_expressions : TaskData → Expressions
-give_expressions t = append_expressions (list_expressions t.changed_when) (list_expressions t.failed_when)
+give_expressions t =
+    append_expressions (list_expressions t.changed_when) (list_expressions t.failed_when)
 
 abbrev pub task_expressions : Expressions → TaskData → Expressions
-task_expressions cs t = append_expressions (option_expressions t.loop) (append_expressions cs (append_expressions (work_expressions t.work) (give_expressions t)))
+task_expressions cs t = append_expressions (option_expressions t.loop)
+    (append_expressions cs (append_expressions (work_expressions t.work) (give_expressions t)))
 
 -- V06: an unknown host or group
 abbrev pub is_group : Name → List Group → Bool
@@ -189,7 +215,8 @@ abbrev pub is_known_variable : Inventory → Name → List Name → Bool
 is_known_variable v n [] = true
 is_known_variable v n (g ∷ ns) = not (bytes_eq n (codes "groups")) || is_group g v.groups
 
--- what is tested names nothing, but a value of `vars` in it is a part of the expression all the same
+-- what is tested names nothing, but a value of `vars` in it is a part of the expression all the
+-- same
 abbrev mutual
   pub names_known : Inventory → Expression → Bool
   names_known v (literal d) = true
@@ -252,7 +279,8 @@ breaks_known v s x = false
 
 -- V05: a notify text that names no handler or topic of the play
 abbrev pub breaks_notify : Site → Bool
-breaks_notify s = of_task (task_at_site s.thing) (λ t. not (names_something (all_notified (names_of_handlers s.play.handlers) t.notify)))
+breaks_notify s = of_task (task_at_site s.thing)
+    (λ t. not (names_something (all_notified (names_of_handlers s.play.handlers) t.notify)))
 
 -- V12: a handler that notifies itself or an earlier one
 abbrev pub any_up_to : ℕ → List ℕ → Bool
@@ -310,17 +338,20 @@ expanded_reads f no_expressions = false
 expanded_reads f (expression e es) = reads_others (expanded f e) || expanded_reads f es
 
 abbrev pub breaks_give : Site → Bool
-breaks_give s = of_task (task_at_site s.thing) (λ t. expanded_reads (trees s.scope) (give_expressions t))
+breaks_give s =
+    of_task (task_at_site s.thing) (λ t. expanded_reads (trees s.scope) (give_expressions t))
 
 -- the first line at which a rule is broken
 abbrev pub first_line : ℕ → (Site → Bool) → List Site → Option Refusal
 first_line c f [] = None
-first_line c f (s ∷ ss) = earlier (cond (f s) (Some (record { code = c; line = s.line; host = None })) None) (first_line c f ss)
+first_line c f (s ∷ ss) = earlier
+    (cond (f s) (Some (record { code = c; line = s.line; host = None })) None) (first_line c f ss)
 
 -- V13: more than 8,192 steps in the plays so far
 abbrev pub too_many_steps : ℕ → Book → Option Refusal
 too_many_steps n [] = None
-too_many_steps n (p ∷ ps) = cond (nat_lt 8192 (n + steps_of p)) (Some (record { code = 13; line = p.line; host = None })) (too_many_steps (n + steps_of p) ps)
+too_many_steps n (p ∷ ps) = cond (nat_lt most_play_steps (n + steps_of p))
+    (Some (record { code = 13; line = p.line; host = None })) (too_many_steps (n + steps_of p) ps)
 
 -- the least line; on one line the rules in this order
 abbrev pub sites_offence : Registry → Inventory → Book → List Site → Option Refusal

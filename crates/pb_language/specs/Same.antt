@@ -2,7 +2,15 @@
 use Rattle.std.specs.Prelude.{List, [], ◌∷◌, Bool, true, false, ◌&&◌, nat_eq, Option, Some, None}
 use Rattle.std.specs.Str.{bytes_eq}
 use Rattle.pb_semantics.specs.Equal.{data_eq}
-use Rattle.pb_language.specs.Expression.{Name, Comparison, equal, less, at_most, more, at_least, Status, is_failed, is_changed, is_skipped, Term, named_host, this_host, item_host, group_member, Expression, literal, path, hostvars_alone, negation, conjunction, disjunction, comparison, membership, in_batch, defined, undefinable, path_status, value_status, path_or, value_or, length_of, joined_by, concatenation, list_of, record_of, Root, variable, alias, other, member, Expressions, no_expressions, expression, Parts, no_parts, part}
+use Rattle.pb_language.specs.Expression.{Name, Comparison, equal, less, at_most, more, at_least}
+use Rattle.pb_language.specs.Expression.{Status, is_failed, is_changed, is_skipped, Term}
+use Rattle.pb_language.specs.Expression.{named_host, this_host, item_host, group_member, Expression}
+use Rattle.pb_language.specs.Expression.{literal, path, hostvars_alone, negation, conjunction}
+use Rattle.pb_language.specs.Expression.{disjunction, comparison, membership, in_batch, defined}
+use Rattle.pb_language.specs.Expression.{undefinable, path_status, value_status, path_or, value_or}
+use Rattle.pb_language.specs.Expression.{length_of, joined_by, concatenation, list_of, record_of}
+use Rattle.pb_language.specs.Expression.{Root, variable, alias, other, member, Expressions}
+use Rattle.pb_language.specs.Expression.{no_expressions, expression, Parts, no_parts, part}
 
 abbrev pub same_names : List Name → List Name → Bool
 same_names [] [] = true
@@ -43,14 +51,17 @@ abbrev mutual
   same_expression (negation e) (negation f) = same_expression e f
   same_expression (conjunction es) (conjunction fs) = same_expressions es fs
   same_expression (disjunction es) (disjunction fs) = same_expressions es fs
-  same_expression (comparison c a b) (comparison d e f) = same_comparison c d && (same_expression a e && same_expression b f)
+  same_expression (comparison c a b) (comparison d e f) =
+      same_comparison c d && (same_expression a e && same_expression b f)
   same_expression (membership a b) (membership e f) = same_expression a e && same_expression b f
   same_expression (in_batch t) (in_batch u) = same_term t u
   same_expression (defined r ns) (defined q ms) = same_root r q && same_names ns ms
   same_expression (undefinable e) (undefinable f) = same_expression e f
-  same_expression (path_status s r ns) (path_status t q ms) = same_status s t && (same_root r q && same_names ns ms)
+  same_expression (path_status s r ns) (path_status t q ms) =
+      same_status s t && (same_root r q && same_names ns ms)
   same_expression (value_status s e) (value_status t f) = same_status s t && same_expression e f
-  same_expression (path_or r ns e) (path_or q ms f) = same_root r q && (same_names ns ms && same_expression e f)
+  same_expression (path_or r ns e) (path_or q ms f) =
+      same_root r q && (same_names ns ms && same_expression e f)
   same_expression (value_or a b) (value_or e f) = same_expression a e && same_expression b f
   same_expression (length_of e) (length_of f) = same_expression e f
   same_expression (joined_by a b) (joined_by e f) = same_expression a e && same_expression b f
@@ -68,7 +79,8 @@ abbrev mutual
 
   pub same_expressions : Expressions → Expressions → Bool
   same_expressions no_expressions no_expressions = true
-  same_expressions (expression e es) (expression f fs) = same_expression e f && same_expressions es fs
+  same_expressions (expression e es) (expression f fs) =
+      same_expression e f && same_expressions es fs
   same_expressions es fs = false
 
   pub same_parts : Parts → Parts → Bool

@@ -1,10 +1,14 @@
--- What is known at a Start: of the host's own variables, of those of each host, and what tests have taught (this project's own).
-use Rattle.std.specs.Prelude.{ℕ, List, [], ◌∷◌, Bool, true, false, ◌&&◌, ◌||◌, cond, nat_le, Option, Some, None, codes}
+-- What is known at a Start: of the host's own variables, of those of each host, and what tests have
+-- taught (this project's own).
+use Rattle.std.specs.Prelude.{ℕ, List, [], ◌∷◌, Bool, true, false, ◌&&◌, ◌||◌, cond, nat_le, Option}
+use Rattle.std.specs.Prelude.{Some, None, codes}
 use Rattle.std.specs.Str.{bytes_eq}
-use Rattle.pb_semantics.specs.Kind.{KindData, Slots, Spot, never, texts, hosts, anything, no_slots, slot, nowhere, spot, slot_at, put_slot}
+use Rattle.pb_semantics.specs.Kind.{KindData, Slots, Spot, never, texts, hosts, anything, no_slots}
+use Rattle.pb_semantics.specs.Kind.{slot, nowhere, spot, slot_at, put_slot}
 use Rattle.pb_semantics.specs.Keeps.{is_among}
 use Rattle.pb_semantics.specs.Join.{join, join_slots, join_spot}
-use Rattle.pb_language.specs.Expression.{Name, Expression, Root, variable, alias, other, member, Term, named_host, this_host, item_host, group_member}
+use Rattle.pb_language.specs.Expression.{Name, Expression, Root, variable, alias, other, member}
+use Rattle.pb_language.specs.Expression.{Term, named_host, this_host, item_host, group_member}
 use Rattle.pb_language.specs.Same.{same_expression, same_root}
 use Rattle.pb_language.specs.World.{Group, member_of}
 
@@ -18,7 +22,8 @@ is_certain (spot a k) = a
 
 abbrev pub without_slot : Name → Slots → Slots
 without_slot n no_slots = no_slots
-without_slot n (slot m a k ss) = cond (bytes_eq n m) (without_slot n ss) (slot m a k (without_slot n ss))
+without_slot n (slot m a k ss) =
+    cond (bytes_eq n m) (without_slot n ss) (slot m a k (without_slot n ss))
 
 -- the slots with this one in place of any other of that name
 abbrev pub with_slot : Name → Bool → KindData → Slots → Slots
@@ -33,7 +38,8 @@ abbrev pub sure : Spot → Spot
 sure nowhere = spot true never
 sure (spot a k) = spot true k
 
--- names that a host certainly has, each at its places from one on, and the place from which on it has every name
+-- names that a host certainly has, each at its places from one on, and the place from which on it
+-- has every name
 pub data Since : Type 0 where
   no_since : Since
   since : Name → ℕ → Since → Since
@@ -55,7 +61,8 @@ view_of g (v ∷ vs) = cond (bytes_eq g v.host) v.slots (view_of g vs)
 
 abbrev pub put_view : Name → Slots → List View → List View
 put_view g ss [] = []
-put_view g ss (v ∷ vs) = cond (bytes_eq g v.host) (record { host = v.host; slots = ss } ∷ vs) (v ∷ put_view g ss vs)
+put_view g ss (v ∷ vs) =
+    cond (bytes_eq g v.host) (record { host = v.host; slots = ss } ∷ vs) (v ∷ put_view g ss vs)
 
 -- what each host has at its later places
 pub record Later : Type 0 where
@@ -73,7 +80,8 @@ pub data Learned : Type 0 where
 
 abbrev pub learned_kind : Name → Expression → Learned → Option KindData
 learned_kind n e nothing = None
-learned_kind n e (taught m f k l) = cond (bytes_eq n m && same_expression e f) (Some k) (learned_kind n e l)
+learned_kind n e (taught m f k l) =
+    cond (bytes_eq n m && same_expression e f) (Some k) (learned_kind n e l)
 
 -- a path of which each step is there
 pub record Present : Type 0 where
@@ -87,7 +95,8 @@ begins_with (n ∷ ns) (m ∷ ms) = bytes_eq n m && begins_with ns ms
 
 abbrev pub is_present_path : Root → List Name → List Present → Bool
 is_present_path r ns [] = false
-is_present_path r ns (p ∷ ps) = (same_root r p.root && begins_with ns p.steps) || is_present_path r ns ps
+is_present_path r ns (p ∷ ps) =
+    (same_root r p.root && begins_with ns p.steps) || is_present_path r ns ps
 
 pub record Scope : Type 0 where
   pub own : Slots
@@ -157,7 +166,8 @@ hosts_of c (group_member g n) = only (member_of g n c.groups)
 
 -- what is known of a variable of that host; the flag says that it is known to be active
 abbrev pub host_spot : Scope → Bool → Name → Name → Spot
-host_spot c on x g = cond ((on || is_among g c.active) && is_later (later_of g c.laters) c.place x) (sure (slot_at x (view_of g c.views))) (slot_at x (view_of g c.views))
+host_spot c on x g = cond ((on || is_among g c.active) && is_later (later_of g c.laters) c.place x)
+    (sure (slot_at x (view_of g c.views))) (slot_at x (view_of g c.views))
 
 -- what is known of a variable of whichever of these hosts is meant
 abbrev pub each_spot : Scope → Bool → Name → List Name → Spot
@@ -183,7 +193,8 @@ below_spot a (spot b k) = spot (a && b) k
 abbrev pub other_spot : Scope → Term → Name → Spot
 other_spot c (named_host n) x = spot_among c false x (hosts_of c (named_host n))
 other_spot c this_host x = spot_among c false x (hosts_of c this_host)
-other_spot c item_host x = below_spot (is_certain (slot_at (codes "item") c.own)) (taught_spot (slot_at x c.item_slots) (spot_among c c.item_active x (hosts_of c item_host)))
+other_spot c item_host x = below_spot (is_certain (slot_at (codes "item") c.own))
+    (taught_spot (slot_at x c.item_slots) (spot_among c c.item_active x (hosts_of c item_host)))
 other_spot c (group_member g n) x = spot_among c false x (hosts_of c (group_member g n))
 
 abbrev pub with_both_kinds : Name → Expression → KindData → Option KindData → Learned → Learned
@@ -197,7 +208,8 @@ both_learned (taught n e k l) m = with_both_kinds n e k (learned_kind n e m) (bo
 
 abbrev pub both_present : List Present → List Present → List Present
 both_present [] qs = []
-both_present (p ∷ ps) qs = cond (is_present_path p.root p.steps qs) (p ∷ both_present ps qs) (both_present ps qs)
+both_present (p ∷ ps) qs =
+    cond (is_present_path p.root p.steps qs) (p ∷ both_present ps qs) (both_present ps qs)
 
 abbrev pub both_names : List Name → List Name → List Name
 both_names [] ms = []
@@ -213,7 +225,8 @@ both_slots (slot n a k ss) ts = with_both_spots n a k (slot_at n ts) (both_slots
 
 abbrev pub both_views : List View → List View → List View
 both_views [] ws = []
-both_views (v ∷ vs) ws = record { host = v.host; slots = join_slots v.slots (view_of v.host ws) } ∷ both_views vs ws
+both_views (v ∷ vs) ws =
+    record { host = v.host; slots = join_slots v.slots (view_of v.host ws) } ∷ both_views vs ws
 
 abbrev pub both_scopes : Scope → Scope → Scope
 both_scopes c d = record c {

@@ -1,7 +1,11 @@
--- What a host's task is judged in: the names that are always there, and those of the task (Ansible's page on special variables).
-use Rattle.std.specs.Prelude.{ℕ, zero, suc, List, [], ◌∷◌, true, false, Option, Some, None, codes, length}
-use Rattle.pb_semantics.specs.Data.{Data, Items, Fields, text, list, rec, no_items, item, no_fields, field}
-use Rattle.pb_semantics.specs.Kind.{KindData, Slots, Cases, texts, hosts, lists, recs, no_slots, slot}
+-- What a host's task is judged in: the names that are always there, and those of the task
+-- (Ansible's page on special variables).
+use Rattle.std.specs.Prelude.{ℕ, zero, suc, List, [], ◌∷◌, true, false, Option, Some, None, codes}
+use Rattle.std.specs.Prelude.{length}
+use Rattle.pb_semantics.specs.Data.{Data, Items, Fields, text, list, rec, no_items, item, no_fields}
+use Rattle.pb_semantics.specs.Data.{field}
+use Rattle.pb_semantics.specs.Kind.{KindData, Slots, Cases, texts, hosts, lists, recs, no_slots}
+use Rattle.pb_semantics.specs.Kind.{slot}
 use Rattle.pb_language.specs.Expression.{Name, Expression}
 use Rattle.pb_language.specs.World.{Group}
 use Rattle.pb_language.specs.Scope.{Scope, View, Later, nothing, with_slot}
@@ -25,19 +29,22 @@ pub record Setting : Type 0 where
 
 abbrev pub group_slots : List Group → Slots
 group_slots [] = no_slots
-group_slots (g ∷ gs) = with_slot g.name true (lists (hosts g.hosts) (length g.hosts)) (group_slots gs)
+group_slots (g ∷ gs) =
+    with_slot g.name true (lists (hosts g.hosts) (length g.hosts)) (group_slots gs)
 
 -- inside a `rescue` part the failure's text can be read
 abbrev pub with_failure_slot : ℕ → Slots → Slots
 with_failure_slot zero env = env
-with_failure_slot (suc d) env = with_slot (codes "ansible_failed_result") true (recs (slot (codes "msg") true texts no_slots)) env
+with_failure_slot (suc d) env = with_slot (codes "ansible_failed_result") true
+    (recs (slot (codes "msg") true texts no_slots)) env
 
 abbrev pub named_slots : Setting → ℕ → Slots → Slots
 named_slots st d env =
     with_slot (codes "inventory_hostname") true (hosts (st.this ∷ []))
     (with_slot (codes "groups") true (recs (group_slots st.groups))
     (with_slot (codes "group_names") true (lists texts (length st.memberships))
-    (with_slot (codes "ansible_play_batch") true (lists (hosts st.play_hosts) (length st.play_hosts)) (with_failure_slot d env))))
+    (with_slot (codes "ansible_play_batch") true
+    (lists (hosts st.play_hosts) (length st.play_hosts)) (with_failure_slot d env))))
 
 -- what is known before any test
 abbrev pub scope_at : Setting → List Later → ℕ → Slots → Scope
@@ -69,7 +76,8 @@ with_item (Some k) env = with_slot (codes "item") true (item_kind k) env
 
 -- a task's scope for one item, before its conditions
 abbrev pub item_scope : Setting → Task → Slots → Scope
-item_scope st t env = record (start_scope st t env) { own = with_item (loop_kind (start_scope st t env) t.loop) (named_slots st t.depth env) }
+item_scope st t env = record (start_scope st t env)
+    { own = with_item (loop_kind (start_scope st t env) t.loop) (named_slots st t.depth env) }
 
 -- and where they hold
 abbrev pub action_scope : Setting → Task → Slots → Scope
@@ -79,9 +87,12 @@ abbrev pub with_own_result : Option Name → Cases → Slots → Slots
 with_own_result None cs env = env
 with_own_result (Some n) cs env = with_slot n true (results_of cs) env
 
--- what `changed_when` and `failed_when` see: the item's own result under the name that the task registers, and nothing of the batch
+-- what `changed_when` and `failed_when` see: the item's own result under the name that the task
+-- registers, and nothing of the batch
 abbrev pub give_scope : Setting → Task → Slots → Scope
-give_scope st t env = scope_at st [] t.place (with_own_result t.register (answered_cases t.action) (with_item (loop_kind (start_scope st t env) t.loop) (named_slots st t.depth env)))
+give_scope st t env = scope_at st [] t.place
+    (with_own_result t.register (answered_cases t.action)
+    (with_item (loop_kind (start_scope st t env) t.loop) (named_slots st t.depth env)))
 
 abbrev pub names_list : List Name → Items
 names_list [] = no_items
@@ -93,7 +104,8 @@ group_fields (g ∷ gs) = field g.name (list (names_list g.hosts)) (group_fields
 
 abbrev pub with_failure : ℕ → List ℕ → Fields → Fields
 with_failure zero s fs = fs
-with_failure (suc d) s fs = field (codes "ansible_failed_result") (rec (field (codes "msg") (text s) no_fields)) fs
+with_failure (suc d) s fs =
+    field (codes "ansible_failed_result") (rec (field (codes "msg") (text s) no_fields)) fs
 
 -- a host's own names: those that are always there, and its variables
 abbrev pub named_fields : Setting → ℕ → List ℕ → List Name → Fields → Fields

@@ -1,7 +1,10 @@
 -- Expressions without tests and filters, which read the host's own variables alone.
 use Rattle.std.specs.Prelude.{List, [], ◌∷◌, Bool, true, false, not, ◌&&◌, codes}
 use Rattle.pb_semantics.specs.Keeps.{is_among}
-use Rattle.pb_language.specs.Expression.{Name, equal, Expression, literal, path, negation, conjunction, disjunction, comparison, membership, list_of, record_of, variable, Expressions, no_expressions, expression, Parts, no_parts, part}
+use Rattle.pb_language.specs.Expression.{Name, equal, Expression, literal, path, negation}
+use Rattle.pb_language.specs.Expression.{conjunction, disjunction, comparison, membership, list_of}
+use Rattle.pb_language.specs.Expression.{record_of, variable, Expressions, no_expressions}
+use Rattle.pb_language.specs.Expression.{expression, Parts, no_parts, part}
 
 -- the names whose paths read what lies outside a host's variables
 abbrev pub shared_names : List Name

@@ -1,12 +1,15 @@
--- What a task does at its Start: for each item a skip, a call of its module with the arguments, or what its action does (Ansible's pages on loops and conditionals).
+-- What a task does at its Start: for each item a skip, a call of its module with the arguments, or
+-- what its action does (Ansible's pages on loops and conditionals).
 use Rattle.std.specs.Prelude.{ℕ, ◌+◌, List, [], ◌∷◌, Bool, true, false, Option, Some, None, codes}
-use Rattle.pb_semantics.specs.Data.{Data, Items, Fields, boolean, text, list, rec, no_items, item, no_fields, field}
+use Rattle.pb_semantics.specs.Data.{Data, Items, Fields, boolean, text, list, rec, no_items, item}
+use Rattle.pb_semantics.specs.Data.{no_fields, field}
 use Rattle.pb_semantics.specs.Kind.{Shape, ok_shape, failure_shape}
 use Rattle.pb_semantics.specs.Keeps.{keeps}
 use Rattle.pb_semantics.specs.Signature.{ParameterData}
 use Rattle.pb_language.specs.Expression.{Name, Expression, Parts, no_parts, part}
 use Rattle.pb_language.specs.World.{World}
-use Rattle.pb_language.specs.Evaluation.{Stuck, wrong_sort, Outcome, value, stuck, then_go, put_part, given, eval, eval_all, eval_parts}
+use Rattle.pb_language.specs.Evaluation.{Stuck, wrong_sort, Outcome, value, stuck, then_go}
+use Rattle.pb_language.specs.Evaluation.{put_part, given, eval, eval_all, eval_parts}
 use Rattle.pb_language.specs.Task.{Action, call_of, debug, set_fact, assertion, failure_of, Task}
 use Rattle.pb_language.specs.Setting.{with_local}
 use Rattle.pb_language.specs.Judgement.{parameter_kind}
@@ -38,7 +41,8 @@ kept_argument false n d o = stuck wrong_sort
 
 abbrev pub eval_arguments : World → List ParameterData → Parts → Outcome
 eval_arguments w ps no_parts = value (rec no_fields)
-eval_arguments w ps (part n e qs) = then_go (eval w e) (λ d. kept_argument (keeps d (parameter_kind n ps)) n d (eval_arguments w ps qs))
+eval_arguments w ps (part n e qs) = then_go (eval w e)
+    (λ d. kept_argument (keeps d (parameter_kind n ps)) n d (eval_arguments w ps qs))
 
 abbrev pub only_text : Data → Outcome
 only_text (text s) = value (text s)
@@ -64,7 +68,8 @@ made_with (value d) go = go d
 made_with (stuck s) go = unmade s
 
 abbrev pub asserted : Data → Data → Made
-asserted m (boolean true) = made (acts ok_shape (unchanged_with (text (codes "All assertions passed"))) no_changes)
+asserted m (boolean true) =
+    made (acts ok_shape (unchanged_with (text (codes "All assertions passed"))) no_changes)
 asserted m (boolean false) = made (acts failure_shape (unchanged_with m) no_changes)
 asserted m d = unmade wrong_sort
 
@@ -78,10 +83,13 @@ set_by d = unmade wrong_sort
 
 abbrev pub eval_action : World → Action → Made
 eval_action w (call_of m ps) = made_with (eval_arguments w m.params ps) (λ d. made (calls d))
-eval_action w (debug e) = made_with (then_go (eval w e) given) (λ d. made (acts ok_shape unchanged no_changes))
+eval_action w (debug e) =
+    made_with (then_go (eval w e) given) (λ d. made (acts ok_shape unchanged no_changes))
 eval_action w (set_fact ps) = made_with (eval_parts w ps) set_by
-eval_action w (assertion es o) = made_with (eval_text_or w (codes "Assertion failed") o) (λ m. made_with (eval_all w es) (asserted m))
-eval_action w (failure_of o) = made_with (eval_text_or w (codes "Failed as requested from task") o) (λ m. made (acts failure_shape (unchanged_with m) no_changes))
+eval_action w (assertion es o) = made_with (eval_text_or w (codes "Assertion failed") o)
+    (λ m. made_with (eval_all w es) (asserted m))
+eval_action w (failure_of o) = made_with (eval_text_or w (codes "Failed as requested from task") o)
+    (λ m. made (acts failure_shape (unchanged_with m) no_changes))
 
 abbrev pub on_condition : Made → Data → Made
 on_condition m (boolean true) = m
@@ -102,7 +110,8 @@ with_pass o (made x) (planned ps) = planned (record { item = o; entry = x } ∷ 
 
 abbrev pub plan_items : World → Task → Items → Plan
 plan_items w t no_items = planned []
-plan_items w t (item d ds) = with_pass (Some d) (eval_item (with_local_item w (Some d)) t) (plan_items w t ds)
+plan_items w t (item d ds) =
+    with_pass (Some d) (eval_item (with_local_item w (Some d)) t) (plan_items w t ds)
 
 abbrev pub plan_loop : World → Task → Outcome → Plan
 plan_loop w t (value (list ds)) = plan_items w t ds

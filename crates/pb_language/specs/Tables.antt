@@ -1,14 +1,18 @@
--- What the walks of all hosts give: each host's variables as others see them, what a host has at its later places, and how long loops are (this project's own).
-use Rattle.std.specs.Prelude.{ℕ, zero, suc, ◌+◌, max, List, [], ◌∷◌, Bool, true, false, not, ◌&&◌, ◌||◌, nat_le, nat_eq, cond, Option, Some, None}
+-- What the walks of all hosts give: each host's variables as others see them, what a host has at
+-- its later places, and how long loops are (this project's own).
+use Rattle.std.specs.Prelude.{ℕ, zero, suc, ◌+◌, max, List, [], ◌∷◌, Bool, true, false, not, ◌&&◌}
+use Rattle.std.specs.Prelude.{◌||◌, nat_le, nat_eq, cond, Option, Some, None}
 use Rattle.pb_semantics.specs.Kind.{KindData, Slots, Spot, no_slots, slot, nowhere, spot, slot_at}
 use Rattle.pb_semantics.specs.Join.{join}
 use Rattle.pb_semantics.specs.Below.{below}
 use Rattle.pb_semantics.specs.Keeps.{is_among}
 use Rattle.pb_language.specs.Expression.{Name, Expression}
 use Rattle.pb_language.specs.World.{HostVariables}
-use Rattle.pb_language.specs.Scope.{spot_kind, is_certain, with_spot, Since, no_since, since, every_name, View, view_of, Later}
+use Rattle.pb_language.specs.Scope.{spot_kind, is_certain, with_spot, Since, no_since, since}
+use Rattle.pb_language.specs.Scope.{every_name, View, view_of, Later}
 use Rattle.pb_language.specs.Kinds.{known_slots}
-use Rattle.pb_language.specs.Task.{Action, call_of, debug, set_fact, assertion, failure_of, Task, Handlers, no_handlers, handler, Row, end, task, flush, block}
+use Rattle.pb_language.specs.Task.{Action, call_of, debug, set_fact, assertion, failure_of, Task}
+use Rattle.pb_language.specs.Task.{Handlers, no_handlers, handler, Row, end, task, flush, block}
 use Rattle.pb_language.specs.Cases.{Sets, no_sets, sets}
 use Rattle.pb_language.specs.Judgement.{Exit, dead, live, task_writes, loop_length}
 use Rattle.pb_language.specs.Walk.{Visit, Walked, walk}
@@ -30,20 +34,30 @@ other_laters (l ∷ ls) = ls
 abbrev pub then_plays : Play → Walked → (Exit → List PlayWalk) → List PlayWalk
 then_plays p w go = record { play = p; walked = w } ∷ go w.well
 
--- a host's way through the plays that name it, from where the one before it ends; there is an entry of `laters` for each play
-abbrev pub plays_walked : Inventory → List View → Name → Exit → Program → List (List Later) → List PlayWalk
+-- a host's way through the plays that name it, from where the one before it ends; there is an entry
+-- of `laters` for each play
+abbrev pub plays_walked : Inventory → List View → Name → Exit → Program → List (List Later)
+    → List PlayWalk
 plays_walked inventory views h e [] ls = []
 plays_walked inventory views h e (p ∷ ps) ls =
-    cond (is_among h p.hosts) (then_plays p (walk (setting_of inventory p views (first_laters ls) h) p.row e) (λ x. plays_walked inventory views h x ps (other_laters ls)))
+    cond (is_among h p.hosts)
+    (then_plays p (walk (setting_of inventory p views (first_laters ls) h) p.row e)
+    (λ x. plays_walked inventory views h x ps (other_laters ls)))
     (plays_walked inventory views h e ps (other_laters ls))
 
 pub record HostWalk : Type 0 where
   pub host : Name
   pub plays : List PlayWalk
 
-abbrev pub hosts_walked : Inventory → List View → Program → List (List Later) → List HostVariables → List HostWalk
+abbrev pub hosts_walked : Inventory → List View → Program → List (List Later) → List HostVariables
+    → List HostWalk
 hosts_walked inventory views ps ls [] = []
-hosts_walked inventory views ps ls (x ∷ xs) = record { host = x.name; plays = plays_walked inventory views x.name (live (known_slots x.variables)) ps ls } ∷ hosts_walked inventory views ps ls xs
+hosts_walked inventory views ps ls
+    (x ∷ xs) = record {
+      host = x.name;
+      plays = plays_walked inventory views x.name
+          (live (known_slots x.variables)) ps ls;
+    } ∷ hosts_walked inventory views ps ls xs
 
 abbrev pub all_walked : Inventory → Program → List View → List (List Later) → List HostWalk
 all_walked inventory ps views ls = hosts_walked inventory views ps ls inventory.hosts
@@ -68,7 +82,8 @@ with_plays (w ∷ ws) ss = with_plays ws (with_visits w.walked.visits ss)
 -- a view with all writes of the host's way
 abbrev pub next_views : List HostWalk → List View → List View
 next_views [] vs = []
-next_views (w ∷ ws) vs = record { host = w.host; slots = with_plays w.plays (view_of w.host vs) } ∷ next_views ws vs
+next_views (w ∷ ws) vs =
+    record { host = w.host; slots = with_plays w.plays (view_of w.host vs) } ∷ next_views ws vs
 
 abbrev pub known_views : List HostVariables → List View
 known_views [] = []
@@ -89,7 +104,8 @@ writes_below (sets n a k r) ss = below k (spot_kind (slot_at n ss)) && writes_be
 
 abbrev pub visits_below : List Visit → Slots → Bool
 visits_below [] ss = true
-visits_below (v ∷ vs) ss = writes_below (task_writes v.setting v.visited v.env) ss && visits_below vs ss
+visits_below (v ∷ vs) ss =
+    writes_below (task_writes v.setting v.visited v.env) ss && visits_below vs ss
 
 abbrev pub plays_below : List PlayWalk → Slots → Bool
 plays_below [] ss = true
@@ -103,7 +119,8 @@ are_settled (w ∷ ws) vs = plays_below w.plays (view_of w.host vs) && are_settl
 -- the first place from which on the name is certain in each environment
 abbrev pub certain_from : Name → List Visit → ℕ
 certain_from n [] = 0
-certain_from n (v ∷ vs) = cond (is_certain (slot_at n v.env)) (certain_from n vs) (max (suc v.visited.place) (certain_from n vs))
+certain_from n (v ∷ vs) = cond (is_certain (slot_at n v.env)) (certain_from n vs)
+    (max (suc v.visited.place) (certain_from n vs))
 
 abbrev pub past_places : List Visit → ℕ
 past_places [] = 0
@@ -112,14 +129,16 @@ past_places (v ∷ vs) = max (suc v.visited.place) (past_places vs)
 -- the environment of the latest place
 abbrev pub latest_env : ℕ → Slots → List Visit → Slots
 latest_env p ss [] = ss
-latest_env p ss (v ∷ vs) = cond (nat_le p v.visited.place) (latest_env v.visited.place v.env vs) (latest_env p ss vs)
+latest_env p ss (v ∷ vs) =
+    cond (nat_le p v.visited.place) (latest_env v.visited.place v.env vs) (latest_env p ss vs)
 
 abbrev pub names_since : List Visit → Slots → Since → Since
 names_since vs no_slots l = l
 names_since vs (slot n true k ss) l = since n (certain_from n vs) (names_since vs ss l)
 names_since vs (slot n false k ss) l = names_since vs ss l
 
--- the names that are certain in each environment of the place or a later one, and at the play's end; where there is no such environment it is every name
+-- the names that are certain in each environment of the place or a later one, and at the play's
+-- end; where there is no such environment it is every name
 abbrev pub since_of : List Visit → Exit → Since
 since_of vs (live env) = names_since vs env no_since
 since_of vs dead = names_since vs (latest_env 0 no_slots vs) (every_name (past_places vs) no_since)
@@ -136,11 +155,19 @@ after_first true (w ∷ ws) = ws
 
 abbrev pub play_laters : Play → List HostWalk → List Later
 play_laters p [] = []
-play_laters p (w ∷ ws) = record { host = w.host; names = cond (is_among w.host p.hosts) (since_first w.plays) (every_name 0 no_since) } ∷ play_laters p ws
+play_laters p (w ∷ ws) = record {
+  host = w.host;
+  names = cond (is_among w.host p.hosts)
+      (since_first w.plays) (every_name 0 no_since);
+} ∷ play_laters p ws
 
 abbrev pub walks_after : Play → List HostWalk → List HostWalk
 walks_after p [] = []
-walks_after p (w ∷ ws) = record { host = w.host; plays = after_first (is_among w.host p.hosts) w.plays } ∷ walks_after p ws
+walks_after p (w ∷ ws) = record {
+  host = w.host;
+  plays = after_first (is_among w.host p.hosts)
+      w.plays;
+} ∷ walks_after p ws
 
 -- for each play what each host has at its later places; nothing under `free`
 abbrev pub laters_of : Program → List HostWalk → List (List Later)
@@ -150,7 +177,8 @@ laters_of (p ∷ ps) ws = cond p.is_linear (play_laters p ws) [] ∷ laters_of p
 -- an environment has what it should have at this place
 abbrev pub has_since : ℕ → Since → Slots → Bool
 has_since p no_since env = true
-has_since p (since n q l) env = (not (nat_le q p) || is_certain (slot_at n env)) && has_since p l env
+has_since p (since n q l) env =
+    (not (nat_le q p) || is_certain (slot_at n env)) && has_since p l env
 has_since p (every_name q l) env = not (nat_le q p) && has_since p l env
 
 -- and at the play's end
@@ -162,7 +190,9 @@ has_all (every_name q l) env = false
 -- the greatest number of items of the place's loop over the environments that reach it
 abbrev pub greatest_length : ℕ → Expression → List Visit → ℕ
 greatest_length p e [] = 0
-greatest_length p e (v ∷ vs) = cond (nat_eq p v.visited.place) (max (loop_length v.setting v.visited v.env (Some e)) (greatest_length p e vs)) (greatest_length p e vs)
+greatest_length p e (v ∷ vs) = cond (nat_eq p v.visited.place)
+    (max (loop_length v.setting v.visited v.env (Some e)) (greatest_length p e vs))
+    (greatest_length p e vs)
 
 abbrev pub place_length : Task → Option Expression → List Visit → ℕ
 place_length t None vs = 1
@@ -185,7 +215,8 @@ abbrev pub row_calls : List Visit → Row → ℕ
 row_calls vs end = 0
 row_calls vs (task t row) = place_calls vs t t.action + row_calls vs row
 row_calls vs (flush hs row) = flush_calls vs hs + row_calls vs row
-row_calls vs (block d body saves rescued always row) = row_calls vs body + (row_calls vs rescued + (row_calls vs always + row_calls vs row))
+row_calls vs (block d body saves rescued always row) =
+    row_calls vs body + (row_calls vs rescued + (row_calls vs always + row_calls vs row))
 
 abbrev pub plays_calls : List PlayWalk → ℕ
 plays_calls [] = 0

@@ -1,4 +1,5 @@
--- The tasks of a play as they run: a block's keywords stand at each task in it (Ansible's pages on tasks and blocks).
+-- The tasks of a play as they run: a block's keywords stand at each task in it (Ansible's pages on
+-- tasks and blocks).
 use Rattle.std.specs.Prelude.{ℕ, List, Bool, Option}
 use Rattle.pb_semantics.specs.Signature.{ModuleData}
 use Rattle.pb_language.specs.Expression.{Name, Expression, Expressions, Parts}
@@ -33,7 +34,8 @@ pub data Handlers : Type 0 where
   no_handlers : Handlers
   handler : ℕ → Task → Handlers → Handlers
 
--- a row of tasks, flushes and blocks; a block has the number of `rescue` parts round it, a body, perhaps a rescue, an always, and what follows it
+-- a row of tasks, flushes and blocks; a block has the number of `rescue` parts round it, a body,
+-- perhaps a rescue, an always, and what follows it
 pub data Row : Type 0 where
   end : Row
   task : Task → Row → Row

@@ -1,5 +1,6 @@
 -- What holds of every accepted book, whatever happens.
-use Rattle.std.specs.Prelude.{◌≡◌, ◌≤◌, ◌⊎◌, ℕ, suc, ◌+◌, ◌*◌, List, [], ◌∷◌, Bool, true, false, not, ◌&&◌, length}
+use Rattle.std.specs.Prelude.{◌≡◌, ◌≤◌, ◌⊎◌, ℕ, suc, ◌+◌, ◌*◌, List, [], ◌∷◌, Bool, true, false}
+use Rattle.std.specs.Prelude.{not, ◌&&◌, length}
 use Rattle.pb_semantics.specs.Keeps.{is_among}
 use Rattle.pb_language.specs.Expression.{Name}
 use Rattle.pb_language.specs.World.{HostVariables}
@@ -10,7 +11,8 @@ use Rattle.pb_language.specs.Task.{Handlers, no_handlers, handler, Row, end, tas
 use Rattle.pb_language.specs.Tables.{all_walked, views_after}
 use Rattle.pb_language.specs.Verdict.{accepted, all_have, found_laters}
 use Rattle.pb_language.specs.Judged.{judged}
-use Rattle.pb_language.specs.Machine.{Event, start, turn, Host, State, is_out, enabled, history, opening, run}
+use Rattle.pb_language.specs.Machine.{Event, start, turn, Host, State, is_out, enabled, history}
+use Rattle.pb_language.specs.Machine.{opening, run}
 
 -- no host stands twice in the inventory
 abbrev pub host_names : List HostVariables → List Name
@@ -25,13 +27,18 @@ are_distinct (n ∷ ns) = not (is_among n ns) && are_distinct ns
 abbrev pub run_of : Registry → Inventory → Book → ℕ → List Event → State
 run_of ms inventory b forks es = run (program_of ms inventory b) inventory forks es
 
--- whatever the events, no step of an accepted book is stuck: it meets no undefined variable, no missing field, no value of the wrong kind and no unknown handler
+-- whatever the events, no step of an accepted book is stuck: it meets no undefined variable, no
+-- missing field, no value of the wrong kind and no unknown handler
 abbrev pub NeverStuck : Type 0
-NeverStuck = (ms : Registry) (inventory : Inventory) (b : Book) (n forks : ℕ) (es : List Event) → are_distinct (host_names inventory.hosts) ≡ true → judged ms inventory b ≡ accepted n → (run_of ms inventory b forks es).is_stuck ≡ false
+NeverStuck = (ms : Registry) (inventory : Inventory) (b : Book) (n forks : ℕ) (es : List Event)
+    → are_distinct (host_names inventory.hosts) ≡ true → judged ms inventory b ≡ accepted n
+    → (run_of ms inventory b forks es).is_stuck ≡ false
 
 -- and the calls that were handed out are at most the budget
 abbrev pub WithinBudget : Type 0
-WithinBudget = (ms : Registry) (inventory : Inventory) (b : Book) (n forks : ℕ) (es : List Event) → are_distinct (host_names inventory.hosts) ≡ true → judged ms inventory b ≡ accepted n → (run_of ms inventory b forks es).handed ≤ n
+WithinBudget = (ms : Registry) (inventory : Inventory) (b : Book) (n forks : ℕ) (es : List Event)
+    → are_distinct (host_names inventory.hosts) ≡ true → judged ms inventory b ≡ accepted n
+    → (run_of ms inventory b forks es).handed ≤ n
 
 abbrev pub none_out : List Host → Bool
 none_out [] = true
@@ -40,11 +47,15 @@ none_out (h ∷ hs) = not (is_out h.stage) && none_out hs
 abbrev pub CanGoOn : State → Type 0
 CanGoOn s = ((k : ℕ) × (enabled s (start k) ≡ true)) ⊎ (enabled s turn ≡ true)
 
--- a run that hasn't ended, isn't stopped and has no job out can start a task or turn to the next batch
+-- a run that hasn't ended, isn't stopped and has no job out can start a task or turn to the next
+-- batch
 abbrev pub Progress : Type 0
-Progress = (ms : Registry) (inventory : Inventory) (b : Book) (forks : ℕ) (es : List Event) → 1 ≤ forks → (s : State) → s ≡ run_of ms inventory b forks es → s.is_stopped ≡ false → (s.batches ≡ [] → false ≡ true) → none_out s.hosts ≡ true → CanGoOn s
+Progress = (ms : Registry) (inventory : Inventory) (b : Book) (forks : ℕ) (es : List Event)
+    → 1 ≤ forks → (s : State) → s ≡ run_of ms inventory b forks es → s.is_stopped ≡ false
+    → (s.batches ≡ [] → false ≡ true) → none_out s.hosts ≡ true → CanGoOn s
 
--- the places of a row: one for each task, and at each flush one for each handler; an `always` part has one set of places for both its modes
+-- the places of a row: one for each task, and at each flush one for each handler; an `always` part
+-- has one set of places for both its modes
 abbrev pub handler_places : Handlers → ℕ
 handler_places no_handlers = 0
 handler_places (handler n t hs) = suc (handler_places hs)
@@ -53,19 +64,28 @@ abbrev pub places_of : Row → ℕ
 places_of end = 0
 places_of (task t row) = suc (places_of row)
 places_of (flush hs row) = handler_places hs + places_of row
-places_of (block d body saves rescued always row) = places_of body + (places_of rescued + (places_of always + places_of row))
+places_of (block d body saves rescued always row) =
+    places_of body + (places_of rescued + (places_of always + places_of row))
 
 -- an occurrence is a host of a batch and a place of its play
 abbrev pub occurrences : List Batch → ℕ
 occurrences [] = 0
 occurrences (b ∷ bs) = length b.members * places_of b.play.row + occurrences bs
 
--- whatever the events, few of them are enabled: two for each occurrence, one for each batch, and one Stop
+-- whatever the events, few of them are enabled: two for each occurrence, one for each batch, and
+-- one Stop
 abbrev pub ShortHistory : Type 0
-ShortHistory = (ms : Registry) (inventory : Inventory) (b : Book) (n forks : ℕ) (es : List Event) → are_distinct (host_names inventory.hosts) ≡ true → judged ms inventory b ≡ accepted n
-    → length (history (opening (program_of ms inventory b) inventory forks) es) ≤ 2 * occurrences (all_batches (program_of ms inventory b)) + length (all_batches (program_of ms inventory b)) + 1
+ShortHistory = (ms : Registry) (inventory : Inventory) (b : Book) (n forks : ℕ) (es : List Event)
+    → are_distinct (host_names inventory.hosts) ≡ true → judged ms inventory b ≡ accepted n
+    → length (history (opening (program_of ms inventory b) inventory forks) es) ≤ 2
+    * occurrences (all_batches (program_of ms inventory b))
+    + length (all_batches (program_of ms inventory b)) + 1
 
--- what the first walk says of later places is so in the walk with each table; so this never keeps a book from being accepted
+-- what the first walk says of later places is so in the walk with each table; so this never keeps a
+-- book from being accepted
 abbrev pub LatersHold : Type 0
-LatersHold = (ps : Program) (inventory : Inventory) (r : ℕ) → are_distinct (host_names inventory.hosts) ≡ true
-    → all_have ps (found_laters ps inventory) (all_walked inventory ps (views_after r inventory ps (found_laters ps inventory)) (found_laters ps inventory)) ≡ true
+LatersHold = (ps : Program) (inventory : Inventory) (r : ℕ)
+    → are_distinct (host_names inventory.hosts) ≡ true
+    → all_have ps (found_laters ps inventory)
+    (all_walked inventory ps (views_after r inventory ps (found_laters ps inventory))
+    (found_laters ps inventory)) ≡ true

@@ -1,5 +1,6 @@
 -- The tokens of an expression's text.
-use Rattle.std.specs.Prelude.{ℕ, ℤ, pos, neg_ℤ, List, [], ◌∷◌, ◌++◌, Bool, true, false, ◌&&◌, ◌||◌, ◌==◌, cond, nat_le, Option, Some, None, codes}
+use Rattle.std.specs.Prelude.{ℕ, ℤ, pos, neg_ℤ, List, [], ◌∷◌, ◌++◌, Bool, true, false, ◌&&◌, ◌||◌}
+use Rattle.std.specs.Prelude.{◌==◌, cond, nat_le, Option, Some, None, codes}
 use Rattle.std.specs.Str.{bytes_eq}
 use Rattle.std.specs.Str.Parse.{digits_value}
 use Rattle.pb_language.specs.Expression.{Name}
@@ -70,10 +71,12 @@ is_numeral (b ∷ c ∷ bs) = (is_digit b && nat_le 49 b) && are_digits (c ∷ b
 
 -- a whole number of 64 bits: digits, and perhaps `-` before them
 abbrev pub positive : Name → Option ℤ
-positive ds = cond (is_numeral ds && nat_le (digits_value 10 ds) 9223372036854775807) (Some (pos (digits_value 10 ds))) None
+positive ds = cond (is_numeral ds && nat_le (digits_value 10 ds) 9223372036854775807)
+    (Some (pos (digits_value 10 ds))) None
 
 abbrev pub negative : Name → Option ℤ
-negative ds = cond (is_numeral ds && nat_le (digits_value 10 ds) 9223372036854775808) (Some (neg_ℤ (pos (digits_value 10 ds)))) None
+negative ds = cond (is_numeral ds && nat_le (digits_value 10 ds) 9223372036854775808)
+    (Some (neg_ℤ (pos (digits_value 10 ds)))) None
 
 abbrev pub number_of : Name → Option ℤ
 number_of [] = None
@@ -156,11 +159,15 @@ escaped (Some b) q w rest = rest (a_text q (w ++ (b ∷ [])))
 abbrev pub tokens_from : Begun → List ℕ → Tokens
 tokens_from p [] = ended p finish
 tokens_from nothing (b ∷ bs) = begins b (λ p. tokens_from p bs)
-tokens_from (a_word w) (b ∷ bs) = cond (is_letter b || is_digit b) (tokens_from (a_word (w ++ (b ∷ []))) bs) (ended (a_word w) (begins b (λ p. tokens_from p bs)))
-tokens_from (a_number w) (b ∷ bs) = cond (is_digit b) (tokens_from (a_number (w ++ (b ∷ []))) bs) (ended (a_number w) (begins b (λ p. tokens_from p bs)))
-tokens_from (a_text q w) (b ∷ bs) = cond (b == q) (token (quoted w) (tokens_from nothing bs)) (cond (b == 92) (tokens_from (an_escape q w) bs) (tokens_from (a_text q (w ++ (b ∷ []))) bs))
+tokens_from (a_word w) (b ∷ bs) = cond (is_letter b || is_digit b)
+    (tokens_from (a_word (w ++ (b ∷ []))) bs) (ended (a_word w) (begins b (λ p. tokens_from p bs)))
+tokens_from (a_number w) (b ∷ bs) = cond (is_digit b) (tokens_from (a_number (w ++ (b ∷ []))) bs)
+    (ended (a_number w) (begins b (λ p. tokens_from p bs)))
+tokens_from (a_text q w) (b ∷ bs) = cond (b == q) (token (quoted w) (tokens_from nothing bs))
+    (cond (b == 92) (tokens_from (an_escape q w) bs) (tokens_from (a_text q (w ++ (b ∷ []))) bs))
 tokens_from (an_escape q w) (b ∷ bs) = escaped (escape_of b) q w (λ p. tokens_from p bs)
-tokens_from (a_pair p) (b ∷ bs) = cond (b == 61) (token (sign (pair_of p)) (tokens_from nothing bs)) (ended (a_pair p) (begins b (λ q. tokens_from q bs)))
+tokens_from (a_pair p) (b ∷ bs) = cond (b == 61) (token (sign (pair_of p)) (tokens_from nothing bs))
+    (ended (a_pair p) (begins b (λ q. tokens_from q bs)))
 
 abbrev pub tokens_of : List ℕ → Tokens
 tokens_of bs = tokens_from nothing bs

@@ -1,13 +1,18 @@
 -- Verdicts, and the one on the ways of all hosts (this project's own).
-use Rattle.std.specs.Prelude.{ℕ, List, [], ◌∷◌, Bool, true, false, ◌&&◌, ◌||◌, nat_lt, nat_eq, cond, Option, Some, None, option_map}
+use Rattle.std.specs.Prelude.{ℕ, List, [], ◌∷◌, Bool, true, false, ◌&&◌, ◌||◌, nat_lt, nat_eq, cond}
+use Rattle.std.specs.Prelude.{Option, Some, None, option_map}
 use Rattle.pb_language.specs.Expression.{Name}
-use Rattle.pb_language.specs.Fit.{Fault, perhaps_undefined, perhaps_undefined_there, perhaps_missing, wrong_kind, unknown_name, unknown_handler, malformed}
+use Rattle.pb_language.specs.Fit.{Fault, perhaps_undefined, perhaps_undefined_there}
+use Rattle.pb_language.specs.Fit.{perhaps_missing, wrong_kind, unknown_name, unknown_handler}
+use Rattle.pb_language.specs.Fit.{malformed}
 use Rattle.pb_language.specs.Scope.{View, Since, Later, later_of}
 use Rattle.pb_language.specs.Judgement.{Exit, dead, live, task_fault}
 use Rattle.pb_language.specs.Walk.{Visit}
 use Rattle.pb_language.specs.Program.{Inventory, Program}
 use Rattle.pb_semantics.specs.Keeps.{is_among}
-use Rattle.pb_language.specs.Tables.{PlayWalk, HostWalk, first_laters, other_laters, all_walked, known_views, views_after, are_settled, laters_of, has_since, has_all, budget_of}
+use Rattle.pb_language.specs.Tables.{PlayWalk, HostWalk, first_laters, other_laters, all_walked}
+use Rattle.pb_language.specs.Tables.{known_views, views_after, are_settled, laters_of, has_since}
+use Rattle.pb_language.specs.Tables.{has_all, budget_of}
 
 -- the number of the V code, the line, and the host where one is named
 pub record Refusal : Type 0 where
@@ -45,7 +50,9 @@ earlier (Some q) None = Some q
 earlier (Some q) (Some r) = cond (nat_lt r.line q.line) (Some r) (Some q)
 
 abbrev pub visit_offence : Name → Visit → Option Refusal
-visit_offence h v = option_map (λ f. record { code = code_of f; line = v.visited.line; host = Some h }) (task_fault v.setting v.visited v.env)
+visit_offence h v = option_map
+    (λ f. record { code = code_of f; line = v.visited.line; host = Some h })
+    (task_fault v.setting v.visited v.env)
 
 abbrev pub visits_offence : Name → List Visit → Option Refusal
 visits_offence h [] = None
@@ -68,14 +75,18 @@ abbrev pub visits_have : Since → List Visit → Bool
 visits_have l [] = true
 visits_have l (v ∷ vs) = has_since v.visited.place l v.env && visits_have l vs
 
--- each environment of the host has what `laters` says that it has at its place, and at the play's end
+-- each environment of the host has what `laters` says that it has at its place, and at the play's
+-- end
 abbrev pub play_has : Name → List Later → PlayWalk → Bool
-play_has h ls w = visits_have (later_of h ls) w.walked.visits && exit_has (later_of h ls) w.walked.well
+play_has h ls w =
+    visits_have (later_of h ls) w.walked.visits && exit_has (later_of h ls) w.walked.well
 
 abbrev pub plays_have : Name → Program → List (List Later) → List PlayWalk → Bool
 plays_have h ps ls [] = true
 plays_have h [] ls (w ∷ ws) = true
-plays_have h (p ∷ ps) ls (w ∷ ws) = cond (is_among h p.hosts) (play_has h (first_laters ls) w && plays_have h ps (other_laters ls) ws) (plays_have h ps (other_laters ls) (w ∷ ws))
+plays_have h (p ∷ ps) ls (w ∷ ws) = cond (is_among h p.hosts)
+    (play_has h (first_laters ls) w && plays_have h ps (other_laters ls) ws)
+    (plays_have h ps (other_laters ls) (w ∷ ws))
 
 abbrev pub all_have : Program → List (List Later) → List HostWalk → Bool
 all_have ps ls [] = true
@@ -94,7 +105,8 @@ offence_verdict None v = v
 offence_verdict (Some r) v = refused r
 
 abbrev pub walked_verdict : List View → List HostWalk → Verdict
-walked_verdict views ws = offence_verdict (first_offence ws) (settled_verdict (are_settled ws views) (budget_of ws))
+walked_verdict views ws =
+    offence_verdict (first_offence ws) (settled_verdict (are_settled ws views) (budget_of ws))
 
 abbrev pub table_verdict : Inventory → Program → List View → List (List Later) → Verdict
 table_verdict inventory ps views ls = walked_verdict views (all_walked inventory ps views ls)

@@ -1,8 +1,10 @@
--- The environments of a row: one for each way to a task, and those of its two exits (this project's own).
+-- The environments of a row: one for each way to a task, and those of its two exits (this project's
+-- own).
 use Rattle.std.specs.Prelude.{List, [], ◌∷◌, ◌++◌, Bool, cond}
 use Rattle.pb_semantics.specs.Kind.{Slots}
 use Rattle.pb_semantics.specs.Join.{join_slots}
-use Rattle.pb_language.specs.Task.{Task, Handlers, no_handlers, handler, Row, end, task, flush, block}
+use Rattle.pb_language.specs.Task.{Task, Handlers, no_handlers, handler, Row, end, task, flush}
+use Rattle.pb_language.specs.Task.{block}
 use Rattle.pb_language.specs.Setting.{Setting}
 use Rattle.pb_language.specs.Judgement.{Exit, dead, live, going_exit, failing_exit}
 
@@ -48,7 +50,8 @@ then_walk w after = after_visits w.visits w.hurt (after w.well)
 -- a handler may have run or not
 abbrev pub flush_walk : Setting → Handlers → Exit → Walked
 flush_walk st no_handlers e = nothing_done e
-flush_walk st (handler n t hs) e = after_visits (visits_at st t e) (failing_from st t e) (flush_walk st hs (meet e (going_from st t e)))
+flush_walk st (handler n t hs) e = after_visits (visits_at st t e) (failing_from st t e)
+    (flush_walk st hs (meet e (going_from st t e)))
 
 -- of the body, the rescue, the always in each mode, and what follows
 abbrev pub whole_block : Walked → Walked → Walked → Walked → Walked → Walked
@@ -68,11 +71,15 @@ then_always w s always after = then_after w s (always (meet w.well s.well)) (alw
 abbrev pub unsaved : Exit → Walked
 unsaved e = record { visits = []; well = dead; hurt = e }
 
-abbrev pub then_rescue : Walked → Bool → (Exit → Walked) → (Exit → Walked) → (Exit → Walked) → Walked
-then_rescue w saves rescued always after = then_always w (cond saves (rescued w.hurt) (unsaved w.hurt)) always after
+abbrev pub then_rescue : Walked → Bool → (Exit → Walked) → (Exit → Walked) → (Exit → Walked)
+    → Walked
+then_rescue w saves rescued always after =
+    then_always w (cond saves (rescued w.hurt) (unsaved w.hurt)) always after
 
 abbrev pub walk : Setting → Row → Exit → Walked
 walk st end e = nothing_done e
-walk st (task t row) e = after_visits (visits_at st t e) (failing_from st t e) (walk st row (going_from st t e))
+walk st (task t row) e =
+    after_visits (visits_at st t e) (failing_from st t e) (walk st row (going_from st t e))
 walk st (flush hs row) e = then_walk (flush_walk st hs e) (walk st row)
-walk st (block d body saves rescued always row) e = then_rescue (walk st body e) saves (walk st rescued) (walk st always) (walk st row)
+walk st (block d body saves rescued always row) e =
+    then_rescue (walk st body e) saves (walk st rescued) (walk st always) (walk st row)

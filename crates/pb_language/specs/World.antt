@@ -1,4 +1,5 @@
--- What an expression is evaluated in (Ansible's pages on special variables and on facts and magic variables).
+-- What an expression is evaluated in (Ansible's pages on special variables and on facts and magic
+-- variables).
 use Rattle.std.specs.Prelude.{ℕ, zero, suc, List, [], ◌∷◌, cond, Option, Some, None}
 use Rattle.std.specs.Str.{bytes_eq}
 use Rattle.pb_semantics.specs.Data.{Fields, no_fields}
@@ -8,7 +9,8 @@ pub record Group : Type 0 where
   pub name : Name
   pub hosts : List Name
 
--- a host's variables as `hostvars` shows them: the inventory's, and what was registered, set or gathered
+-- a host's variables as `hostvars` shows them: the inventory's, and what was registered, set or
+-- gathered
 pub record HostVariables : Type 0 where
   pub name : Name
   pub variables : Fields

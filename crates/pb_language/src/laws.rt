@@ -5,7 +5,8 @@ ghost use Rattle.pb_language.specs.Theorem.{LatersHold, NeverStuck, Progress, Sh
 ghost use Rattle.pb_language.specs.Theorem.{WithinBudget};
 ghost use Rattle.pb_language.specs.Unwinding.{UnwindingWalks};
 
-/// An expression that is fit has a value in each world that knows the scope, and the value is of the expression's kind.
+/// An expression that is fit has a value in each world that knows the scope, and the value is of
+/// the expression's kind.
 pub fn fit_has_value()
     ensures { FitHasValue }
 {}
@@ -25,7 +26,8 @@ pub fn kinds_are_well()
     ensures { KindsAreWell }
 {}
 
-/// Whatever happens, in whatever order and with whatever answers: no step of an accepted book is stuck.
+/// Whatever happens, in whatever order and with whatever answers: no step of an accepted book is
+/// stuck.
 pub fn never_stuck()
     ensures { NeverStuck }
 {}
@@ -35,22 +37,26 @@ pub fn within_budget()
     ensures { WithinBudget }
 {}
 
-/// The rules by which blocks unwind, said of a row and the blocks open round it, walk the tree of ways that a run follows.
+/// The rules by which blocks unwind, said of a row and the blocks open round it, walk the tree of
+/// ways that a run follows.
 pub fn unwinding_walks()
     ensures { UnwindingWalks }
 {}
 
-/// With at least one fork, a run that hasn't ended, isn't stopped and has no job out can go on: a host can start its task, or the run can turn to the next batch or to its end.
+/// With at least one fork, a run that hasn't ended, isn't stopped and has no job out can go on: a
+/// host can start its task, or the run can turn to the next batch or to its end.
 pub fn progress()
     ensures { Progress }
 {}
 
-/// Few events of a run of an accepted book are enabled: at most two for each host of a batch and each place of its play, one for each batch, and one Stop.
+/// Few events of a run of an accepted book are enabled: at most two for each host of a batch and
+/// each place of its play, one for each batch, and one Stop.
 pub fn short_history()
     ensures { ShortHistory }
 {}
 
-/// What a first walk says of later places is so in the walk with each table of kinds: it never keeps a book from being accepted.
+/// What a first walk says of later places is so in the walk with each table of kinds: it never
+/// keeps a book from being accepted.
 pub fn laters_hold()
     ensures { LatersHold }
 {}

@@ -12,4 +12,8 @@ all_recaps [] = []
 all_recaps (h ∷ hs) = h.recap ∷ all_recaps hs
 
 abbrev pub recaps_of : Registry → Inventory → Book → ℕ → List (List Answer) → List Recap
-recaps_of ms inventory b forks answers = all_recaps (drive 400 (record { state = opening (program_of ms inventory b) inventory forks; answers = answers })).state.hosts
+recaps_of ms inventory b forks answers = all_recaps
+    (drive 400 (record {
+      state = opening (program_of ms inventory b) inventory forks;
+      answers = answers;
+    })).state.hosts

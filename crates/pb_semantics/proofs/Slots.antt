@@ -77,12 +77,13 @@ slot_below n ss (slot o a k ts) b m h i =
     let here = spot_below (λ j. below j k) a (slot_at o ss) in
     below_at (bytes_eq n o) n o a b k m (slot_at n ts) ss refl (and-left here (slots_below ss ts) h) (λ x. slot_below n ss ts b m (and-right here (slots_below ss ts) h) x) i
 
-own_spot : (q : Bool) (a : Bool) (k : KindData) (s : Spot) → q ≡ true → cond q (spot a k) s ≡ spot a k
+-- a name's own spot
+pub own_spot : (q : Bool) (a : Bool) (k : KindData) (s : Spot) → q ≡ true → cond q (spot a k) s ≡ spot a k
 own_spot true a k s h = refl
 own_spot false a k s h = untrue h
 
 -- a name that isn't listed is no other's
-later_spot : (q : Bool) (p n : List ℕ) (a b : Bool) (k m : KindData) (ss : Slots) → bytes_eq p n ≡ q → is_listed n ss ≡ false → slot_at p ss ≡ spot b m → cond q (spot a k) (slot_at p ss) ≡ spot b m
+pub later_spot : (q : Bool) (p n : List ℕ) (a b : Bool) (k m : KindData) (ss : Slots) → bytes_eq p n ≡ q → is_listed n ss ≡ false → slot_at p ss ≡ spot b m → cond q (spot a k) (slot_at p ss) ≡ spot b m
 later_spot true p n a b k m ss e h i =
     let x : slot_at n ss ≡ spot b m = rw (same_name p n e) at i in
     let y : slot_at n ss ≡ nowhere = unlisted_nowhere n ss h in

@@ -17,7 +17,8 @@ failed_of (Some d) = None
 
 -- an answer that doesn't say so has changed nothing
 abbrev pub changed_fields : Fields → Fields
-changed_fields fs = cond (is_some (field_value (codes "changed") fs)) fs (put_field (codes "changed") (boolean false) fs)
+changed_fields fs = cond (is_some (field_value (codes "changed") fs)) fs
+    (put_field (codes "changed") (boolean false) fs)
 
 -- the kept fields with how the answer ended; none kept is a breach
 abbrev pub ended : Bool → Option Data → AdmissionData

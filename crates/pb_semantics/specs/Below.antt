@@ -2,7 +2,10 @@
 use Rattle.std.specs.Prelude.{ℕ, List, [], ◌∷◌, Bool, true, false, not, ◌&&◌, ◌||◌, nat_le}
 use Rattle.std.specs.Str.{bytes_eq}
 use Rattle.pb_semantics.specs.Data.{bool_eq}
-use Rattle.pb_semantics.specs.Kind.{KindData, Slots, Cases, Spot, Shape, never, nulls, booleans, ints, texts, hosts, lists, recs, results, anything, no_slots, slot, no_cases, one, nowhere, spot, slot_at, is_listed, shape_eq}
+use Rattle.pb_semantics.specs.Kind.{KindData, Slots, Cases, Spot, Shape, never, nulls, booleans}
+use Rattle.pb_semantics.specs.Kind.{ints, texts, hosts, lists, recs, results, anything, no_slots}
+use Rattle.pb_semantics.specs.Kind.{slot, no_cases, one, nowhere, spot, slot_at, is_listed}
+use Rattle.pb_semantics.specs.Kind.{shape_eq}
 use Rattle.pb_semantics.specs.Keeps.{is_among}
 
 -- each name of the first is one of the second
@@ -46,7 +49,8 @@ abbrev mutual
   below (hosts ns) (hosts ms) = are_among ns ms
   below (lists k n) (lists m o) = nat_le n o && below k m
   below (recs ss) (recs ts) = names_among ss ts && slots_below ss ts
-  below (results cs r) (recs ts) = all_cases (λ m sh fl k. record_below (λ ss. names_among ss ts && slots_below ss ts) k) cs
+  below (results cs r) (recs ts) =
+      all_cases (λ m sh fl k. record_below (λ ss. names_among ss ts && slots_below ss ts) k) cs
   below (results cs r) (results ds q) = all_cases (λ m sh fl k. is_covered m sh fl k ds) cs
   below k m = false
 
@@ -57,4 +61,5 @@ abbrev mutual
   -- a case is one of the others
   pub is_covered : List ℕ → Shape → Bool → KindData → Cases → Bool
   is_covered m sh fl k no_cases = false
-  is_covered m sh fl k (one n sj fm j ds) = (same_case m sh fl n sj fm && below k j) || is_covered m sh fl k ds
+  is_covered m sh fl k (one n sj fm j ds) =
+      (same_case m sh fl n sj fm && below k j) || is_covered m sh fl k ds

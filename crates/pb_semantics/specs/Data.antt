@@ -32,7 +32,8 @@ field_value n (field m d fs) = cond (bytes_eq n m) (Some d) (field_value n fs)
 -- the record with that field, at its place in the order of the names' bytes
 abbrev pub put_field : List ℕ → Data → Fields → Fields
 put_field n d no_fields = field n d no_fields
-put_field n d (field m e fs) = match_ordering (slice_cmp nat_cmp n m) (field n d (field m e fs)) (field m d fs) (field m e (put_field n d fs))
+put_field n d (field m e fs) = match_ordering (slice_cmp nat_cmp n m) (field n d (field m e fs))
+    (field m d fs) (field m e (put_field n d fs))
 
 abbrev pub count_of : Items → ℕ
 count_of no_items = 0

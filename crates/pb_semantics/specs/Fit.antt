@@ -1,6 +1,7 @@
 -- Which kinds are that of all values, hold it at any depth, or have truth values alone.
 use Rattle.std.specs.Prelude.{Bool, true, false, ◌||◌}
-use Rattle.pb_semantics.specs.Kind.{KindData, Slots, Cases, never, booleans, lists, recs, results, anything, no_slots, slot, no_cases, one}
+use Rattle.pb_semantics.specs.Kind.{KindData, Slots, Cases, never, booleans, lists, recs, results}
+use Rattle.pb_semantics.specs.Kind.{anything, no_slots, slot, no_cases, one}
 
 abbrev pub is_any : KindData → Bool
 is_any anything = true

@@ -2,13 +2,16 @@
 use Rattle.std.specs.Prelude.{ℕ, List, [], ◌∷◌, Bool, false, ◌&&◌, cond, max}
 use Rattle.std.specs.Ordering.{nat_cmp, match_ordering}
 use Rattle.std.specs.Cmp.Lexicographic.{slice_cmp}
-use Rattle.pb_semantics.specs.Kind.{KindData, Slots, Cases, Spot, never, nulls, booleans, ints, texts, hosts, lists, recs, results, anything, no_slots, slot, no_cases, one, nowhere, spot, slot_at, is_listed, put_slot}
+use Rattle.pb_semantics.specs.Kind.{KindData, Slots, Cases, Spot, never, nulls, booleans, ints}
+use Rattle.pb_semantics.specs.Kind.{texts, hosts, lists, recs, results, anything, no_slots, slot}
+use Rattle.pb_semantics.specs.Kind.{no_cases, one, nowhere, spot, slot_at, is_listed, put_slot}
 use Rattle.pb_semantics.specs.Below.{is_covered}
 
 -- the names with that one, at its place in the order of the bytes
 abbrev pub put_name : List ℕ → List (List ℕ) → List (List ℕ)
 put_name n [] = n ∷ []
-put_name n (m ∷ ms) = match_ordering (slice_cmp nat_cmp n m) (n ∷ m ∷ ms) (m ∷ ms) (m ∷ put_name n ms)
+put_name n (m ∷ ms) =
+    match_ordering (slice_cmp nat_cmp n m) (n ∷ m ∷ ms) (m ∷ ms) (m ∷ put_name n ms)
 
 -- the second's names, and with them the first's
 abbrev pub add_names : List (List ℕ) → List (List ℕ) → List (List ℕ)
@@ -22,7 +25,8 @@ append_cases (one m sh fl k cs) ds = one m sh fl k (append_cases cs ds)
 -- the cases that aren't among the others
 abbrev pub new_cases : Cases → Cases → Cases
 new_cases no_cases cs = no_cases
-new_cases (one m sh fl k ds) cs = cond (is_covered m sh fl k cs) (new_cases ds cs) (one m sh fl k (new_cases ds cs))
+new_cases (one m sh fl k ds) cs =
+    cond (is_covered m sh fl k cs) (new_cases ds cs) (one m sh fl k (new_cases ds cs))
 
 -- the first's cases, then those of the second that are new
 abbrev pub add_cases : Cases → Cases → Cases
@@ -31,7 +35,8 @@ add_cases cs ds = append_cases cs (new_cases ds cs)
 -- the last with the first's slots put into it that the second doesn't list, none of them certain
 abbrev pub with_others : Slots → Slots → Slots → Slots
 with_others no_slots ss us = us
-with_others (slot n b m ts) ss us = with_others ts ss (cond (is_listed n ss) us (put_slot n false m us))
+with_others (slot n b m ts) ss us =
+    with_others ts ss (cond (is_listed n ss) us (put_slot n false m us))
 
 abbrev pub presence_with : Bool → Spot → Bool
 presence_with a nowhere = false
@@ -75,7 +80,8 @@ abbrev mutual
   -- the first's slots, each with what the second knows of it
   pub joined : Slots → Slots → Slots
   joined no_slots ts = no_slots
-  joined (slot n a k ss) ts = slot n (presence_with a (slot_at n ts)) (kind_with k (λ m. join k m) (slot_at n ts)) (joined ss ts)
+  joined (slot n a k ss) ts = slot n (presence_with a (slot_at n ts))
+      (kind_with k (λ m. join k m) (slot_at n ts)) (joined ss ts)
 
 -- where two environments meet
 abbrev pub join_slots : Slots → Slots → Slots

@@ -1,8 +1,14 @@
 -- Which values a kind has, by recursion over the kind.
-use Rattle.std.specs.Prelude.{◌≡◌, ℕ, List, [], ◌∷◌, Bool, true, false, not, ◌&&◌, ◌||◌, nat_le, Option, Some, None, option_map, codes}
+use Rattle.std.specs.Prelude.{◌≡◌, ℕ, List, [], ◌∷◌, Bool, true, false, not, ◌&&◌, ◌||◌, nat_le}
+use Rattle.std.specs.Prelude.{Option, Some, None, option_map, codes}
 use Rattle.std.specs.Str.{bytes_eq}
-use Rattle.pb_semantics.specs.Data.{Data, Items, Fields, null, boolean, int, text, list, rec, no_items, item, no_fields, field, field_value, count_of, bool_eq}
-use Rattle.pb_semantics.specs.Kind.{KindData, Slots, Cases, Shape, Spot, nulls, booleans, ints, texts, hosts, lists, recs, results, anything, no_slots, slot, no_cases, one, nowhere, spot, slot_at, is_listed, ok_shape, failure_shape, skipped_shape}
+use Rattle.pb_semantics.specs.Data.{Data, Items, Fields, null, boolean, int, text, list, rec}
+use Rattle.pb_semantics.specs.Data.{no_items, item, no_fields, field, field_value, count_of}
+use Rattle.pb_semantics.specs.Data.{bool_eq}
+use Rattle.pb_semantics.specs.Kind.{KindData, Slots, Cases, Shape, Spot, nulls, booleans, ints}
+use Rattle.pb_semantics.specs.Kind.{texts, hosts, lists, recs, results, anything, no_slots, slot}
+use Rattle.pb_semantics.specs.Kind.{no_cases, one, nowhere, spot, slot_at, is_listed, ok_shape}
+use Rattle.pb_semantics.specs.Kind.{failure_shape, skipped_shape}
 
 abbrev pub is_among : List ℕ → List (List ℕ) → Bool
 is_among n [] = false
@@ -27,11 +33,14 @@ flag_is b None = false
 flag_is b (Some (boolean c)) = bool_eq b c
 flag_is b (Some d) = false
 
--- the record has the case's failed status, and where the task was skipped it says so and is unchanged
+-- the record has the case's failed status, and where the task was skipped it says so and is
+-- unchanged
 abbrev pub has_status : Shape → Bool → Fields → Bool
 has_status ok_shape fl fs = flag_is fl (field_value (codes "failed") fs)
 has_status failure_shape fl fs = flag_is fl (field_value (codes "failed") fs)
-has_status skipped_shape fl fs = flag_is fl (field_value (codes "failed") fs) && (flag_is true (field_value (codes "skipped") fs) && flag_is false (field_value (codes "changed") fs))
+has_status skipped_shape fl fs = flag_is fl (field_value (codes "failed") fs)
+    && (flag_is true (field_value (codes "skipped") fs)
+    && flag_is false (field_value (codes "changed") fs))
 
 abbrev mutual
   pub keeps : Data → KindData → Bool
@@ -49,7 +58,8 @@ abbrev mutual
   -- each slot's field keeps its kind, and is there if it is certain
   pub slots_kept : Fields → Slots → Bool
   slots_kept fs no_slots = true
-  slots_kept fs (slot n a k ss) = filled a (option_map (λ d. keeps d k) (field_value n fs)) && slots_kept fs ss
+  slots_kept fs (slot n a k ss) =
+      filled a (option_map (λ d. keeps d k) (field_value n fs)) && slots_kept fs ss
 
   pub cases_kept : Fields → Cases → Bool
   cases_kept fs no_cases = false

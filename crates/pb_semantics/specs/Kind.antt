@@ -22,7 +22,8 @@ mutual
     -- a list of at most so many items of that kind
     lists : KindData → ℕ → KindData
     recs : Slots → KindData
-    -- a result of one of these cases, and what is known of all of them at once: the least record above each
+    -- a result of one of these cases, and what is known of all of them at once: the least record
+    -- above each
     results : Cases → KindData → KindData
     anything : KindData
 
@@ -57,7 +58,8 @@ is_listed n (slot m a k ss) = cond (bytes_eq n m) true (is_listed n ss)
 -- the slots with that one, at its place in the order of the names' bytes
 abbrev pub put_slot : List ℕ → Bool → KindData → Slots → Slots
 put_slot n a k no_slots = slot n a k no_slots
-put_slot n a k (slot m b j ss) = match_ordering (slice_cmp nat_cmp n m) (slot n a k (slot m b j ss)) (slot m a k ss) (slot m b j (put_slot n a k ss))
+put_slot n a k (slot m b j ss) = match_ordering (slice_cmp nat_cmp n m) (slot n a k (slot m b j ss))
+    (slot m a k ss) (slot m b j (put_slot n a k ss))
 
 abbrev pub is_skipped : Shape → Bool
 is_skipped ok_shape = false

@@ -21,27 +21,33 @@ BelowThrough = (j k m : KindData) → Well j → below j k ≡ true → below k 
 
 -- kinds that are below each other have the same values
 abbrev pub SameBothWays : Type 0
-SameBothWays = (k m : KindData) → below k m ≡ true → below m k ≡ true → (d : Data) → keeps d k ≡ keeps d m
+SameBothWays =
+    (k m : KindData) → below k m ≡ true → below m k ≡ true → (d : Data) → keeps d k ≡ keeps d m
 
 -- a join is above both
 abbrev pub JoinAbove : Type 0
-JoinAbove = (k m : KindData) → Well k → Well m → (below k (join k m) ≡ true) × (below m (join k m) ≡ true)
+JoinAbove =
+    (k m : KindData) → Well k → Well m → (below k (join k m) ≡ true) × (below m (join k m) ≡ true)
 
 -- and below each other kind that is above both
 abbrev pub JoinLeast : Type 0
-JoinLeast = (k m h : KindData) → Well k → Well m → below k h ≡ true → below m h ≡ true → below (join k m) h ≡ true
+JoinLeast = (k m h : KindData) → Well k → Well m → below k h ≡ true → below m h ≡ true
+    → below (join k m) h ≡ true
 
 abbrev pub JoinWell : Type 0
 JoinWell = (k m : KindData) → Well k → Well m → Well (join k m)
 
 -- variables that one of two environments knows are known where the two meet
 abbrev pub MeetModels : Type 0
-MeetModels = (fs : Fields) (ss ts : Slots) → Well (recs ss) → Well (recs ts) → (Models fs ss → Models fs (join_slots ss ts)) × (Models fs ts → Models fs (join_slots ss ts))
+MeetModels = (fs : Fields) (ss ts : Slots) → Well (recs ss) → Well (recs ts)
+    → (Models fs ss → Models fs (join_slots ss ts)) × (Models fs ts → Models fs (join_slots ss ts))
 
 -- the kind is well formed, since of a name that stands twice the first alone is seen
 abbrev pub ProjectedKeeps : Type 0
-ProjectedKeeps = (d : Data) (k : KindData) (e : Data) → Well k → projected d k ≡ Some e → keeps e k ≡ true
+ProjectedKeeps =
+    (d : Data) (k : KindData) (e : Data) → Well k → projected d k ≡ Some e → keeps e k ≡ true
 
 -- a value of the kind has a projection onto it, where no result is in the kind
 abbrev pub ProjectedOfKept : Type 0
-ProjectedOfKept = (d : Data) (k : KindData) → has_no_results k ≡ true → keeps d k ≡ true → projected d k ≢ None
+ProjectedOfKept =
+    (d : Data) (k : KindData) → has_no_results k ≡ true → keeps d k ≡ true → projected d k ≢ None

@@ -1,7 +1,11 @@
 -- Worked rows of the definitions, each named after what it shows.
-use Rattle.std.specs.Prelude.{◌≡◌, ℕ, pos, negsuc, List, [], ◌∷◌, Bool, true, false, Some, None, codes}
-use Rattle.pb_semantics.specs.Data.{Data, Fields, null, boolean, int, text, list, rec, opaque, no_items, item, no_fields, field, put_field}
-use Rattle.pb_semantics.specs.Kind.{Slots, Cases, never, nulls, booleans, ints, texts, hosts, lists, recs, results, anything, no_slots, slot, no_cases, one, ok_shape, failure_shape, skipped_shape}
+use Rattle.std.specs.Prelude.{◌≡◌, ℕ, pos, negsuc, List, [], ◌∷◌, Bool, true, false, Some, None}
+use Rattle.std.specs.Prelude.{codes}
+use Rattle.pb_semantics.specs.Data.{Data, Fields, null, boolean, int, text, list, rec, opaque}
+use Rattle.pb_semantics.specs.Data.{no_items, item, no_fields, field, put_field}
+use Rattle.pb_semantics.specs.Kind.{Slots, Cases, never, nulls, booleans, ints, texts, hosts, lists}
+use Rattle.pb_semantics.specs.Kind.{recs, results, anything, no_slots, slot, no_cases, one}
+use Rattle.pb_semantics.specs.Kind.{ok_shape, failure_shape, skipped_shape}
 use Rattle.pb_semantics.specs.Keeps.{keeps}
 use Rattle.pb_semantics.specs.Below.{below}
 use Rattle.pb_semantics.specs.Join.{join}
@@ -48,7 +52,8 @@ abbrev pub status : Slots
 status = slot (codes "failed") true booleans no_slots
 
 abbrev skips : Slots
-skips = slot (codes "changed") true booleans (slot (codes "failed") true booleans (slot (codes "skipped") true booleans no_slots))
+skips = slot (codes "changed") true booleans
+    (slot (codes "failed") true booleans (slot (codes "skipped") true booleans no_slots))
 
 abbrev went : Cases
 went = one ping ok_shape false (recs status) no_cases
@@ -63,7 +68,8 @@ abbrev any_way : Cases
 any_way = one ping ok_shape false (recs status) (one ping failure_shape true (recs status) no_cases)
 
 abbrev flags : Bool → Bool → Bool → Fields
-flags changed fails skips = field (codes "changed") (boolean changed) (field (codes "failed") (boolean fails) (field (codes "skipped") (boolean skips) no_fields))
+flags changed fails skips = field (codes "changed") (boolean changed)
+    (field (codes "failed") (boolean fails) (field (codes "skipped") (boolean skips) no_fields))
 
 abbrev fails : Bool → Data
 fails b = rec (field (codes "failed") (boolean b) no_fields)
@@ -85,9 +91,12 @@ pub record KeepsRows : Type 0 where
   pub result_of_another_status : keeps (fails true) (results went (recs status)) ≡ false
   pub result_of_either_case : keeps (fails true) (results any_way (recs status)) ≡ true
   pub result_of_no_case : keeps (fails true) (results no_cases never) ≡ false
-  pub result_that_was_skipped : keeps (rec (flags false false true)) (results skipped (recs skips)) ≡ true
-  pub skipped_result_that_changed : keeps (rec (flags true false true)) (results skipped (recs skips)) ≡ false
-  pub skipped_result_that_does_not_say_so : keeps (rec (flags false false false)) (results skipped (recs skips)) ≡ false
+  pub result_that_was_skipped : keeps (rec (flags false false true)) (results skipped (recs skips))
+      ≡ true
+  pub skipped_result_that_changed : keeps (rec (flags true false true))
+      (results skipped (recs skips)) ≡ false
+  pub skipped_result_that_does_not_say_so : keeps (rec (flags false false false))
+      (results skipped (recs skips)) ≡ false
   pub opaque_among_all : keeps opaque anything ≡ true
   pub opaque_is_no_text : keeps opaque texts ≡ false
   pub nothing_is_never : keeps null never ≡ false
@@ -113,22 +122,30 @@ pub record BelowRows : Type 0 where
   pub anything_is_highest : below (results any_way (recs status)) anything ≡ true
 
 pub record JoinRows : Type 0 where
-  pub hosts_of_both : join (hosts (web ∷ db ∷ [])) (hosts (cache ∷ db ∷ [])) ≡ hosts (cache ∷ db ∷ web ∷ [])
+  pub hosts_of_both : join (hosts (web ∷ db ∷ [])) (hosts (cache ∷ db ∷ []))
+      ≡ hosts (cache ∷ db ∷ web ∷ [])
   pub hosts_and_texts : join (hosts (web ∷ [])) texts ≡ texts
   pub lists_of_both : join (lists (hosts (web ∷ [])) 3) (lists texts 2) ≡ lists texts 3
-  pub field_in_one_only : join (recs (slot port true ints no_slots)) (recs (slot name true texts (slot port true ints no_slots))) ≡ recs service
-  pub field_of_two_kinds : join (recs (slot port true ints no_slots)) (recs (slot port true texts no_slots)) ≡ recs (slot port true anything no_slots)
-  pub result_and_record : join (results went (recs status)) (recs no_slots) ≡ recs (slot (codes "failed") false booleans no_slots)
-  pub record_and_result : join (recs no_slots) (results went (recs status)) ≡ recs (slot (codes "failed") false booleans no_slots)
-  pub cases_of_both : join (results went (recs status)) (results any_way (recs status)) ≡ results any_way (recs status)
+  pub field_in_one_only : join (recs (slot port true ints no_slots))
+      (recs (slot name true texts (slot port true ints no_slots))) ≡ recs service
+  pub field_of_two_kinds : join (recs (slot port true ints no_slots))
+      (recs (slot port true texts no_slots)) ≡ recs (slot port true anything no_slots)
+  pub result_and_record : join (results went (recs status)) (recs no_slots)
+      ≡ recs (slot (codes "failed") false booleans no_slots)
+  pub record_and_result : join (recs no_slots) (results went (recs status))
+      ≡ recs (slot (codes "failed") false booleans no_slots)
+  pub cases_of_both : join (results went (recs status)) (results any_way (recs status))
+      ≡ results any_way (recs status)
   pub never_and_another : join never texts ≡ texts
   pub two_kinds : join texts ints ≡ anything
 
 pub record ProjectRows : Type 0 where
-  pub field_too_many_is_dropped : projected (rec full) (recs (slot port true ints no_slots)) ≡ Some (rec unnamed)
+  pub field_too_many_is_dropped : projected (rec full) (recs (slot port true ints no_slots))
+      ≡ Some (rec unnamed)
   pub uncertain_field_may_be_missing : projected (rec unnamed) (recs service) ≡ Some (rec unnamed)
   pub certain_field_is_missing : projected (rec named) (recs service) ≡ None
-  pub field_of_another_kind : projected (rec (field port (text web) no_fields)) (recs service) ≡ None
+  pub field_of_another_kind : projected (rec (field port (text web) no_fields)) (recs service)
+      ≡ None
   pub kind_is_another : projected two texts ≡ None
   pub list_that_is_long : projected two (lists ints 1) ≡ None
 

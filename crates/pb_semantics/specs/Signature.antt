@@ -1,6 +1,7 @@
 -- What is known of a module, and which shapes its answers can have.
 use Rattle.std.specs.Prelude.{ℕ, List, Bool, true, false, not, ◌&&◌, Option, codes}
-use Rattle.pb_semantics.specs.Kind.{KindData, Slots, Spot, booleans, texts, lists, recs, results, no_slots, slot, spot, slot_at, is_listed}
+use Rattle.pb_semantics.specs.Kind.{KindData, Slots, Spot, booleans, texts, lists, recs, results}
+use Rattle.pb_semantics.specs.Kind.{no_slots, slot, spot, slot_at, is_listed}
 
 pub record ParameterData : Type 0 where
   pub name : List ℕ
@@ -37,7 +38,8 @@ is_certain_text s = false
 
 -- a record that holds no result, with `changed` always there, and no field `failed`
 abbrev pub is_shape : KindData → Bool
-is_shape (recs ss) = are_free ss && (is_certain_boolean (slot_at (codes "changed") ss) && not (is_listed (codes "failed") ss))
+is_shape (recs ss) = are_free ss
+    && (is_certain_boolean (slot_at (codes "changed") ss) && not (is_listed (codes "failed") ss))
 is_shape k = false
 
 abbrev pub has_message : KindData → Bool

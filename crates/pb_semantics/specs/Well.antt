@@ -1,6 +1,8 @@
--- Well formed kinds: names stand once, and what is known of all cases of a result is the least above each.
+-- Well formed kinds: names stand once, and what is known of all cases of a result is the least
+-- above each.
 use Rattle.std.specs.Prelude.{◌≡◌, Bool, true, false, not, ◌&&◌}
-use Rattle.pb_semantics.specs.Kind.{KindData, Slots, Cases, never, lists, recs, results, no_slots, slot, no_cases, one, is_listed}
+use Rattle.pb_semantics.specs.Kind.{KindData, Slots, Cases, never, lists, recs, results, no_slots}
+use Rattle.pb_semantics.specs.Kind.{slot, no_cases, one, is_listed}
 use Rattle.pb_semantics.specs.Below.{below, all_cases}
 
 -- no name stands twice

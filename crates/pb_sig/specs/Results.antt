@@ -9,7 +9,9 @@ use Rattle.pb_sig.specs.declared.results.Results.{Results}
 
 -- skipped, where that may be, or ok and not failed
 abbrev pub result_cases : Bool → Name → Slots → Cases
-result_cases may_skip n ss = append_cases (cond may_skip (one n skipped_shape false (recs skipped_slots) no_cases) no_cases) (ok_case n ss)
+result_cases may_skip n ss = append_cases
+    (cond may_skip (one n skipped_shape false (recs skipped_slots) no_cases) no_cases)
+    (ok_case n ss)
 
 -- the kind where the task may be skipped or not
 abbrev pub result_kind : Results → Bool → KindData

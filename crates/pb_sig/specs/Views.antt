@@ -5,4 +5,5 @@ use Rattle.pb_semantics.specs.Signature.{ParameterData}
 use Rattle.pb_sig.specs.declared.signature.Parameter.{Parameter}
 
 abbrev pub parameter_view : Parameter → ParameterData
-parameter_view p = record { name = string_bytes p.name; kind = kind_view p.kind; required = p.required }
+parameter_view p =
+    record { name = string_bytes p.name; kind = kind_view p.kind; required = p.required }

@@ -23,9 +23,9 @@ pub enum Admission {
     Breach,
 }
 
-/// Admits an answer. `failed`, false where it is absent, has to be a truth value, and says which shape
-/// counts; `changed` is false where it is absent. Fields that the shape doesn't name are dropped at
-/// every depth, and the rest has to keep the shape.
+/// Admits an answer. `failed`, false where it is absent, has to be a truth value, and says which
+/// shape counts; `changed` is false where it is absent. Fields that the shape doesn't name are
+/// dropped at every depth, and the rest has to keep the shape.
 pub fn admit<M: Module>(alloc: Global, source: &M, answer: &Value) -> Result<Admission, AllocError>
     ensures { IfOk result (λ a. admission_view a
         ≡ admission (M.meaning source.now).ok (M.meaning source.now).failure (view answer.now)) }

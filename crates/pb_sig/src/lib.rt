@@ -1,4 +1,5 @@
-// The modules that a task can name: their parameters, the shapes of their answers, and the admission of answers.
+// The modules that a task can name: their parameters, the shapes of their answers, and the
+// admission of answers.
 //
 //     let registry = Registry::builtin(alloc)?;
 //     if let Some(command) = registry.find("command") {

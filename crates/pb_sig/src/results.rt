@@ -23,7 +23,8 @@ pub struct Results {
 }
 
 impl Results {
-    /// Those of a module or an action of that name with these fields in its ok shape, which has no `failed`.
+    /// Those of a module or an action of that name with these fields in its ok shape, which has no
+    /// `failed`.
     pub fn of(alloc: Global, action: &str, ok: &Slots) -> Result<Results, AllocError>
         requires { is_listed (codes "failed") (slots_view ok.now.entries) ≡ false }
         ensures ran { IfOk result (λ r. result_kind r false
@@ -53,8 +54,8 @@ impl Results {
     }
 }
 
-/// The kind of the result of a task that fails, of a module of that name with these fields in its failed shape, which has
-/// no `failed`.
+/// The kind of the result of a task that fails, of a module of that name with these fields in its
+/// failed shape, which has no `failed`.
 pub fn failed_kind(alloc: Global, action: &str, failure: &Slots) -> Result<Kind, AllocError>
     requires { is_listed (codes "failed") (slots_view failure.now.entries) ≡ false }
     ensures { IfOk result (λ k. kind_view k

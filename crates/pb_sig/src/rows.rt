@@ -1,6 +1,6 @@
 // Records of kinds and lists of parameters, written as rows.
 ghost use Rattle.std.specs.Prelude.{◌≡◌, IfOk, map};
-ghost use Rattle.pb_semantics.specs.Words.{lists, no_slots, recs, texts};
+ghost use Rattle.pb_semantics.specs.Words.{lists, most_output_lines, no_slots, recs, texts};
 ghost use Rattle.pb_value.specs.Words.{kind_view};
 ghost use Rattle.pb_sig.specs.Views.{parameter_view};
 ghost use Rattle.pb_sig.specs.Rows.{row_parameter, with_rows};
@@ -80,7 +80,7 @@ pub fn may(name: &str, kind: Kind) -> Row<'_>
 
 /// The kind of the lines that a program wrote.
 pub fn lines(alloc: Global) -> Result<Kind, AllocError>
-    ensures { IfOk result (λ k. kind_view k ≡ lists texts 65536) }
+    ensures { IfOk result (λ k. kind_view k ≡ lists texts most_output_lines) }
 {
     Ok(Kind::List(Arc::new(alloc, Kind::Text)?, MOST_LINES))
 }

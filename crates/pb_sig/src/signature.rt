@@ -32,8 +32,8 @@ pub trait Module {
     fn params(&self) -> &[Parameter]
         ensures { map parameter_view result.now ≡ (meaning self.now).params };
 
-    /// The fields of an answer that isn't failed: a record that holds no result, with the truth value
-    /// `changed` always there, and without a field `failed`.
+    /// The fields of an answer that isn't failed: a record that holds no result, with the truth
+    /// value `changed` always there, and without a field `failed`.
     fn ok_shape(&self) -> &Kind
         ensures gives { kind_view result.now ≡ (meaning self.now).ok }
         ensures lawful { is_shape (kind_view result.now) ≡ true };

@@ -1,8 +1,9 @@
 -- Runs whose calls a file of answers answers.
-use Rattle.std.proofs.Common.{◌≡◌, List, [], ◌∷◌, Bool, true, false, refl, sym, ap, subst, ◌∙◌, inl, inr}
+use Rattle.std.proofs.Common.{◌≡◌, List, [], ◌∷◌, Bool, true, false, refl, sym, ap, subst, ◌∙◌, inl, inr, string_bytes}
+use Rattle.pb_language.specs.Give as language
 use Rattle.pb_strategy.specs.Drives.{AreAnswered, Drives, IsJobDone, ends, goes_on}
 use Rattle.pb_strategy.specs.History.{RunState}
-use Rattle.pb_strategy.specs.Scripts.{IsFromFile, IsScripted, answers_in}
+use Rattle.pb_strategy.specs.Scripts.{IsFromFile, IsScripted, IsWithheld, answers_in, scripted}
 use Rattle.pb_strategy.specs.declared.answer.Answer.{Answer}
 use Rattle.pb_strategy.specs.declared.answer.Call.{Call}
 use Rattle.pb_strategy.specs.declared.script.ScriptRunner.{ScriptRunner}
@@ -11,11 +12,16 @@ fine_before : (b c : Bool) → (b ≡ true → c ≡ true) → c ≡ false → b
 fine_before true c along fine = let no : ◌≡◌ {A = Bool} true false = sym (along refl) ∙ fine in cc
 fine_before false c along fine = refl
 
+fine_gives : (x : language.Answer) (a : Answer) (s : ScriptRunner) → IsWithheld x a s → s.is_short ≡ false → ⊥
+fine_gives (language.object d) a s short fine = let no : ◌≡◌ {A = Bool} true false = sym short.1 ∙ fine in cc
+fine_gives language.unreachable a s short fine = absurd short
+fine_gives language.broken a s short fine = absurd short
+
 -- a runner that isn't short after a call gave its file's answer
 from_file : (r : ScriptRunner) (c : Call) (a : Answer) (s : ScriptRunner) → IsScripted r c a s → s.is_short ≡ false → IsFromFile (answers_in r) r c a s
 from_file r c a s one fine = elim one.answer [
   | inl given ↦ given
-  | inr short ↦ let no : ◌≡◌ {A = Bool} true false = sym short.1 ∙ fine in cc
+  | inr short ↦ absurd (fine_gives (scripted (answers_in r) (string_bytes c.name.value) c.number) a s short fine)
 ]
 
 record AreFromFile (r : ScriptRunner) (cs : List Call) (xs : List Answer) (s : ScriptRunner) : Type 0 where

@@ -27,5 +27,7 @@ module _ {R : Type 0} (answers : R → Call → Answer → R → Type 0) where
 
   -- a run is driven: one job after the other is done, until there is none to take
   pub data Drives : RunState → R → RunState → R → Type 0 where
-    ends : {old new : RunState} {r : R} (t : Taken) → is_job t ≡ false → IsAfterTake t old new → Drives old r new r
-    goes_on : {old mid new : RunState} {r q s : R} → IsJobDone old r mid q → Drives mid q new s → Drives old r new s
+    ends : {old new : RunState} {r : R} (t : Taken) → is_job t ≡ false → IsAfterTake t old new
+        → Drives old r new r
+    goes_on : {old mid new : RunState} {r q s : R} → IsJobDone old r mid q → Drives mid q new s
+        → Drives old r new s

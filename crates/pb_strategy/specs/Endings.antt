@@ -1,5 +1,6 @@
 -- How a task's ending is named by the definitions.
-use Rattle.pb_language.specs.plain.Gives.{Came, came_went, came_skipped, came_failed, came_unreached}
+use Rattle.pb_language.specs.plain.Gives.{Came, came_went, came_skipped, came_failed}
+use Rattle.pb_language.specs.plain.Gives.{came_unreached}
 use Rattle.pb_strategy.specs.declared.recap.Ending.{Ending}
 use Rattle.pb_strategy.specs.declared.recap.Ending.TheVariants as ending
 

@@ -42,7 +42,15 @@ abbrev pub event_view : Event → machine.Event × List (Option Why)
 event_view e = (event_data e, whys_of e)
 
 abbrev pub recap_data : Recap → machine.Recap
-recap_data r = record { ok = r.ok; changed = r.changed; unreachable = r.unreachable; failed = r.failed; skipped = r.skipped; rescued = r.rescued; ignored = r.ignored }
+recap_data r = record {
+  ok = r.ok;
+  changed = r.changed;
+  unreachable = r.unreachable;
+  failed = r.failed;
+  skipped = r.skipped;
+  rescued = r.rescued;
+  ignored = r.ignored;
+}
 
 pub record CallData : Type 0 where
   -- the host's place in host order, and its name
@@ -54,4 +62,10 @@ pub record CallData : Type 0 where
   pub arguments : Data
 
 abbrev pub call_data : Call → CallData
-call_data c = record { host = c.host; name = string_bytes c.name.value; number = c.number; asked = string_bytes c.module.value; arguments = view c.args }
+call_data c = record {
+  host = c.host;
+  name = string_bytes c.name.value;
+  number = c.number;
+  asked = string_bytes c.module.value;
+  arguments = view c.args;
+}

@@ -1,5 +1,7 @@
--- A run as its callers see it: the accepted book, the fork count, what has happened, and what it came to.
-use Rattle.std.specs.Prelude.{◌≡◌, ℕ, ◌+◌, List, [], ◌∷◌, ◌++◌, Bool, true, false, ◌||◌, cond, length, map, replicate}
+-- A run as its callers see it: the accepted book, the fork count, what has happened, and what it
+-- came to.
+use Rattle.std.specs.Prelude.{◌≡◌, ℕ, ◌+◌, List, [], ◌∷◌, ◌++◌, Bool, true, false, ◌||◌, cond}
+use Rattle.std.specs.Prelude.{length, map, replicate}
 use Rattle.std.specs.Global.{Vec}
 use Rattle.pb_language.specs.Machine as language
 use Rattle.pb_language.specs.Machine.{State, enabled, step}
@@ -30,7 +32,14 @@ pub record RunState : Type 0 where
 
 -- a run in which nothing has happened yet
 abbrev pub opened : Accepted → ℕ → RunState
-opened a forks = record { checked = a; forks = forks; history = []; recaps = replicate (length (inventory_view a.inventory).hosts) nothing; handed = 0 }
+opened a forks = record {
+  checked = a;
+  forks = forks;
+  history = [];
+  recaps = replicate
+      (length (inventory_view a.inventory).hosts) nothing;
+  handed = 0;
+}
 
 -- where the definitions' machine stands after these events
 abbrev pub state_after : RunState → List Event → State
@@ -77,7 +86,8 @@ is_ended r = has_no_plays (plays_of r.checked.book) || is_turned r.history
 abbrev pub is_over : RunState → Bool
 is_over r = is_stopped r.history || is_ended r
 
--- what handing out a job records: its Start, whose place is the job's ticket; its calls are those of the task that the host is in then
+-- what handing out a job records: its Start, whose place is the job's ticket; its calls are those
+-- of the task that the host is in then
 pub record IsAfterJob (j : Job) (old new : RunState) : Type 0 where
   pub run : new ≡ record (after old (Start j.host)) { handed = old.handed + length j.calls.items }
   pub ticket : j.ticket ≡ length old.history
@@ -88,7 +98,8 @@ abbrev pub IsAfterTake : Taken → RunState → RunState → Type 0
 IsAfterTake (taken.Job j) old new = IsAfterJob j old new
 IsAfterTake taken.Idle old new = new ≡ old
 IsAfterTake taken.Stopped old new = new ≡ old
-IsAfterTake taken.Finished old new = new ≡ cond (enabled (state_of old) language.turn) (after old Turn) old
+IsAfterTake taken.Finished old new =
+    new ≡ cond (enabled (state_of old) language.turn) (after old Turn) old
 
 abbrev pub is_job : Taken → Bool
 is_job (taken.Job j) = true
@@ -103,8 +114,10 @@ IsAfterGive h answers old new = new ≡ record (after old (Give h answers)) { re
 -- those of the events that are enabled where they come
 abbrev pub enabled_of : State → List Event → List Event
 enabled_of s [] = []
-enabled_of s (e ∷ es) = cond (enabled s (event_data e)) (e ∷ enabled_of (step s (event_data e)) es) (enabled_of (step s (event_data e)) es)
+enabled_of s (e ∷ es) = cond (enabled s (event_data e)) (e ∷ enabled_of (step s (event_data e)) es)
+    (enabled_of (step s (event_data e)) es)
 
 -- the event is one more where it was enabled, and else passed over
 abbrev pub Follows : Event → RunState → RunState → Type 0
-Follows e old new = map event_view new.history ≡ map event_view old.history ++ cond (enabled (state_of old) (event_data e)) (event_view e ∷ []) []
+Follows e old new = map event_view new.history ≡ map event_view old.history
+    ++ cond (enabled (state_of old) (event_data e)) (event_view e ∷ []) []

@@ -1,5 +1,6 @@
 -- What the fields of a `Run` stand for.
-use Rattle.std.specs.Prelude.{◌≡◌, ◌<◌, ◌≤◌, ℕ, length, map, sum_by, List, [], ◌∷◌, vec_capacity, Bool, true, false, Option, None, get_or}
+use Rattle.std.specs.Prelude.{◌≡◌, ◌<◌, ◌≤◌, ℕ, length, map, sum_by, List, [], ◌∷◌, vec_capacity}
+use Rattle.std.specs.Prelude.{Bool, true, false, Option, None, get_or}
 use Rattle.pb_semantics.specs.Data.{rec}
 use Rattle.pb_language.specs.Give.{skip_fields}
 use Rattle.pb_language.specs.Machine.{history}
@@ -57,20 +58,24 @@ is_phase_ended phase.Going = false
 is_phase_ended phase.Ended = true
 is_phase_ended phase.Stopped = false
 
--- the run's one host is where the machine has it after the history, each event of which was enabled; the book was accepted
-pub record IsMachine (checked : Accepted) (forks : ℕ) (es : List Event) (hosts : List HostState) (phase : Phase) : Type 0 where
+-- the run's one host is where the machine has it after the history, each event of which was
+-- enabled; the book was accepted
+pub record IsMachine (checked : Accepted) (forks : ℕ) (es : List Event) (hosts : List HostState)
+    (phase : Phase) : Type 0 where
   pub host : HostState
   pub alone : hosts ≡ host ∷ []
-  pub at : IsAt (host_of checked) (tasks_in (plays_of checked.book)) host (plain_after checked forks es)
+  pub at : IsAt (host_of checked) (tasks_in (plays_of checked.book)) host
+      (plain_after checked forks es)
   pub ended : (plain_after checked forks es).is_over ≡ is_phase_ended phase
   pub stopped : (plain_after checked forks es).is_stopped ≡ is_phase_stopped phase
   pub enabled : history (run_of_accepted checked forks []) (map event_data es) ≡ map event_data es
   pub accepted : is_accepted checked ≡ true
   pub known : names_known (modules_of checked.registry) (plays_of checked.book) ≡ true
 
--- where anything can still happen there is room for one Stop; the run is stopped, or over, exactly where its history says so;
--- there is a recap for each host of the inventory, and it counts the host's Gives; no more calls were handed out than events happened;
--- the job that a host has out is the one that the history says is out; the hosts are where the machine has them
+-- where anything can still happen there is room for one Stop; the run is stopped, or over, exactly
+-- where its history says so; there is a recap for each host of the inventory, and it counts the
+-- host's Gives; no more calls were handed out than events happened; the job that a host has out is
+-- the one that the history says is out; the hosts are where the machine has them
 pub record IsRun (a : Inside) : Type 0 where
   pub room : a.phase ≡ phase.Going → length a.history.items < vec_capacity a.history
   pub stopped : is_stopped a.history.items ≡ is_phase_stopped a.phase

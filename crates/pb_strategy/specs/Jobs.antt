@@ -17,7 +17,8 @@ abbrev pub out_from : ℕ → ℕ → List Event → Option ℕ → Option ℕ
 out_from host p [] out = out
 out_from host p (e ∷ es) out = out_from host (p + 1) es (out_after host p e out)
 
--- the place in the history of the Start of the host's job that is out: of its last event, where that is a Start
+-- the place in the history of the Start of the host's job that is out: of its last event, where
+-- that is a Start
 abbrev pub ticket_out : ℕ → List Event → Option ℕ
 ticket_out host es = out_from host 0 es None
 

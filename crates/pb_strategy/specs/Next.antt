@@ -6,7 +6,8 @@ use Rattle.pb_language.specs.Drive.{Starting, next_start}
 use Rattle.pb_strategy.specs.declared.event.Taken.{Taken}
 use Rattle.pb_strategy.specs.declared.event.Taken.TheVariants as taken
 
--- a task is started on the host of that place, or nothing can be: while a job is out, since the run has ended, or since it was stopped
+-- a task is started on the host of that place, or nothing can be: while a job is out, since the run
+-- has ended, or since it was stopped
 pub data Next : Type 0 where
   starts : ℕ → Next
   waits : Next

@@ -12,8 +12,10 @@ AreSame fs gs = (n : Name) → field_value n fs ≡ field_value n gs
 
 -- its name, its groups and its variables
 abbrev pub own_fields : HostVars → Fields
-own_fields v = field (codes "inventory_hostname") (view v.name) (field (codes "group_names") (view v.groups) (fields_view v.values.entries))
+own_fields v = field (codes "inventory_hostname") (view v.name)
+    (field (codes "group_names") (view v.groups) (fields_view v.values.entries))
 
 -- of a host of that name, in these groups, before anything is run
 abbrev pub names_fields : Name → List Name → Fields
-names_fields h groups = field (codes "inventory_hostname") (text h) (field (codes "group_names") (list (names_list groups)) no_fields)
+names_fields h groups = field (codes "inventory_hostname") (text h)
+    (field (codes "group_names") (list (names_list groups)) no_fields)

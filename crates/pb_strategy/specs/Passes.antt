@@ -4,7 +4,8 @@ use Rattle.pb_semantics.specs.Data.{Data}
 use Rattle.pb_semantics.specs.Kind.{ok_shape}
 use Rattle.pb_language.specs.Expression.{Name}
 use Rattle.pb_language.specs.Cases.{action_name}
-use Rattle.pb_language.specs.Start.{Entry, skips, calls, acts, Pass, no_changes, unchanged, all_changes}
+use Rattle.pb_language.specs.Start.{Entry, skips, calls, acts, Pass, no_changes, unchanged}
+use Rattle.pb_language.specs.Start.{all_changes}
 use Rattle.pb_language.specs.Machine.{Stage, waits, runs, Host, State, host_at}
 use Rattle.pb_language.specs.plain.Gives.{a_pass}
 use Rattle.pb_value.specs.View.{fields_view}
@@ -17,10 +18,12 @@ abbrev pub IsPending : Pending → List Pass → Type 0
 IsPending pending.Skipped ps = ps ≡ a_pass skips
 IsPending pending.Call ps = (d : Data) × (ps ≡ a_pass (calls d))
 IsPending pending.Debug ps = ps ≡ a_pass (acts ok_shape unchanged no_changes)
-IsPending (pending.Facts facts) ps = ps ≡ a_pass (acts ok_shape unchanged (all_changes (fields_view facts.value.entries)))
+IsPending (pending.Facts facts) ps =
+    ps ≡ a_pass (acts ok_shape unchanged (all_changes (fields_view facts.value.entries)))
 
 abbrev pub entry_calls : ℕ → Name → Name → Entry → (ℕ → List CallData) → ℕ → List CallData
-entry_calls k host m (calls d) more n = record { host = k; name = host; number = n; asked = m; arguments = d } ∷ more (suc n)
+entry_calls k host m (calls d) more n =
+    record { host = k; name = host; number = n; asked = m; arguments = d } ∷ more (suc n)
 entry_calls k host m skips more n = more n
 entry_calls k host m (acts sh fs gs) more n = more n
 
@@ -37,6 +40,7 @@ abbrev pub host_calls : ℕ → ℕ → Option Host → List CallData
 host_calls k n None = []
 host_calls k n (Some h) = stage_calls k h.name n h.stage
 
--- the calls of the job that the host of this place has out, to whom so many calls were handed out before
+-- the calls of the job that the host of this place has out, to whom so many calls were handed out
+-- before
 abbrev pub job_calls : ℕ → ℕ → State → List CallData
 job_calls k n s = host_calls k n (host_at k s.hosts)

@@ -10,7 +10,8 @@ use Rattle.pb_strategy.specs.declared.outcome.Outcome.{Outcome}
 
 -- where there is such a host, its map has room for what is written
 abbrev pub HasRoom : List HostState → ℕ → Outcome → Type 0
-HasRoom hosts host o = IfSome (slice_get hosts host) (λ s. length o.writes.items ≤ spare s.vars.values)
+HasRoom hosts host o =
+    IfSome (slice_get hosts host) (λ s. length o.writes.items ≤ spare s.vars.values)
 
 -- the host with another room
 pub record IsRoomier (s n : HostState) : Type 0 where

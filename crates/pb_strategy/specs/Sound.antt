@@ -13,7 +13,9 @@ use Rattle.pb_strategy.specs.History.{RunState, state_after, state_of}
 
 -- the batches of the accepted book
 abbrev pub batches_of : RunState → List Batch
-batches_of r = all_batches (program_of (modules_of r.checked.registry) (inventory_of (inventory_view r.checked.inventory)) (book_of r.checked.book))
+batches_of r = all_batches
+    (program_of (modules_of r.checked.registry) (inventory_of (inventory_view r.checked.inventory))
+    (book_of r.checked.book))
 
 -- the recap of the host of that place; of none, nothing
 abbrev pub recap_in : ℕ → List Host → Recap
@@ -21,8 +23,9 @@ recap_in k [] = empty_recap
 recap_in zero (h ∷ hs) = h.recap
 recap_in (suc k) (h ∷ hs) = recap_in k hs
 
--- it is the machine's run of its history, each event of which was enabled: no step was stuck, the recaps and the calls handed out
--- are the machine's, no more calls were handed out than the budget, and few events happened: two for each task on each host, one for each batch, and one Stop
+-- it is the machine's run of its history, each event of which was enabled: no step was stuck, the
+-- recaps and the calls handed out are the machine's, no more calls were handed out than the budget,
+-- and few events happened: two for each task on each host, one for each batch, and one Stop
 pub record IsSound (r : RunState) : Type 0 where
   pub enabled : history (state_after r []) (map event_data r.history) ≡ map event_data r.history
   pub never_stuck : (state_of r).is_stuck ≡ false

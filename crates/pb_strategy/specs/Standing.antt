@@ -1,9 +1,11 @@
 -- Where the definitions' machine has a host, and that the run's host stands there.
-use Rattle.std.specs.Prelude.{◌≡◌, ℕ, List, [], ◌∷◌, map, drop, string_bytes, codes, Bool, true, false, not, ◌&&◌, nat_lt}
+use Rattle.std.specs.Prelude.{◌≡◌, ℕ, List, [], ◌∷◌, map, drop, string_bytes, codes, Bool, true}
+use Rattle.std.specs.Prelude.{false, not, ◌&&◌, nat_lt}
 use Rattle.pb_semantics.specs.Data.{text, list, no_items, item}
 use Rattle.pb_language.specs.Expression.{Name}
 use Rattle.pb_language.specs.Start.{Pass}
-use Rattle.pb_language.specs.plain.Machine.{before, inside, away, PlainRun, plain_opening, plain_run_from, are_left, ended_opening}
+use Rattle.pb_language.specs.plain.Machine.{before, inside, away, PlainRun, plain_opening}
+use Rattle.pb_language.specs.plain.Machine.{plain_run_from, are_left, ended_opening}
 use Rattle.pb_value.specs.View.{view, fields_view}
 use Rattle.pb_sig.specs.Modules.{modules_of}
 use Rattle.pb_inventory.specs.Hosts.{HostData}
@@ -40,7 +42,8 @@ opening_run (p ∷ ps) = plain_opening (plain_tasks p.tasks.items)
 
 -- the machine of its plain tasks after these events
 abbrev pub plain_after : Accepted → ℕ → List Event → PlainRun
-plain_after a forks es = plain_run_from (modules_of a.registry) (host_of a) forks (opening_run (plays_of a.book)) (map event_data es)
+plain_after a forks es = plain_run_from (modules_of a.registry) (host_of a) forks
+    (opening_run (plays_of a.book)) (map event_data es)
 
 -- the host is in a task, for which this is waited for
 pub record IsInside (q : Pending) (r : PlainRun) : Type 0 where

@@ -37,7 +37,8 @@ pub struct Call {
     pub args: Value,
 }
 
-/// What one Start hands out: the calls of a task on a host, none where it is skipped or makes no call.
+/// What one Start hands out: the calls of a task on a host, none where it is skipped or makes no
+/// call.
 #[derive(Drop)]
 pub struct Job {
     /// The place of its Start in the history.

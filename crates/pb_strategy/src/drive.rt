@@ -34,17 +34,22 @@ pub trait Runner {
         ensures { result ≡ calls self.now };
 }
 
-/// Runs to the end, or until nothing can be started while somebody else's job is out. For want of memory the run is stopped.
-/// Where all goes well, each call that is handed out is made once, each host is given what the runner answered to the calls
-/// of its job, no Stop is added, and the jobs that are out then were out before.
+/// Runs to the end, or until nothing can be started while somebody else's job is out. For want of
+/// memory the run is stopped. Where all goes well, each call that is handed out is made once, each
+/// host is given what the runner answered to the calls of its job, no Stop is added, and the jobs
+/// that are out then were out before.
 pub fn drive<R: Runner>(run: &mut Run, runner: &mut R) -> Result<(), AllocError>
     requires { R.calls runner.old < 2 ^ 63 }
+
     ensures sound { IsSound run.new }
     ensures driven { OnOk result (Drives R.answers run.old runner.old run.new runner.new) }
     ensures book { (run.new.checked ≡ run.old.checked) × (run.new.forks ≡ run.old.forks) }
-    ensures ends { OnOk result ((is_over run.new ≡ true) ⊎ ((k : ℕ) × (p : ℕ) × (ticket_out k run.new.history ≡ Some p))) }
+    ensures ends { OnOk result
+        ((is_over run.new ≡ true) ⊎ ((k : ℕ) × (p : ℕ) × (ticket_out k run.new.history ≡ Some p))) }
+
     ensures stopped { OnErr result (is_over run.new ≡ true) }
-    ensures made { OnOk result (R.calls runner.new + run.old.handed ≡ R.calls runner.old + run.new.handed) }
+    ensures made { OnOk result
+        (R.calls runner.new + run.old.handed ≡ R.calls runner.old + run.new.handed) }
 {
     for _turn in 0..u64::MAX {
         match run.take() {
@@ -95,7 +100,8 @@ fn answered<R: Runner>(
 ) -> Result<Vec<Answer>, AllocError>
     requires { R.calls runner.old + length calls.now < 2 ^ 64 }
     ensures made { OnOk result (R.calls runner.new ≡ R.calls runner.old + length calls.now) }
-    ensures answered { IfOk result (λ answers. AreAnswered R.answers runner.old calls.now answers.items runner.new) }
+    ensures answered { IfOk result
+        (λ answers. AreAnswered R.answers runner.old calls.now answers.items runner.new) }
 {
     let mut answers = Vec::with_capacity(alloc, calls.len())?;
     for call in calls {

@@ -165,7 +165,8 @@ impl HostState {
 }
 
 fn list_of(alloc: Global, names: &[Arc<String>]) -> Result<Value, AllocError>
-    ensures { IfOk result (λ v. view v ≡ list (names_list (map (λ g. string_bytes g.value) names.now))) }
+    ensures { IfOk result (λ v. view v
+        ≡ list (names_list (map (λ g. string_bytes g.value) names.now))) }
 {
     let mut items = Vec::with_capacity(alloc, names.len())?;
     for name in names {

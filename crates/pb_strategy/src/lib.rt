@@ -1,4 +1,5 @@
-// The run of an accepted book, as a machine over events: jobs are handed out, and answers are given back.
+// The run of an accepted book, as a machine over events: jobs are handed out, and answers are given
+// back.
 //
 //     let mut run = Run::open(alloc, &checked, 5)?;
 //     let mut runner = ScriptRunner::read(alloc, b"{\"web1\": [{\"ping\": \"pong\"}]}")?;

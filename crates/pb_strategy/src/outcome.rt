@@ -72,7 +72,8 @@ fn skipped_fields(alloc: Global) -> Result<Fields, AllocError>
 }
 
 fn put(alloc: Global, fields: &mut Fields, name: &str, value: Value) -> Result<(), AllocError>
-    ensures { OnOk result (fields_view fields.new.entries ≡ put_field name.now (view value) (fields_view fields.old.entries)) }
+    ensures { OnOk result (fields_view fields.new.entries
+        ≡ put_field name.now (view value) (fields_view fields.old.entries)) }
 {
     put_field(fields, String::from_str(alloc, name)?, value)
 }
@@ -84,7 +85,8 @@ pub struct Started {
     pub call: Option<Call>,
 }
 
-/// Evaluates the condition and, where it holds, the arguments, against the host's variables at this moment.
+/// Evaluates the condition and, where it holds, the arguments, against the host's variables at this
+/// moment.
 pub fn start(
     alloc: Global,
     task: &Task,
@@ -92,8 +94,10 @@ pub fn start(
     state: &HostState,
 ) -> Result<Started, AllocError>
     requires ordered { are_ascending (argument_names task.now.arguments.items) ≡ true }
-    ensures { IfOk result (λ s. (ms : Modules) (p : ℕ) → Makes s.pending (calls_in s.call) task.now host state.now
-        (plan_of (own_world (own_fields state.now.vars)) (plain_run ms p (plain_task task.now)) None)) }
+    ensures { IfOk result (λ s. (ms : Modules) (p : ℕ)
+        → Makes s.pending (calls_in s.call) task.now host state.now
+        (plan_of (own_world (own_fields state.now.vars)) (plain_run ms p (plain_task task.now))
+        None)) }
 {
     if let Some(condition) = &task.when {
         if !is_true(&eval(alloc, condition, &state.vars)?) {
@@ -109,8 +113,10 @@ pub fn start(
 // The start of a task whose condition holds.
 fn begun(alloc: Global, task: &Task, host: usize, state: &HostState) -> Result<Started, AllocError>
     requires ordered { are_ascending (argument_names task.now.arguments.items) ≡ true }
-    ensures { IfOk result (λ s. (ms : Modules) → Makes s.pending (calls_in s.call) task.now host state.now
-        (with_pass None (eval_action (own_world (own_fields state.now.vars)) (plain_action ms (plain_task task.now).work)) (planned []))) }
+    ensures { IfOk result (λ s. (ms : Modules)
+        → Makes s.pending (calls_in s.call) task.now host state.now
+        (with_pass None (eval_action (own_world (own_fields state.now.vars))
+        (plain_action ms (plain_task task.now).work)) (planned []))) }
 {
     let arguments = evaluated(alloc, &task.arguments, &state.vars)?;
     match &task.work {
@@ -155,7 +161,9 @@ fn facts_pending(arguments: Value) -> Pending
 // The record of the arguments' values; opaque where one may not be read.
 fn evaluated(alloc: Global, arguments: &Vec<Argument>, vars: &HostVars) -> Result<Value, AllocError>
     requires { are_ascending (argument_names arguments.now.items) ≡ true }
-    ensures { IfOk result (λ v. view v ≡ shown (eval_parts (own_world (own_fields vars.now)) (argument_parts arguments.now.items))) }
+    ensures { IfOk result (λ v. view v
+        ≡ shown (eval_parts (own_world (own_fields vars.now))
+        (argument_parts arguments.now.items))) }
 {
     let mut fields = Fields::new(alloc);
     for argument in arguments {
@@ -181,8 +189,9 @@ pub struct Outcome {
     pub writes: Vec<(String, Value)>,
 }
 
-/// The outcome of a task, given the answers to its calls. A missing answer, and one that its module doesn't
-/// admit, ends the host's run as failed, and nothing is written; so does an unreachable host.
+/// The outcome of a task, given the answers to its calls. A missing answer, and one that its module
+/// doesn't admit, ends the host's run as failed, and nothing is written; so does an unreachable
+/// host.
 pub fn finish(
     alloc: Global,
     task: &Task,
@@ -194,7 +203,8 @@ pub fn finish(
     requires known { is_known (modules_of registry.now) task.now.work ≡ true }
     requires skipped { view fixed.now.skipped ≡ rec skip_fields }
     requires unchanged { view fixed.now.unchanged ≡ rec action_fields }
-    ensures { IfOk result (λ o. ComesTo (modules_of registry.now) task.now pending.now answers.now.items o) }
+    ensures { IfOk result (λ o. ComesTo (modules_of registry.now) task.now pending.now
+        answers.now.items o) }
 {
     match pending {
         Pending::Skipped => Ok(ended(alloc, task, Ending::Skipped, fixed.skipped.clone()?)?),
@@ -212,7 +222,8 @@ fn acted(alloc: Global, task: &Task, fixed: &FixedResults) -> Result<Outcome, Al
     requires unchanged { view fixed.now.unchanged ≡ rec action_fields }
     ensures ending { IfOk result (λ o. o.ending ≡ Ending.Ok false) }
     ensures writes { IfOk result (λ o. fields_view o.writes.items
-        ≡ result_writes (option_map (λ n. string_bytes n.value) task.now.register) (rec action_fields) no_fields) }
+        ≡ result_writes (option_map (λ n. string_bytes n.value) task.now.register)
+        (rec action_fields) no_fields) }
 {
     let ending = Ending::Ok { changed: false };
     ended(alloc, task, ending, fixed.unchanged.clone()?)
@@ -225,7 +236,8 @@ fn answered(
     registry: &Registry,
 ) -> Result<Outcome, AllocError>
     requires known { is_known (modules_of registry.now) task.now.work ≡ true }
-    ensures { IfOk result (λ o. ComesTo (modules_of registry.now) task.now Pending.Call answers.now.items o) }
+    ensures { IfOk result (λ o. ComesTo (modules_of registry.now) task.now Pending.Call
+        answers.now.items o) }
 {
     match answers.first() {
         Some(Answer::Object(value)) => Ok(object_answered(alloc, task, value, registry)?),
@@ -244,7 +256,8 @@ fn object_answered(
 ) -> Result<Outcome, AllocError>
     requires known { is_known (modules_of registry.now) task.now.work ≡ true }
     ensures { IfOk result (λ o. (d : Data) (xs : List AnswerData)
-        → IsOutcome (modules_of registry.now) task.now (object (view answer.now) ∷ xs) (a_pass (calls d)) o) }
+        → IsOutcome (modules_of registry.now) task.now (object (view answer.now) ∷ xs)
+        (a_pass (calls d)) o) }
 {
     match &task.work {
         Work::Module(name) => match registry.find(name.as_str()) {
@@ -288,9 +301,11 @@ fn left(alloc: Global, ending: Ending) -> Outcome
     }
 }
 
-// Whether the result's task changed something. The names of a result ascend, so its statuses stand where they would be put.
+// Whether the result's task changed something. The names of a result ascend, so its statuses stand
+// where they would be put.
 fn is_changed(value: &Value) -> bool
-    ensures changed { (fs : FieldsData) → view value.now ≡ rec fs → result ≡ flag_is true (field_value (codes "changed") fs) }
+    ensures changed { (fs : FieldsData) → view value.now ≡ rec fs
+        → result ≡ flag_is true (field_value (codes "changed") fs) }
     ensures same { (fs : FieldsData) → view value.now ≡ rec fs → IsSettled fs }
 {
     match value {
@@ -300,7 +315,8 @@ fn is_changed(value: &Value) -> bool
 }
 
 fn has_changed(fields: &Fields) -> bool
-    ensures changed { result ≡ flag_is true (field_value (codes "changed") (fields_view fields.now.entries)) }
+    ensures changed { result ≡ flag_is true
+        (field_value (codes "changed") (fields_view fields.now.entries)) }
     ensures same { IsSettled (fields_view fields.now.entries) }
 {
     let _ = fields.iter();
@@ -316,7 +332,8 @@ fn is_set(flag: Option<&Value>) -> bool
 fn ended(alloc: Global, task: &Task, ending: Ending, value: Value) -> Result<Outcome, AllocError>
     ensures ending { IfOk result (λ o. o.ending ≡ ending) }
     ensures writes { IfOk result (λ o. fields_view o.writes.items
-        ≡ result_writes (option_map (λ n. string_bytes n.value) task.now.register) (view value) no_fields) }
+        ≡ result_writes (option_map (λ n. string_bytes n.value) task.now.register) (view value)
+        no_fields) }
 {
     let mut writes = Vec::new(alloc);
     if let Some(name) = &task.register {
@@ -327,7 +344,8 @@ fn ended(alloc: Global, task: &Task, ending: Ending, value: Value) -> Result<Out
 
 // With these values written too.
 fn add_all(writes: &mut Vec<(String, Value)>, facts: &Fields) -> Result<(), AllocError>
-    ensures { OnOk result (fields_view writes.new.items ≡ append_fields (fields_view writes.old.items) (fields_view facts.now.entries)) }
+    ensures { OnOk result (fields_view writes.new.items
+        ≡ append_fields (fields_view writes.old.items) (fields_view facts.now.entries)) }
 {
     for (name, value) in facts.iter() {
         writes.push((name.clone()?, value.clone()?))?;

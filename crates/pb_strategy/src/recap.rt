@@ -39,10 +39,11 @@ impl Recap {
         }
     }
 
-    /// The counts with one more task, where they can still grow: they count tasks, of which there are fewer than the
-    /// greatest number.
+    /// The counts with one more task, where they can still grow: they count tasks, of which there
+    /// are fewer than the greatest number.
     pub fn with(self, ending: Ending) -> Recap
-        ensures { (tasks : ℕ) → Counts self tasks → tasks + 1 < 2 ^ 64 → result ≡ counted ending self }
+        ensures { (tasks : ℕ) → Counts self tasks → tasks + 1 < 2 ^ 64
+            → result ≡ counted ending self }
     {
         let mut recap = self;
         match ending {

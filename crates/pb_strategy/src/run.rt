@@ -47,8 +47,8 @@ enum Phase {
     Stopped,
 }
 
-/// A run of an accepted book. Contracts see the book, the fork count, the history, the recap of each host, and how
-/// many calls were handed out.
+/// A run of an accepted book. Contracts see the book, the fork count, the history, the recap of
+/// each host, and how many calls were handed out.
 #[derive(Drop)]
 pub struct Run {
     checked: Checked,
@@ -71,8 +71,14 @@ impl Model for Run {
 
     ghost Value = { RunState };
 
-    ghost coded = { Prim.hlevel
-        (codes, btree_map_code, hash_map_code, value.the_row.coded, kind.the_row.coded, expr.the_row.coded) };
+    ghost coded = { Prim.hlevel (
+      codes,
+      btree_map_code,
+      hash_map_code,
+      value.the_row.coded,
+      kind.the_row.coded,
+      expr.the_row.coded,
+    ) };
 
     ghost view = { run_state };
 
@@ -98,8 +104,8 @@ impl Run {
         Ok(run)
     }
 
-    /// What there is to do: the job of the ready host with the lowest place, ties by host order, or why there is none.
-    /// A batch that is over is turned. For want of memory nothing has happened.
+    /// What there is to do: the job of the ready host with the lowest place, ties by host order, or
+    /// why there is none. A batch that is over is turned. For want of memory nothing has happened.
     pub fn take(&mut self) -> Result<Taken, AllocError>
         ensures next { IfOk result (λ t. taken_next t ≡ next_of (state_of self.old)) }
         ensures waits { next_of (state_of self.old) ≡ waits → result ≡ Ok Taken.Idle }
@@ -108,7 +114,9 @@ impl Run {
         ensures few { self.new.handed < 2 ^ 63 }
         ensures short { length self.new.history < 2 ^ 63 }
         ensures over { IfOk result (λ t. t ≡ Taken.Finished → is_over self.new ≡ true) }
-        ensures stopped_only { IfOk result (λ t. t ≡ Taken.Stopped → is_stopped self.old.history ≡ true) }
+        ensures stopped_only { IfOk result
+            (λ t. t ≡ Taken.Stopped → is_stopped self.old.history ≡ true) }
+
         ensures err { OnErr result (self.new ≡ self.old) }
         ensures stopped { is_stopped self.old.history ≡ true → result ≡ Ok Taken.Stopped }
         ensures ended { is_stopped self.old.history ≡ false → is_ended self.old ≡ true
@@ -169,26 +177,33 @@ impl Run {
         })
     }
 
-    /// The answers to a job, in the order of its calls; what stands in the job beside its ticket and host isn't looked at.
-    /// Refused where the run is stopped, then where no job of that ticket and host is out, then for want of memory:
-    /// job and answers come back then, and nothing has happened.
+    /// The answers to a job, in the order of its calls; what stands in the job beside its ticket
+    /// and host isn't looked at. Refused where the run is stopped, then where no job of that ticket
+    /// and host is out, then for want of memory: job and answers come back then, and nothing has
+    /// happened.
     pub fn give(
         &mut self,
         job: Job,
         answers: Vec<Answer>,
     ) -> Result<Given, (GiveError, Job, Vec<Answer>)>
         ensures sound { IsSound self.new }
-        ensures done { OnOk result (self.new.history ≡ self.old.history ++ Event.Give job.host answers ∷ []) }
+        ensures done { OnOk result
+            (self.new.history ≡ self.old.history ++ Event.Give job.host answers ∷ []) }
         ensures counted { OnOk result (IsOneMore job.host self.old.recaps self.new.recaps) }
         ensures book { (self.new.checked ≡ self.old.checked) × (self.new.forks ≡ self.old.forks) }
         ensures handed { self.new.handed ≡ self.old.handed }
+
         ensures err { OnErr result (self.new ≡ self.old) }
         ensures back { IfErr result (λ e. (e.1 ≡ job) × (e.2 ≡ answers)) }
-        ensures stopped { is_stopped self.old.history ≡ true → IfErr result (λ e. e.0 ≡ GiveError.Stopped) }
+        ensures stopped { is_stopped self.old.history ≡ true
+            → IfErr result (λ e. e.0 ≡ GiveError.Stopped) }
         ensures refused { is_stopped self.old.history ≡ true → IsErr result }
-        ensures stopped_only { IfErr result (λ e. e.0 ≡ GiveError.Stopped → is_stopped self.old.history ≡ true) }
+        ensures stopped_only { IfErr result
+            (λ e. e.0 ≡ GiveError.Stopped → is_stopped self.old.history ≡ true) }
         ensures done_only { OnOk result (is_job_out job.host job.ticket self.old.history ≡ true) }
-        ensures stranger { is_stopped self.old.history ≡ false → is_job_out job.host job.ticket self.old.history ≡ false
+
+        ensures stranger { is_stopped self.old.history ≡ false
+            → is_job_out job.host job.ticket self.old.history ≡ false
             → IfErr result (λ e. e.0 ≡ GiveError.Stranger) × IsErr result }
         ensures stranger_only { IfErr result (λ e. e.0 ≡ GiveError.Stranger
             → is_job_out job.host job.ticket self.old.history ≡ false) }
@@ -228,11 +243,13 @@ impl Run {
     fn end_job(&mut self, host: usize, answers: Vec<Answer>) -> Result<(), Vec<Answer>>
         requires live { is_stopped self.old.history ≡ false }
         requires out { is_some (ticket_out host self.old.history) ≡ true }
+
         ensures done { OnOk result
             (self.new.history ≡ self.old.history ++ Event.Give host answers ∷ []) }
         ensures counted { OnOk result (IsOneMore host self.old.recaps self.new.recaps) }
         ensures book { (self.new.checked ≡ self.old.checked) × (self.new.forks ≡ self.old.forks) }
         ensures handed { self.new.handed ≡ self.old.handed }
+
         ensures err { OnErr result (self.new ≡ self.old) }
         ensures back { IfErr result (λ e. e ≡ answers) }
     {
@@ -253,7 +270,8 @@ impl Run {
         Ok(())
     }
 
-    /// Stops the run; nothing where it is stopped or has ended. There is always room for this event.
+    /// Stops the run; nothing where it is stopped or has ended. There is always room for this
+    /// event.
     pub fn stop(&mut self)
         ensures sound { IsSound self.new }
         ensures going { is_over self.old ≡ false → self.new ≡ after self.old Event.Stop }
@@ -287,13 +305,15 @@ impl Run {
     /// The name of the host.
     pub fn host_name(&self, host: usize) -> &str
         requires { host < length (inventory_view self.now.checked.inventory).hosts }
-        ensures { option_map (λ h. h.name) (slice_get (inventory_view self.now.checked.inventory).hosts host)
+        ensures { option_map (λ h. h.name)
+            (slice_get (inventory_view self.now.checked.inventory).hosts host)
             ≡ Some result.now }
     {
         self.checked.inventory().host_name(host)
     }
 
-    /// What the host's tasks came to so far, where each of its Gives counts once; zeros past the last host.
+    /// What the host's tasks came to so far, where each of its Gives counts once; zeros past the
+    /// last host.
     pub fn recap(&self, host: usize) -> Recap
         ensures defined { recap_data result ≡ recap_in host (state_of self.now).hosts }
         ensures value { result ≡ recap_of self.now.recaps host }
@@ -317,7 +337,8 @@ fn recap_at(hosts: &[HostState], host: usize) -> Recap
 // A run of a book without plays has ended.
 fn opening_phase(checked: &Checked) -> Phase
     ensures accepted { is_accepted checked.now ≡ true }
-    ensures known { names_known (modules_of checked.now.registry) (plays_of checked.now.book) ≡ true }
+    ensures known { names_known (modules_of checked.now.registry) (plays_of checked.now.book)
+        ≡ true }
     ensures over { is_phase_over result ≡ has_no_plays (plays_of checked.now.book) }
     ensures ended { is_phase_ended result ≡ has_no_plays (plays_of checked.now.book) }
     ensures going { is_phase_stopped result ≡ false }
@@ -380,7 +401,8 @@ fn running(hosts: &[HostState]) -> usize
     busy
 }
 
-// The waiting host with the lowest place, ties by host order, where fewer hosts than the forks are running.
+// The waiting host with the lowest place, ties by host order, where fewer hosts than the forks are
+// running.
 fn ready_host(hosts: &[HostState], tasks: &[Task], forks: usize) -> Option<usize>
     ensures alone { (s : HostState) → hosts.now ≡ s ∷ []
         → result ≡ cond (nat_lt 0 forks && can_run s (length tasks.now)) (Some 0) None }
@@ -491,8 +513,8 @@ impl Run {
     }
 }
 
-/// The run that these events lead to, those that aren't enabled left out: its history is the others, up to what values
-/// stand for.
+/// The run that these events lead to, those that aren't enabled left out: its history is the
+/// others, up to what values stand for.
 pub fn replay(
     alloc: Global,
     checked: &Checked,
@@ -514,7 +536,8 @@ pub fn replay(
 }
 
 fn copied(answers: &Vec<Answer>) -> Result<Vec<Answer>, AllocError>
-    ensures same { IfOk result (λ copies. map answer_data copies.items ≡ map answer_data answers.now.items) }
+    ensures same { IfOk result
+        (λ copies. map answer_data copies.items ≡ map answer_data answers.now.items) }
     ensures whys { IfOk result (λ copies. map why_of copies.items ≡ map why_of answers.now.items) }
 {
     let mut copies = Vec::with_capacity(*answers.allocator(), answers.len())?;
@@ -541,7 +564,8 @@ fn ticket_of(hosts: &[HostState], host: usize) -> Option<usize>
 }
 
 fn are_through(hosts: &[HostState], tasks: usize) -> bool
-    ensures alone { (s : HostState) → hosts.now ≡ s ∷ [] → result ≡ is_done s.stage (nat_lt s.place tasks) }
+    ensures alone { (s : HostState) → hosts.now ≡ s ∷ []
+        → result ≡ is_done s.stage (nat_lt s.place tasks) }
 {
     for state in hosts {
         if !is_through(state, tasks) {
@@ -592,9 +616,11 @@ fn begin_on(
     requires there { (s : HostState) × ((slice_get hosts.now host ≡ Some s)
         × (is_some (slice_get (tasks_in (plays_of checked.now.book)) s.place) ≡ true)) }
     ensures few { IfOk result (λ b. length b.calls.items ≤ 1) }
-    ensures made { IfOk result (λ b. (s : HostState) (t : Task) (ms : Modules) (p : ℕ) → slice_get hosts.now host ≡ Some s
+    ensures made { IfOk result
+        (λ b. (s : HostState) (t : Task) (ms : Modules) (p : ℕ) → slice_get hosts.now host ≡ Some s
         → slice_get (tasks_in (plays_of checked.now.book)) s.place ≡ Some t
-        → Makes b.pending b.calls.items t host s (plan_of (own_world (own_fields s.vars)) (plain_run ms p (plain_task t)) None)) }
+        → Makes b.pending b.calls.items t host s
+        (plan_of (own_world (own_fields s.vars)) (plain_run ms p (plain_task t)) None)) }
 {
     let (Some(state), Some(task)) = (hosts.get(host), task_of(checked, hosts, host)) else {
         unreachable!()
@@ -619,12 +645,16 @@ fn listed(alloc: Global, call: Option<Call>) -> Result<Vec<Call>, AllocError>
 
 fn set_running(hosts: &mut Vec<HostState>, host: usize, stage: Stage, calls: usize)
     ensures recaps { recaps_of hosts.new.items ≡ recaps_of hosts.old.items }
-    ensures tickets { tickets_of hosts.new.items ≡ set (tickets_of hosts.old.items) host (ticket_in stage) }
+    ensures tickets { tickets_of hosts.new.items
+        ≡ set (tickets_of hosts.old.items) host (ticket_in stage) }
     ensures handed { host < length hosts.old.items → handed_of hosts.old.items + calls < 2 ^ 64
         → handed_of hosts.new.items ≡ handed_of hosts.old.items + calls }
-    ensures past { length hosts.old.items ≤ host → handed_of hosts.new.items ≡ handed_of hosts.old.items }
-    ensures running { (s : HostState) → slice_get hosts.old.items host ≡ Some s → s.calls + calls < 2 ^ 64
-        → hosts.new.items ≡ set hosts.old.items host (record s { calls = s.calls + calls; stage = stage }) }
+    ensures past { length hosts.old.items ≤ host
+        → handed_of hosts.new.items ≡ handed_of hosts.old.items }
+    ensures running { (s : HostState) → slice_get hosts.old.items host ≡ Some s
+        → s.calls + calls < 2 ^ 64
+        → hosts.new.items ≡ set hosts.old.items host
+        (record s { calls = s.calls + calls; stage = stage }) }
 {
     if let Some(state) = hosts.get_mut(host) {
         state.calls = state.calls.saturating_add(calls as u64);
@@ -635,8 +665,10 @@ fn set_running(hosts: &mut Vec<HostState>, host: usize, stage: Stage, calls: usi
 /// The task that the host is at.
 fn task_of<'c>(checked: &'c Checked, hosts: &[HostState], host: usize) -> Option<&'c Task>
     ensures found { (s : HostState) → slice_get hosts.now host ≡ Some s
-        → option_map (λ t. t.now) result ≡ slice_get (tasks_in (plays_of checked.now.book)) s.place }
-    ensures ordered { IfSome result (λ t. are_ascending (argument_names t.now.arguments.items) ≡ true) }
+        → option_map (λ t. t.now) result
+        ≡ slice_get (tasks_in (plays_of checked.now.book)) s.place }
+    ensures ordered { IfSome result
+        (λ t. are_ascending (argument_names t.now.arguments.items) ≡ true) }
 {
     match hosts.get(host) {
         Some(state) => tasks_of(checked).get(state.place),
@@ -651,10 +683,12 @@ fn outcome_of(
     answers: &Vec<Answer>,
 ) -> Result<Outcome, AllocError>
     requires running { is_some (ticket_in state.now.stage) ≡ true }
-    requires there { is_some (slice_get (tasks_in (plays_of checked.now.book)) state.now.place) ≡ true }
+    requires there { is_some (slice_get (tasks_in (plays_of checked.now.book)) state.now.place)
+        ≡ true }
     requires skipped { view fixed.now.skipped ≡ rec skip_fields }
     requires unchanged { view fixed.now.unchanged ≡ rec action_fields }
-    ensures { IfOk result (λ o. (q : Pending) (ticket : ℕ) (t : Task) → state.now.stage ≡ Stage.Running ticket q
+    ensures { IfOk result (λ o. (q : Pending) (ticket : ℕ) (t : Task)
+        → state.now.stage ≡ Stage.Running ticket q
         → slice_get (tasks_in (plays_of checked.now.book)) state.now.place ≡ Some t
         → ComesTo (modules_of checked.now.registry) t q answers.now.items o) }
 {
@@ -694,12 +728,15 @@ fn settle(hosts: &mut Vec<HostState>, host: usize, found: Outcome)
     requires room { HasRoom hosts.old.items host found }
     ensures handed { handed_of hosts.new.items ≡ handed_of hosts.old.items }
     ensures tickets { tickets_of hosts.new.items ≡ set (tickets_of hosts.old.items) host None }
-    ensures recaps { (tasks : ℕ) → Counts (recap_of (recaps_of hosts.old.items) host) tasks → tasks + 1 < 2 ^ 64
+    ensures recaps { (tasks : ℕ) → Counts (recap_of (recaps_of hosts.old.items) host) tasks
+        → tasks + 1 < 2 ^ 64
         → recaps_of hosts.new.items ≡ set (recaps_of hosts.old.items) host
         (counted found.ending (recap_of (recaps_of hosts.old.items) host)) }
-    ensures settled { (s : HostState) → slice_get hosts.old.items host ≡ Some s → s.place + 1 < 2 ^ 64
+    ensures settled { (s : HostState) → slice_get hosts.old.items host ≡ Some s
+        → s.place + 1 < 2 ^ 64
         → (tasks : ℕ) → Counts s.recap tasks → tasks + 1 < 2 ^ 64
-        → (n : HostState) × ((hosts.new.items ≡ set hosts.old.items host n) × IsSettledHost found s n) }
+        → (n : HostState) × ((hosts.new.items ≡ set hosts.old.items host n)
+        × IsSettledHost found s n) }
 {
     if let Some(state) = hosts.get_mut(host) {
         let Outcome { ending, writes } = found;

@@ -1,13 +1,13 @@
 // Answers from a file, in place of modules.
-ghost use Rattle.std.specs.Prelude.{◌<◌, ◌↔◌, ◌≡◌, Err, IfOk, IsTrue, None, codes, false, length};
-ghost use Rattle.std.specs.Prelude.{option_map, true};
-ghost use Rattle.pb_semantics.specs.Words.{field_value, flag_is, most_answer_bytes};
-ghost use Rattle.pb_value.specs.Words.{fields_view, items_view, json_data, view};
-ghost use Rattle.pb_strategy.specs.Scripts.{Answers, IsNoScript, IsScript, IsScripted, answers_in};
+ghost use Rattle.std.specs.Prelude.{◌<◌, ◌↔◌, ◌≡◌, ◌≤◌, Err, IfOk, IsErr, IsTrue, Ok, codes, false};
+ghost use Rattle.std.specs.Prelude.{length, option_map, true};
+ghost use Rattle.pb_semantics.specs.Words.{Gives, field_value, flag_is, most_answer_bytes};
+ghost use Rattle.pb_value.specs.Words.{fields_view, items_view, view};
+ghost use Rattle.pb_strategy.specs.Scripts.{Answers, IsObject, IsScripted, answers_in};
 ghost use Rattle.pb_strategy.specs.Scripts.{are_lists_of_objects as all_lists_of_objects};
 ghost use Rattle.pb_strategy.specs.Scripts.{are_objects as all_objects, entry_of};
 ghost use Rattle.pb_strategy.specs.Scripts.{is_list_of_objects as is_answer_list, item_at};
-ghost use Rattle.pb_strategy.specs.Scripts.{says_unreachable, scripted};
+ghost use Rattle.pb_strategy.specs.Scripts.{says_unreachable, script_fault, script_in, scripted};
 
 use crate::answer::{Answer, Call, Why};
 use crate::drive::Runner;
@@ -58,13 +58,12 @@ pub struct ScriptRunner {
 }
 
 impl ScriptRunner {
-    /// Reads a JSON object from host names to lists of objects; of a host that nobody calls the shape is asked too.
+    /// Reads a JSON object from host names to lists of objects; of a host that nobody calls the
+    /// shape is asked too. Of a text that is too long nothing else is asked.
     pub fn read(alloc: Global, bytes: &[u8]) -> Result<ScriptRunner, ScriptFault>
-        ensures read { IfOk result (λ r. IsScript bytes.now (answers_in r)) }
-        ensures shape { result ≡ Err ScriptFault.Shape → IsNoScript bytes.now }
-        ensures not_json { result ≡ Err ScriptFault.NotJson → json_data bytes.now ≡ None }
-        ensures large { most_answer_bytes < length bytes.now → result ≡ Err ScriptFault.Limit }
-        ensures limit { result ≡ Err ScriptFault.Limit → most_answer_bytes < length bytes.now }
+        ensures read { length bytes.now ≤ most_answer_bytes
+            → Gives (λ r. Ok (answers_in r)) script_fault result (script_in bytes.now) }
+        ensures long { most_answer_bytes < length bytes.now → result ≡ Err ScriptFault.Limit }
         ensures made { IfOk result (λ r. r.made ≡ 0) }
         ensures fine { IfOk result (λ r. r.is_short ≡ false) }
     {
@@ -152,9 +151,13 @@ impl Runner for ScriptRunner {
     }
 }
 
-// The file's answer to the call of that number on the host.
+// The file's answer to the call of that number on the host. Only an object is given out at the cost
+// of memory.
 fn answer_of(answers: &Fields, host: &str, number: u64) -> Result<Answer, AllocError>
-    ensures { IfOk result (λ a. Answers a (scripted (fields_view answers.now.entries) host.now number)) }
+    ensures given { IfOk result
+        (λ a. Answers a (scripted (fields_view answers.now.entries) host.now number)) }
+    ensures memory { IsErr result
+        → IsObject (scripted (fields_view answers.now.entries) host.now number) }
 {
     let Some(entry) = entry_in(answers, host, number) else {
         return Ok(Answer::Broken(Why::NoAnswer));
@@ -193,7 +196,8 @@ fn is_unreachable(entry: &Value) -> bool
 }
 
 fn says_so(fields: &Fields) -> bool
-    ensures { result ≡ flag_is true (field_value (codes "unreachable") (fields_view fields.now.entries)) }
+    ensures { result ≡ flag_is true
+        (field_value (codes "unreachable") (fields_view fields.now.entries)) }
 {
     match field_of(fields, "unreachable") {
         Some(Value::Bool(holds)) => *holds,

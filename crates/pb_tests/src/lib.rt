@@ -1,4 +1,5 @@
-// Tests of the crates' public calls. They stand here together, so that no crate with code is proved twice.
+// Tests of the crates' public calls. They stand here together, so that no crate with code is proved
+// twice.
 #![tactic(auto)]
 
 #[cfg(test)]

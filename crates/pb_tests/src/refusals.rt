@@ -1,5 +1,6 @@
-// Runs by hand in which an allocation may be refused: the refusal is told by name and changes nothing, and the same call
-// made again is done. tests/refused_checks.py refuses each allocation in turn.
+// Runs by hand in which an allocation may be refused: the refusal is told by name and changes
+// nothing, and the same call made again is done. tests/refused_checks.py refuses each allocation in
+// turn.
 use crate::runs::{ONE_PING, PONG, accepted, job_of, told};
 use pb_strategy::answer::{Answer, Job};
 use pb_strategy::event::{Event, GiveError, Taken};
@@ -99,8 +100,8 @@ fn a_command_and_a_debug(rt: HostRuntime) -> Result<(), Fail> {
     Ok(())
 }
 
-// What a refused give hands back is the first job with its answer, and the run is unchanged; stopped then, it takes and
-// hands out no more.
+// What a refused give hands back is the first job with its answer, and the run is unchanged;
+// stopped then, it takes and hands out no more.
 fn stops_unchanged(run: &mut Run, job: Job, answers: Vec<Answer>) -> Result<bool, Fail> {
     let is_back = job.ticket == 0 && answers.len() == 1;
     let is_unchanged = matches!(run.history(), [Event::Start(0)]);

@@ -71,7 +71,8 @@ fn ping_given(alloc: Global, checked: &Checked) -> Result<Run, Fail> {
     Ok(run)
 }
 
-/// What is compared of a run: its events, and its host's tasks that went well and that changed something.
+/// What is compared of a run: its events, and its host's tasks that went well and that changed
+/// something.
 pub fn told(run: &Run) -> (usize, u64, u64) {
     let recap = run.recap(0);
     (run.history().len(), recap.ok, recap.changed)

@@ -1,7 +1,9 @@
 -- The kind that a `Kind` stands for.
 use Rattle.std.specs.Prelude.{List, [], ◌∷◌, map, String, string_bytes, Bool, true, false}
 use Rattle.std.specs.declared.alloc.Global.{Global}
-use Rattle.pb_semantics.specs.Kind.{KindData, never, nulls, booleans, ints, texts, hosts, lists, recs, results, anything, Slots, no_slots, slot, Cases, no_cases, one, ok_shape, failure_shape, skipped_shape}
+use Rattle.pb_semantics.specs.Kind.{KindData, never, nulls, booleans, ints, texts, hosts, lists}
+use Rattle.pb_semantics.specs.Kind.{recs, results, anything, Slots, no_slots, slot, Cases, no_cases}
+use Rattle.pb_semantics.specs.Kind.{one, ok_shape, failure_shape, skipped_shape}
 use Rattle.pb_semantics.specs.Kind as k
 use Rattle.pb_value.specs.declared.kind.Presence.{Presence}
 use Rattle.pb_value.specs.declared.kind.Presence.TheVariants.{Always, Maybe}
@@ -27,7 +29,8 @@ slots_of (m ∷ ms) = slot (string_bytes m.0) (is_always m.1.presence) m.1.kind 
 
 abbrev pub cases_of : List (Case KindData) → Cases
 cases_of [] = no_cases
-cases_of (c ∷ cs) = one (string_bytes c.action.value) (shape_view c.shape) c.failed c.fields (cases_of cs)
+cases_of (c ∷ cs) =
+    one (string_bytes c.action.value) (shape_view c.shape) c.failed c.fields (cases_of cs)
 
 -- one level, with each kind inside already seen as its data
 abbrev pub kind_step : Kind-F KindData → KindData
@@ -46,7 +49,15 @@ abbrev pub kind_view : Kind → KindData
 kind_view = fold-Kind KindData kind_step
 
 abbrev pub slots_view : List (String Global × Slot Kind) → Slots
-slots_view ms = slots_of (map (λ m. (m.0, record { presence = m.1.presence; kind = kind_view m.1.kind })) ms)
+slots_view ms =
+    slots_of (map (λ m. (m.0, record { presence = m.1.presence; kind = kind_view m.1.kind })) ms)
 
 abbrev pub cases_view : List (Case Kind) → Cases
-cases_view cs = cases_of (map (λ c. record { action = c.action; shape = c.shape; failed = c.failed; fields = kind_view c.fields }) cs)
+cases_view cs = cases_of (map
+    (λ c. record {
+      action = c.action;
+      shape = c.shape;
+      failed = c.failed;
+      fields = kind_view
+          c.fields;
+    }) cs)

@@ -1,7 +1,8 @@
 -- The data that a `Value` stands for.
 use Rattle.std.specs.Prelude.{List, [], ◌∷◌, map, String, string_bytes, Bool, Option, Some, None}
 use Rattle.std.specs.declared.alloc.Global.{Global}
-use Rattle.pb_semantics.specs.Data.{Data, null, boolean, int, text, list, rec, opaque, Items, no_items, item, Fields, no_fields, field}
+use Rattle.pb_semantics.specs.Data.{Data, null, boolean, int, text, list, rec, opaque, Items}
+use Rattle.pb_semantics.specs.Data.{no_items, item, Fields, no_fields, field}
 use Rattle.pb_value.specs.declared.value.Value.{Value, fold-Value}
 use Rattle.pb_value.specs.declared.value.Value.TheOpen.{Value-F}
 

@@ -14,15 +14,16 @@ use std::alloc::{AllocError, Global};
 use std::collections::{BTreeMap, BTreeSet};
 use std::sync::Arc;
 
-/// The least kind above both. It shares the fields and cases that only one of them has, and where one of
-/// them is `Never`, it is a copy of the other that shares all.
+/// The least kind above both. It shares the fields and cases that only one of them has, and where
+/// one of them is `Never`, it is a copy of the other that shares all.
 ///
 /// # Errors
 ///
 /// Want of memory.
 #[cycle(join)]
 pub fn join(alloc: Global, first: &Kind, second: &Kind) -> Result<Kind, AllocError>
-    ensures { IfOk result (λ k. kind_view k ≡ join_of (kind_view first.now) (kind_view second.now)) }
+    ensures { IfOk result (λ k. kind_view k
+        ≡ join_of (kind_view first.now) (kind_view second.now)) }
 {
     match (first, second) {
         (Kind::Never, _) => second.clone(),
@@ -81,7 +82,8 @@ fn share_cases(
     cases: &Vec<Case<Kind>>,
     others: &Vec<Case<Kind>>,
 ) -> Result<Arc<Vec<Case<Kind>>>, AllocError>
-    ensures { IfOk result (λ a. cases_view a.value.items ≡ both_cases (cases_view cases.now.items) (cases_view others.now.items)) }
+    ensures { IfOk result (λ a. cases_view a.value.items
+        ≡ both_cases (cases_view cases.now.items) (cases_view others.now.items)) }
 {
     let all = add_cases(alloc, cases, others)?;
     Ok(Arc::new(alloc, all)?)
@@ -103,7 +105,8 @@ fn join_hosts(
 /// The names of both.
 fn add_all(few: &BTreeSet<String>, more: &BTreeSet<String>) -> Result<BTreeSet<String>, AllocError>
     ensures { IfOk result (λ s. map (λ n. string_bytes n) s.keys
-        ≡ add_names (map (λ n. string_bytes n) few.now.keys) (map (λ n. string_bytes n) more.now.keys)) }
+        ≡ add_names (map (λ n. string_bytes n) few.now.keys)
+        (map (λ n. string_bytes n) more.now.keys)) }
 {
     let mut all = more.clone()?;
     for name in few.iter() {
@@ -127,7 +130,8 @@ fn join_with_record(alloc: Global, slots: &Arc<Slots>, fields: &Kind) -> Result<
 
 #[cycle(join)]
 fn join_records(alloc: Global, first: &Slots, second: &Slots) -> Result<Kind, AllocError>
-    ensures { IfOk result (λ k. kind_view k ≡ recs (both_slots (slots_view first.now.entries) (slots_view second.now.entries))) }
+    ensures { IfOk result (λ k. kind_view k
+        ≡ recs (both_slots (slots_view first.now.entries) (slots_view second.now.entries))) }
 {
     let slots = join_slots(alloc, first, second)?;
     Ok(Kind::Rec(Arc::new(alloc, slots)?))
@@ -151,7 +155,8 @@ pub fn join_slots(alloc: Global, first: &Slots, second: &Slots) -> Result<Slots,
 /// The second's slots that the first lacks, each uncertain.
 fn add_others(all: &mut Slots, first: &Slots, second: &Slots) -> Result<(), AllocError>
     ensures { OnOk result (slots_view all.new.entries ≡ with_others
-        (slots_view second.now.entries) (slots_view first.now.entries) (slots_view all.old.entries)) }
+        (slots_view second.now.entries) (slots_view first.now.entries)
+        (slots_view all.old.entries)) }
 {
     for (name, slot) in second.iter() {
         if !has_field(first, name.as_str()) {
@@ -163,7 +168,8 @@ fn add_others(all: &mut Slots, first: &Slots, second: &Slots) -> Result<(), Allo
 
 fn put_uncertain(slots: &mut Slots, name: &String, kind: &Kind) -> Result<(), AllocError>
     ensures { OnOk result (slots_view slots.new.entries
-        ≡ put_slot (string_bytes name.now) false (kind_view kind.now) (slots_view slots.old.entries)) }
+        ≡ put_slot (string_bytes name.now) false (kind_view kind.now)
+        (slots_view slots.old.entries)) }
 {
     put_slot(slots, name.clone()?, Slot::maybe(kind.clone()?))
 }
@@ -171,7 +177,8 @@ fn put_uncertain(slots: &mut Slots, name: &String, kind: &Kind) -> Result<(), Al
 /// The first's slots, each with what the second knows of it.
 #[cycle(join)]
 fn meet_slots(alloc: Global, first: &Slots, second: &Slots) -> Result<Slots, AllocError>
-    ensures { IfOk result (λ s. slots_view s.entries ≡ joined (slots_view first.now.entries) (slots_view second.now.entries)) }
+    ensures { IfOk result (λ s. slots_view s.entries
+        ≡ joined (slots_view first.now.entries) (slots_view second.now.entries)) }
 {
     let mut all = BTreeMap::new(alloc);
     for (name, slot) in first.iter() {
@@ -193,7 +200,8 @@ fn put_met(
 ) -> Result<(), AllocError>
     ensures { OnOk result (slots_view slots.new.entries ≡ put_slot (string_bytes name.now)
         (presence_with (is_certain presence) (spot_view found.entry))
-        (kind_with (kind_view kind.now) (λ m. join_of (kind_view kind.now) m) (spot_view found.entry))
+        (kind_with (kind_view kind.now) (λ m. join_of (kind_view kind.now) m)
+        (spot_view found.entry))
         (slots_view slots.old.entries)) }
 {
     match found {
@@ -222,7 +230,8 @@ fn add_cases(
     cases: &Vec<Case<Kind>>,
     others: &Vec<Case<Kind>>,
 ) -> Result<Vec<Case<Kind>>, AllocError>
-    ensures { IfOk result (λ v. cases_view v.items ≡ both_cases (cases_view cases.now.items) (cases_view others.now.items)) }
+    ensures { IfOk result (λ v. cases_view v.items
+        ≡ both_cases (cases_view cases.now.items) (cases_view others.now.items)) }
 {
     let mut all = copies(alloc, cases)?;
     for other in others {
@@ -238,7 +247,8 @@ fn add_case(
     other: &Case<Kind>,
 ) -> Result<(), AllocError>
     ensures { OnOk result (cases_view all.new.items
-        ≡ append_cases (cases_view all.old.items) (new_cases (cases_view (other.now ∷ [])) (cases_view cases.now.items))) }
+        ≡ append_cases (cases_view all.old.items)
+        (new_cases (cases_view (other.now ∷ [])) (cases_view cases.now.items))) }
 {
     if !is_covered(cases, other) {
         all.push(copy(other)?)?;

@@ -104,7 +104,8 @@ pub enum Kind {
     /// A list of at most so many items of that kind.
     List(Arc<Kind>, usize),
     Rec(Arc<Slots>),
-    /// One of these cases, and beside them the least record above each, `Never` where there is no case.
+    /// One of these cases, and beside them the least record above each, `Never` where there is no
+    /// case.
     Result(Arc<Vec<Case<Kind>>>, Arc<Kind>),
     Any,
 }

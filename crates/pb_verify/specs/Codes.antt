@@ -1,7 +1,8 @@
 -- The codes of refusals as they are printed.
 use Rattle.std.specs.Prelude.{ℕ, List, codes}
 use Rattle.pb_verify.specs.declared.refusal.Code.{Code}
-use Rattle.pb_verify.specs.declared.refusal.Code.TheVariants.{N00, P01, I01, A01, A02, A03, V01, V03, V04, V07, V08}
+use Rattle.pb_verify.specs.declared.refusal.Code.TheVariants.{N00, P01, I01, A01, A02, A03, V01}
+use Rattle.pb_verify.specs.declared.refusal.Code.TheVariants.{V03, V04, V07, V08}
 
 abbrev pub code_text : Code → List ℕ
 code_text N00 = codes "N00"

@@ -1,5 +1,6 @@
--- What it is to judge: an accepted book with the number of the verdict, else its refusal.
-use Rattle.std.specs.Prelude.{◌≡◌, ℕ, List, Result, Ok, Err, Bool}
+-- What it is to judge: the verdict on tasks and on what was accepted, and what a refusal says of
+-- it.
+use Rattle.std.specs.Prelude.{ℕ, List, Option, Some, None, Bool}
 use Rattle.pb_semantics.specs.Kind.{no_slots}
 use Rattle.pb_language.specs.Expression.{Name}
 use Rattle.pb_language.specs.Book.{Registry}
@@ -14,27 +15,25 @@ use Rattle.pb_inventory.specs.Inventory.{inventory_view}
 use Rattle.pb_book.specs.Books.{book_of}
 use Rattle.pb_verify.specs.Meaning.{inventory_of, refusal_of, accepts, or_later}
 use Rattle.pb_verify.specs.declared.checked.Accepted.{Accepted}
-use Rattle.pb_verify.specs.declared.verify.Findings.{Findings}
 use Rattle.pb_verify.specs.declared.verify.VerifyFault.{VerifyFault}
 use Rattle.pb_verify.specs.declared.verify.VerifyFault.TheVariants.{Refused, NoMemory}
 
 -- the rules, then the host's way, then the number of calls
 abbrev pub tasks_verdict : Registry → Name → List PlainTask → Verdict
-tasks_verdict ms h ts = offence_verdict (or_later (plain_rules ms ts) (plain_flow ms h 0 no_slots ts)) (accepted (plain_calls ts))
+tasks_verdict ms h ts = offence_verdict
+    (or_later (plain_rules ms ts) (plain_flow ms h 0 no_slots ts)) (accepted (plain_calls ts))
 
 -- what was handed in is accepted, with that budget
 abbrev pub is_accepted : Accepted → Bool
-is_accepted a = accepts a.budget (judged (modules_of a.registry) (inventory_of (inventory_view a.inventory)) (book_of a.book))
+is_accepted a = accepts a.budget
+    (judged (modules_of a.registry) (inventory_of (inventory_view a.inventory)) (book_of a.book))
 
 -- the run of what was accepted, after these events
 abbrev pub run_of_accepted : Accepted → ℕ → List Event → State
-run_of_accepted a forks es = run_of (modules_of a.registry) (inventory_of (inventory_view a.inventory)) (book_of a.book) forks es
+run_of_accepted a forks es = run_of (modules_of a.registry)
+    (inventory_of (inventory_view a.inventory)) (book_of a.book) forks es
 
-abbrev pub Refuses : VerifyFault → Verdict → Type 0
-Refuses (Refused r) v = v ≡ refused (refusal_of r)
-Refuses NoMemory v = Unit {0}
-
--- accepted with that budget, or refused with that refusal, want of memory aside
-abbrev pub Judges : Result Findings VerifyFault → Verdict → Type 0
-Judges (Ok f) v = v ≡ accepted f.budget
-Judges (Err e) v = Refuses e v
+-- the verdict that refuses so, none for want of memory
+abbrev pub refused_verdict : VerifyFault → Option Verdict
+refused_verdict (Refused r) = Some (refused (refusal_of r))
+refused_verdict NoMemory = None

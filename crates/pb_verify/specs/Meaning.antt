@@ -1,5 +1,6 @@
 -- What an inventory and a refusal stand for.
-use Rattle.std.specs.Prelude.{ℕ, List, [], ◌∷◌, map, Option, Some, None, option_map, string_bytes, Bool, false, nat_eq}
+use Rattle.std.specs.Prelude.{ℕ, List, [], ◌∷◌, map, Option, Some, None, option_map, string_bytes}
+use Rattle.std.specs.Prelude.{Bool, false, nat_eq}
 use Rattle.pb_language.specs.Expression.{Name}
 use Rattle.pb_language.specs.World.{name_at}
 use Rattle.pb_language.specs.Program as program
@@ -33,7 +34,12 @@ code_number V08 = 8
 code_number c = 0
 
 abbrev pub refusal_of : Refusal → verdict.Refusal
-refusal_of r = record { code = code_number r.code; line = r.line; host = option_map (λ n. string_bytes n) r.host }
+refusal_of r = record {
+  code = code_number r.code;
+  line = r.line;
+  host = option_map
+      (λ n. string_bytes n) r.host;
+}
 
 -- the number in an accepted verdict is that one
 abbrev pub accepts : ℕ → Verdict → Bool

@@ -1,5 +1,6 @@
 -- What a table of results lists.
-use Rattle.std.specs.Prelude.{◌≡◌, List, [], ◌∷◌, map, Bool, true, false, cond, Option, Some, None, string_bytes, codes}
+use Rattle.std.specs.Prelude.{◌≡◌, List, [], ◌∷◌, map, Bool, true, false, cond, Option, Some, None}
+use Rattle.std.specs.Prelude.{string_bytes, codes}
 use Rattle.std.specs.Str.{bytes_eq}
 use Rattle.pb_semantics.specs.Kind.{KindData}
 use Rattle.pb_semantics.specs.Signature.{ModuleData}
@@ -13,7 +14,8 @@ use Rattle.pb_sig.specs.Results.{result_cases, result_kind}
 use Rattle.pb_verify.specs.declared.results.Entry.{Entry}
 use Rattle.pb_verify.specs.declared.results.ResultTable.{ResultTable}
 
--- a name, and the kinds of what is registered where nothing is skipped and where something may be; then each with what is registered where the task fails
+-- a name, and the kinds of what is registered where nothing is skipped and where something may be;
+-- then each with what is registered where the task fails
 pub record Listed : Type 0 where
   pub name : Name
   pub ran : KindData
@@ -51,7 +53,11 @@ listed_at n (l ∷ ls) = cond (bytes_eq l.name n) (Some l) (listed_at n ls)
 -- the kinds of each module's results in the order of the modules, and those of the actions
 pub record Lists (t : ResultTable) (ms : List ModuleData) : Type 0 where
   pub modules : map entry_listed t.modules.items ≡ map module_listed ms
-  pub debug_ran : result_kind t.debug false ≡ results_of (result_cases false (codes "debug") changed_slots)
-  pub debug_skipped : result_kind t.debug true ≡ results_of (result_cases true (codes "debug") changed_slots)
-  pub set_ran : result_kind t.set_fact false ≡ results_of (result_cases false (codes "set_fact") changed_slots)
-  pub set_skipped : result_kind t.set_fact true ≡ results_of (result_cases true (codes "set_fact") changed_slots)
+  pub debug_ran : result_kind t.debug false
+      ≡ results_of (result_cases false (codes "debug") changed_slots)
+  pub debug_skipped : result_kind t.debug true
+      ≡ results_of (result_cases true (codes "debug") changed_slots)
+  pub set_ran : result_kind t.set_fact false
+      ≡ results_of (result_cases false (codes "set_fact") changed_slots)
+  pub set_skipped : result_kind t.set_fact true
+      ≡ results_of (result_cases true (codes "set_fact") changed_slots)

@@ -45,13 +45,20 @@ impl Model for Checked {
 
     ghost Value = { Accepted };
 
-    ghost coded = { Prim.hlevel
-        (codes, btree_map_code, hash_map_code, value.the_row.coded, kind.the_row.coded, expr.the_row.coded) };
+    ghost coded = { Prim.hlevel (
+      codes,
+      btree_map_code,
+      hash_map_code,
+      value.the_row.coded,
+      kind.the_row.coded,
+      expr.the_row.coded,
+    ) };
 
     ghost view = { λ a. a.accepted.value };
 
     ghost invariant = { λ a. (is_accepted a.accepted.value ≡ true)
-        × ((names_known (modules_of a.accepted.value.registry) (plays_of a.accepted.value.book) ≡ true)
+        × ((names_known (modules_of a.accepted.value.registry) (plays_of a.accepted.value.book)
+        ≡ true)
         × HasTable a.accepted.value) };
 }
 
@@ -80,7 +87,8 @@ impl Checked {
     /// What was accepted.
     pub(crate) fn of(alloc: Global, accepted: Accepted) -> Result<Checked, AllocError>
         requires accepted { is_accepted accepted ≡ true }
-        requires known { names_known (modules_of accepted.registry) (plays_of accepted.book) ≡ true }
+        requires known { names_known (modules_of accepted.registry) (plays_of accepted.book)
+            ≡ true }
         requires table { HasTable accepted }
         ensures { IfOk result (λ c. c ≡ accepted) }
     {
@@ -89,13 +97,16 @@ impl Checked {
         })
     }
 
-    /// The most module calls that a run of the book hands out. Whatever the number of forks, the order of events and the
-    /// answers of modules: no step of the run is stuck, and it hands out no more calls.
+    /// The most module calls that a run of the book hands out. Whatever the number of forks, the
+    /// order of events and the answers of modules: no step of the run is stuck, and it hands out no
+    /// more calls.
     pub fn budget(&self) -> u64
         ensures budget { result ≡ self.now.budget }
         ensures accepted { is_accepted self.now ≡ true }
-        ensures sound { (forks : ℕ) (es : List Event) → (run_of_accepted self.now forks es).is_stuck ≡ false }
-        ensures within { (forks : ℕ) (es : List Event) → (run_of_accepted self.now forks es).handed ≤ self.now.budget }
+        ensures sound { (forks : ℕ) (es : List Event)
+            → (run_of_accepted self.now forks es).is_stuck ≡ false }
+        ensures within { (forks : ℕ) (es : List Event)
+            → (run_of_accepted self.now forks es).handed ≤ self.now.budget }
     {
         self.accepted.budget
     }
@@ -129,8 +140,8 @@ impl Checked {
         self.accepted.inventory.hosts()
     }
 
-    /// What is known of the host's variable of that name anywhere in the book: the least kind above all that its tasks
-    /// write; none where none writes it.
+    /// What is known of the host's variable of that name anywhere in the book: the least kind above
+    /// all that its tasks write; none where none writes it.
     pub fn view(&self, host: usize, name: &str) -> Option<&Kind>
         requires { host < length (inventory_view self.now.inventory).hosts }
         ensures { IsKnownAs result (known_spot self.now host name.now) }

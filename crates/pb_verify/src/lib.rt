@@ -1,7 +1,8 @@
 // The verifier: follows each host through a book, and accepts it with a budget or refuses it.
 //
 //     match verify(alloc, book, inventory, registry) {
-//         Ok(checked) => { .. checked.budget() .. } // no run is stuck, or makes more calls than that
+//         // no run is stuck, or makes more calls than that
+//         Ok(checked) => { .. checked.budget() .. }
 //         Err(VerifyFault::Refused(refusal)) => { .. refusal.code.text() .. refusal.line .. }
 //         Err(VerifyFault::NoMemory) => { .. }
 //     }

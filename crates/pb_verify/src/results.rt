@@ -55,8 +55,8 @@ impl ResultTable {
         })
     }
 
-    /// The kind of what a task with this work registers where it goes on, which may be skipped or not. Each module is one of
-    /// those that are listed.
+    /// The kind of what a task with this work registers where it goes on, which may be skipped or
+    /// not. Each module is one of those that are listed.
     pub fn kind(&self, work: &Work, may_skip: bool) -> Result<Kind, AllocError>
         ensures { IfOk result (λ k. (ms : Modules) → Lists self.now ms → is_known ms work.now ≡ true
             → kind_view k ≡ work_result ms may_skip (work_of work.now no_parts)) }
@@ -102,7 +102,8 @@ impl ResultTable {
 impl Entry {
     fn written_kind(&self, may_skip: bool) -> &Kind
         ensures { kind_view result.now
-            ≡ cond may_skip (entry_listed self.now).skipped_or_failed (entry_listed self.now).ran_or_failed }
+            ≡ cond may_skip (entry_listed self.now).skipped_or_failed
+            (entry_listed self.now).ran_or_failed }
     {
         if may_skip {
             &self.skipped_or_failed
@@ -113,7 +114,8 @@ impl Entry {
 }
 
 fn entries_of(alloc: Global, registry: &Registry) -> Result<Vec<Entry>, AllocError>
-    ensures { IfOk result (λ es. map entry_listed es.items ≡ map module_listed (modules_of registry.now)) }
+    ensures { IfOk result (λ es. map entry_listed es.items
+        ≡ map module_listed (modules_of registry.now)) }
 {
     let mut entries = Vec::new(alloc);
     for found in registry.modules() {
@@ -135,15 +137,16 @@ fn entry_of(alloc: Global, found: &Builtin) -> Result<Entry, AllocError>
     })
 }
 
-// The kinds of what a task of the module registers, be it failed or not: of one that always runs, and of one that may be
-// skipped.
+// The kinds of what a task of the module registers, be it failed or not: of one that always runs,
+// and of one that may be skipped.
 fn written_kinds(
     alloc: Global,
     found: &Builtin,
     results: &Results,
 ) -> Result<(Kind, Kind), AllocError>
     ensures ran { IfOk result (λ k. kind_view k.0
-        ≡ least_above (result_kind results.now false) (result_of_failure (builtin_view found.now))) }
+        ≡ least_above (result_kind results.now false)
+        (result_of_failure (builtin_view found.now))) }
     ensures skipped { IfOk result (λ k. kind_view k.1
         ≡ least_above (result_kind results.now true) (result_of_failure (builtin_view found.now))) }
 {
@@ -154,8 +157,10 @@ fn written_kinds(
 }
 
 fn going_results(alloc: Global, found: &Builtin) -> Result<Results, AllocError>
-    ensures ran { IfOk result (λ r. result_kind r false ≡ module_result false (builtin_view found.now)) }
-    ensures skipped { IfOk result (λ r. result_kind r true ≡ module_result true (builtin_view found.now)) }
+    ensures ran { IfOk result
+        (λ r. result_kind r false ≡ module_result false (builtin_view found.now)) }
+    ensures skipped { IfOk result
+        (λ r. result_kind r true ≡ module_result true (builtin_view found.now)) }
 {
     match found.ok_shape() {
         Kind::Rec(fields) => Results::of(alloc, found.name(), fields),

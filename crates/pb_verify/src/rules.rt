@@ -48,10 +48,12 @@ const RESERVED: [&str; 27] = [
     "else",
 ];
 
-/// The first offence of the tasks against them: the least line, and on one line parameters before names.
+/// The first offence of the tasks against them: the least line, and on one line parameters before
+/// names.
 pub fn first_offence(tasks: &[Task], registry: &Registry) -> Option<Refusal>
     requires { are_known (modules_of registry.now) tasks.now ≡ true }
-    ensures { option_map refusal_of result ≡ plain_rules (modules_of registry.now) (plain_tasks tasks.now) }
+    ensures { option_map refusal_of result
+        ≡ plain_rules (modules_of registry.now) (plain_tasks tasks.now) }
 {
     for task in tasks {
         let line = task.line;
@@ -90,14 +92,16 @@ fn is_well_formed(task: &Task, registry: &Registry) -> bool
 
 // Each argument is a parameter, and each parameter that is required is given.
 fn fills(arguments: &Vec<Argument>, parameters: &[Parameter]) -> bool
-    ensures { result ≡ are_parameters (map parameter_view parameters.now) (argument_parts arguments.now.items)
+    ensures { result ≡ are_parameters (map parameter_view parameters.now)
+        (argument_parts arguments.now.items)
         && has_required (map parameter_view parameters.now) (argument_parts arguments.now.items) }
 {
     all_parameters(arguments, parameters) && all_given(parameters, arguments)
 }
 
 fn all_parameters(arguments: &Vec<Argument>, parameters: &[Parameter]) -> bool
-    ensures { result ≡ are_parameters (map parameter_view parameters.now) (argument_parts arguments.now.items) }
+    ensures { result ≡ are_parameters (map parameter_view parameters.now)
+        (argument_parts arguments.now.items) }
 {
     for argument in arguments {
         if !is_parameter(argument.name.as_str(), parameters) {
@@ -119,7 +123,8 @@ fn is_parameter(name: &str, parameters: &[Parameter]) -> bool
 }
 
 fn all_given(parameters: &[Parameter], arguments: &Vec<Argument>) -> bool
-    ensures { result ≡ has_required (map parameter_view parameters.now) (argument_parts arguments.now.items) }
+    ensures { result ≡ has_required (map parameter_view parameters.now)
+        (argument_parts arguments.now.items) }
 {
     for parameter in parameters {
         if parameter.required && !is_given(parameter.name.as_str(), arguments) {

@@ -1,6 +1,6 @@
 // The verdict on a book.
-ghost use Rattle.std.specs.Prelude.{◌≡◌, IfErr, IfOk, None, option_map, true};
-ghost use Rattle.pb_semantics.specs.Words.{no_slots};
+ghost use Rattle.std.specs.Prelude.{◌≡◌, IfOk, None, option_map, true};
+ghost use Rattle.pb_semantics.specs.Words.{Gives, no_slots};
 ghost use Rattle.pb_language.specs.Words.{Joins, Name, accepted, are_plain_tasks};
 ghost use Rattle.pb_language.specs.Words.{code_of as number_of, judged, lone_host, plain_flow};
 ghost use Rattle.pb_language.specs.Words.{plain_rules, plain_writes};
@@ -11,7 +11,7 @@ ghost use Rattle.pb_inventory.specs.Words.{inventory_view};
 ghost use Rattle.pb_book.specs.Words.{are_known, are_plain_plays, book_of, is_numbered};
 ghost use Rattle.pb_book.specs.Words.{names_known, plain_plays, plain_tasks, plays_of};
 ghost use Rattle.pb_verify.specs.Faults.{fault_refusal};
-ghost use Rattle.pb_verify.specs.Judges.{Judges, Refuses, tasks_verdict};
+ghost use Rattle.pb_verify.specs.Judges.{refused_verdict, tasks_verdict};
 ghost use Rattle.pb_verify.specs.Known.{IsTable};
 ghost use Rattle.pb_verify.specs.Meaning.{code_number, inventory_of, or_later, refusal_of};
 ghost use Rattle.pb_verify.specs.Way.{Stands};
@@ -57,9 +57,10 @@ impl<T: Drop> From<AllocFailed<T>> for VerifyFault {
     }
 }
 
-/// Judges a book for an inventory: accepted with its budget of module calls, or the first refusal in this order: the rules
-/// that follow no host (parameters, then names, by line), then the texts that may meet an undefined variable, a missing
-/// field or a value of the wrong kind, by line and then by host. Each module that the book names is in the registry.
+/// Judges a book for an inventory: accepted with its budget of module calls, or the first refusal
+/// in this order: the rules that follow no host (parameters, then names, by line), then the texts
+/// that may meet an undefined variable, a missing field or a value of the wrong kind, by line and
+/// then by host. Each module that the book names is in the registry.
 pub fn verify(
     alloc: Global,
     book: Book,
@@ -67,11 +68,10 @@ pub fn verify(
     registry: Registry,
 ) -> Result<Checked, VerifyFault>
     requires { names_known (modules_of registry) (plays_of book) ≡ true }
-    ensures handed { IfOk result (λ c. (c.book ≡ book) × (c.inventory ≡ inventory) × (c.registry ≡ registry)) }
-    ensures accepted { IfOk result (λ c. judged (modules_of registry) (inventory_of (inventory_view inventory)) (book_of book)
-        ≡ accepted c.budget) }
-    ensures refused { IfErr result (λ e.
-        Refuses e (judged (modules_of registry) (inventory_of (inventory_view inventory)) (book_of book))) }
+    ensures handed { IfOk result
+        (λ c. (c.book ≡ book) × (c.inventory ≡ inventory) × (c.registry ≡ registry)) }
+    ensures verdict { Gives (λ c. accepted c.budget) refused_verdict result
+        (judged (modules_of registry) (inventory_of (inventory_view inventory)) (book_of book)) }
 {
     let Findings { budget, known } = judge(alloc, book.plays(), &inventory, &registry)?;
     let accepted = Accepted {
@@ -114,8 +114,11 @@ fn judge(
     requires numbered { is_numbered plays.now ≡ true }
     requires plain { are_plain_plays plays.now ≡ true }
     requires known { names_known (modules_of registry.now) plays.now ≡ true }
-    ensures verdict { Judges result (judged (modules_of registry.now) (inventory_of (inventory_view inventory.now)) (plain_plays plays.now)) }
-    ensures known { IfOk result (λ f. IsTable (modules_of registry.now) (inventory_of (inventory_view inventory.now))
+    ensures verdict { Gives (λ f. accepted f.budget) refused_verdict result
+        (judged (modules_of registry.now) (inventory_of (inventory_view inventory.now))
+        (plain_plays plays.now)) }
+    ensures known { IfOk result
+        (λ f. IsTable (modules_of registry.now) (inventory_of (inventory_view inventory.now))
         (plain_plays plays.now) (slots_view f.known.entries)) }
 {
     match plays {
@@ -134,9 +137,12 @@ fn judge_tasks(
     requires known { are_known (modules_of registry.now) tasks.now ≡ true }
     requires plain { are_plain_tasks (plain_tasks tasks.now) ≡ true }
     ensures verdict { (h : Name) → inventory_of (inventory_view inventory.now) ≡ lone_host h
-        → Judges result (tasks_verdict (modules_of registry.now) h (plain_tasks tasks.now)) }
-    ensures known { IfOk result (λ f. (h : Name) → inventory_of (inventory_view inventory.now) ≡ lone_host h
-        → Joins (plain_writes (modules_of registry.now) h 0 no_slots (plain_tasks tasks.now)) (slots_view f.known.entries)) }
+        → Gives (λ f. accepted f.budget) refused_verdict result
+        (tasks_verdict (modules_of registry.now) h (plain_tasks tasks.now)) }
+    ensures known { IfOk result
+        (λ f. (h : Name) → inventory_of (inventory_view inventory.now) ≡ lone_host h
+        → Joins (plain_writes (modules_of registry.now) h 0 no_slots (plain_tasks tasks.now))
+        (slots_view f.known.entries)) }
 {
     let Way { refusal, known } = first_refusal(alloc, tasks, inventory, registry)?;
     if let Some(refusal) = refusal {
@@ -153,7 +159,8 @@ pub struct Way {
     known: Slots,
 }
 
-// The first refusal of the tasks, by the rules that follow no host and then on the way of the one host that there is.
+// The first refusal of the tasks, by the rules that follow no host and then on the way of the one
+// host that there is.
 fn first_refusal(
     alloc: Global,
     tasks: &[Task],
@@ -162,12 +169,16 @@ fn first_refusal(
 ) -> Result<Way, AllocError>
     requires known { are_known (modules_of registry.now) tasks.now ≡ true }
     requires plain { are_plain_tasks (plain_tasks tasks.now) ≡ true }
-    ensures refusal { IfOk result (λ w. (h : Name) → inventory_of (inventory_view inventory.now) ≡ lone_host h
-        → option_map refusal_of w.refusal ≡ or_later (plain_rules (modules_of registry.now) (plain_tasks tasks.now))
+    ensures refusal { IfOk result
+        (λ w. (h : Name) → inventory_of (inventory_view inventory.now) ≡ lone_host h
+        → option_map refusal_of w.refusal
+        ≡ or_later (plain_rules (modules_of registry.now) (plain_tasks tasks.now))
         (plain_flow (modules_of registry.now) h 0 no_slots (plain_tasks tasks.now))) }
-    ensures known { IfOk result (λ w. (h : Name) → inventory_of (inventory_view inventory.now) ≡ lone_host h
+    ensures known { IfOk result
+        (λ w. (h : Name) → inventory_of (inventory_view inventory.now) ≡ lone_host h
         → w.refusal ≡ None
-        → Joins (plain_writes (modules_of registry.now) h 0 no_slots (plain_tasks tasks.now)) (slots_view w.known.entries)) }
+        → Joins (plain_writes (modules_of registry.now) h 0 no_slots (plain_tasks tasks.now))
+        (slots_view w.known.entries)) }
 {
     if let Some(refusal) = first_offence(tasks, registry) {
         return Ok(Way {
@@ -198,9 +209,12 @@ fn way_of(
     requires plain { are_plain_tasks (plain_tasks tasks.now) ≡ true }
     requires ruled { plain_rules (modules_of registry.now) (plain_tasks tasks.now) ≡ None }
     ensures refusal { IfOk result (λ w. Stands host.now (slots_view opening.entries) no_slots
-        → option_map refusal_of w.refusal ≡ plain_flow (modules_of registry.now) host.now 0 no_slots (plain_tasks tasks.now)) }
-    ensures known { IfOk result (λ w. Stands host.now (slots_view opening.entries) no_slots → w.refusal ≡ None
-        → Joins (plain_writes (modules_of registry.now) host.now 0 no_slots (plain_tasks tasks.now)) (slots_view w.known.entries)) }
+        → option_map refusal_of w.refusal
+        ≡ plain_flow (modules_of registry.now) host.now 0 no_slots (plain_tasks tasks.now)) }
+    ensures known { IfOk result
+        (λ w. Stands host.now (slots_view opening.entries) no_slots → w.refusal ≡ None
+        → Joins (plain_writes (modules_of registry.now) host.now 0 no_slots (plain_tasks tasks.now))
+        (slots_view w.known.entries)) }
 {
     let Followed { fault, known } = follow(alloc, tasks, registry, opening)?;
     let refusal = match fault {

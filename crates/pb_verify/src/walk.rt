@@ -1,8 +1,9 @@
-// One host's way through the tasks: what is known of its variables, and the first expression that isn't fit.
-ghost use Rattle.std.specs.Prelude.{[], ◌&&◌, ◌∷◌, ◌≡◌, Bool, IfOk, None, OnOk, codes, false};
-ghost use Rattle.std.specs.Prelude.{is_some, map, not, option_map, string_bytes, true, ℕ};
-ghost use Rattle.pb_semantics.specs.Words.{below as is_below, hosts, no_slots, put_slot, slot_at};
-ghost use Rattle.pb_semantics.specs.Words.{spot};
+// One host's way through the tasks: what is known of its variables, and the first expression that
+// isn't fit.
+ghost use Rattle.std.specs.Prelude.{[], ◌∷◌, ◌≡◌, Bool, IfOk, None, OnOk, codes, false};
+ghost use Rattle.std.specs.Prelude.{is_some, map, not, option_map, string_bytes, true};
+ghost use Rattle.pb_semantics.specs.Words.{Gives, below as is_below, hosts, no_slots, put_slot};
+ghost use Rattle.pb_semantics.specs.Words.{slot_at, spot};
 ghost use Rattle.pb_language.specs.Words.{Joins, Name, Registry as Modules, action_fault};
 ghost use Rattle.pb_language.specs.Words.{are_plain_tasks, argument_or, arguments_fault, asks};
 ghost use Rattle.pb_language.specs.Words.{call_of, conditions_fault, expression, fault};
@@ -12,13 +13,13 @@ ghost use Rattle.pb_language.specs.Words.{no_expressions, no_parts, parameter_ki
 ghost use Rattle.pb_language.specs.Words.{parts_set, plain_flow, plain_rules, plain_writes};
 ghost use Rattle.pb_language.specs.Words.{set_spot, written_spot, wrong_kind};
 ghost use Rattle.pb_value.specs.Words.{is_always, kind_view, slots_view, spot_view};
-ghost use Rattle.pb_expr.specs.Words.{expr_view, own_scope};
+ghost use Rattle.pb_expr.specs.Words.{expr_view, fault_found, own_scope};
 ghost use Rattle.pb_sig.specs.Words.{module_at, modules_of, parameter_view};
 ghost use Rattle.pb_book.specs.Words.{are_known, argument_parts, condition_view, is_known};
 ghost use Rattle.pb_book.specs.Words.{plain_task, plain_tasks, work_of};
 ghost use Rattle.pb_verify.specs.Faults.{fault_refusal};
 ghost use Rattle.pb_verify.specs.ResultTables.{Lists};
-ghost use Rattle.pb_verify.specs.Way.{Asks, Stands, all_joined, all_set, join_slot, known_after};
+ghost use Rattle.pb_verify.specs.Way.{Stands, all_joined, all_set, join_slot, known_after};
 ghost use Rattle.pb_verify.specs.Way.{own_fault, own_sets, put_spot, register_joined, registered};
 ghost use Rattle.pb_verify.specs.Way.{sets_of, work_result, written_after, written_result};
 
@@ -51,8 +52,8 @@ pub struct Followed {
     pub known: Slots,
 }
 
-/// Follows a host's way through the tasks, from what is known of its variables before them. The tasks keep the rules that
-/// follow no host.
+/// Follows a host's way through the tasks, from what is known of its variables before them. The
+/// tasks keep the rules that follow no host.
 pub fn follow(
     alloc: Global,
     tasks: &[Task],
@@ -63,9 +64,12 @@ pub fn follow(
     requires plain { are_plain_tasks (plain_tasks tasks.now) ≡ true }
     requires ruled { plain_rules (modules_of registry.now) (plain_tasks tasks.now) ≡ None }
     ensures fault { IfOk result (λ f. (h : Name) → Stands h (slots_view opening.entries) no_slots
-        → option_map (fault_refusal h) f.fault ≡ plain_flow (modules_of registry.now) h 0 no_slots (plain_tasks tasks.now)) }
-    ensures known { IfOk result (λ f. (h : Name) → Stands h (slots_view opening.entries) no_slots → f.fault ≡ None
-        → Joins (plain_writes (modules_of registry.now) h 0 no_slots (plain_tasks tasks.now)) (slots_view f.known.entries)) }
+        → option_map (fault_refusal h) f.fault
+        ≡ plain_flow (modules_of registry.now) h 0 no_slots (plain_tasks tasks.now)) }
+    ensures known { IfOk result
+        (λ f. (h : Name) → Stands h (slots_view opening.entries) no_slots → f.fault ≡ None
+        → Joins (plain_writes (modules_of registry.now) h 0 no_slots (plain_tasks tasks.now))
+        (slots_view f.known.entries)) }
 {
     let results = ResultTable::of(alloc, registry)?;
     let mut environment = opening;
@@ -81,7 +85,8 @@ pub fn follow(
     Ok(Followed { fault, known })
 }
 
-// The first fault of the tasks, or none. What is known of variables, and what is written, is taken up to it.
+// The first fault of the tasks, or none. What is known of variables, and what is written, is taken
+// up to it.
 fn first_fault(
     alloc: Global,
     tasks: &[Task],
@@ -95,10 +100,15 @@ fn first_fault(
     requires ruled { plain_rules (modules_of registry.now) (plain_tasks tasks.now) ≡ None }
     requires listed { Lists results.now (modules_of registry.now) }
     requires empty { slots_view known.old.entries ≡ no_slots }
-    ensures fault { IfOk result (λ f. (h : Name) → Stands h (slots_view environment.old.entries) no_slots
-        → option_map (fault_refusal h) f ≡ plain_flow (modules_of registry.now) h 0 no_slots (plain_tasks tasks.now)) }
-    ensures known { IfOk result (λ f. (h : Name) → Stands h (slots_view environment.old.entries) no_slots → f ≡ None
-        → Joins (plain_writes (modules_of registry.now) h 0 no_slots (plain_tasks tasks.now)) (slots_view known.new.entries)) }
+
+    ensures fault { IfOk result
+        (λ f. (h : Name) → Stands h (slots_view environment.old.entries) no_slots
+        → option_map (fault_refusal h) f
+        ≡ plain_flow (modules_of registry.now) h 0 no_slots (plain_tasks tasks.now)) }
+    ensures known { IfOk result
+        (λ f. (h : Name) → Stands h (slots_view environment.old.entries) no_slots → f ≡ None
+        → Joins (plain_writes (modules_of registry.now) h 0 no_slots (plain_tasks tasks.now))
+        (slots_view known.new.entries)) }
 {
     for task in tasks {
         match step(alloc, task, registry, results, environment, known) {
@@ -123,11 +133,17 @@ fn step(
     known: &mut Slots,
 ) -> Result<(), KindFault>
     requires { is_known (modules_of registry.now) task.now.work ≡ true }
-    ensures fault { Asks result (own_fault (modules_of registry.now) (slots_view environment.old.entries) (plain_task task.now)) }
-    ensures known { OnOk result (Lists results.now (modules_of registry.now) → slots_view environment.new.entries
-        ≡ known_after (modules_of registry.now) (plain_task task.now) (slots_view environment.old.entries)) }
-    ensures written { OnOk result (Lists results.now (modules_of registry.now) → slots_view known.new.entries
-        ≡ written_after (modules_of registry.now) (plain_task task.now) (slots_view environment.old.entries) (slots_view known.old.entries)) }
+    ensures fault { Gives (λ x. None) fault_found result
+        (own_fault (modules_of registry.now) (slots_view environment.old.entries)
+        (plain_task task.now)) }
+    ensures known { OnOk result
+        (Lists results.now (modules_of registry.now) → slots_view environment.new.entries
+        ≡ known_after (modules_of registry.now) (plain_task task.now)
+        (slots_view environment.old.entries)) }
+    ensures written { OnOk result
+        (Lists results.now (modules_of registry.now) → slots_view known.new.entries
+        ≡ written_after (modules_of registry.now) (plain_task task.now)
+        (slots_view environment.old.entries) (slots_view known.old.entries)) }
 {
     let sets = task_asked(alloc, task, registry, environment)?;
     learn(alloc, task, results, &sets, known)?;
@@ -173,7 +189,8 @@ fn put_certain(
 
 type Sets = Vec<(Arc<String>, Kind)>;
 
-// Asks the task's texts, its condition and then its arguments by name, and answers what the task sets.
+// Asks the task's texts, its condition and then its arguments by name, and answers what the task
+// sets.
 fn task_asked(
     alloc: Global,
     task: &Task,
@@ -181,7 +198,9 @@ fn task_asked(
     environment: &Slots,
 ) -> Result<Sets, KindFault>
     requires { is_known (modules_of registry.now) task.now.work ≡ true }
-    ensures fault { Asks result (own_fault (modules_of registry.now) (slots_view environment.now.entries) (plain_task task.now)) }
+    ensures fault { Gives (λ x. None) fault_found result
+        (own_fault (modules_of registry.now) (slots_view environment.now.entries)
+        (plain_task task.now)) }
     ensures sets { IfOk result (λ s. (a : Bool) → sets_of a s.items
         ≡ own_sets (own_scope (slots_view environment.now.entries)) a (plain_task task.now).work) }
 {
@@ -210,8 +229,10 @@ fn call_asked(
     environment: &Slots,
 ) -> Result<(), KindFault>
     requires { is_some (module_at name.now (modules_of registry.now)) ≡ true }
-    ensures { Asks result (action_fault (own_scope (slots_view environment.now.entries))
-        (call_of (module_named name.now (modules_of registry.now)) (argument_parts arguments.now.items))) }
+    ensures { Gives (λ x. None) fault_found result
+        (action_fault (own_scope (slots_view environment.now.entries))
+        (call_of (module_named name.now (modules_of registry.now))
+        (argument_parts arguments.now.items))) }
 {
     match registry.find(name) {
         Some(found) => arguments_asked(alloc, arguments, found.params(), environment),
@@ -220,7 +241,8 @@ fn call_asked(
 }
 
 fn condition_asked(alloc: Global, condition: &Expr, environment: &Slots) -> Result<(), KindFault>
-    ensures { Asks result (conditions_fault (own_scope (slots_view environment.now.entries))
+    ensures { Gives (λ x. None) fault_found result
+        (conditions_fault (own_scope (slots_view environment.now.entries))
         (expression (expr_view condition.now) no_expressions)) }
 {
     let kind = kind_of(alloc, condition, environment)?;
@@ -238,7 +260,8 @@ fn arguments_asked(
     parameters: &[Parameter],
     environment: &Slots,
 ) -> Result<(), KindFault>
-    ensures { Asks result (arguments_fault (own_scope (slots_view environment.now.entries))
+    ensures { Gives (λ x. None) fault_found result
+        (arguments_fault (own_scope (slots_view environment.now.entries))
         (map parameter_view parameters.now) (argument_parts arguments.now.items)) }
 {
     for argument in arguments {
@@ -255,10 +278,11 @@ fn message_asked(
     arguments: &Vec<Argument>,
     environment: &Slots,
 ) -> Result<(), KindFault>
-    ensures { Asks result (first
+    ensures { Gives (λ x. None) fault_found result (first
         (fault (own_scope (slots_view environment.now.entries))
         (argument_or (part_named (codes "msg") (argument_parts arguments.now.items))))
-        (asks wrong_kind (not (is_anything (kind_found (own_scope (slots_view environment.now.entries))
+        (asks wrong_kind (not (is_anything
+        (kind_found (own_scope (slots_view environment.now.entries))
         (argument_or (part_named (codes "msg") (argument_parts arguments.now.items)))))))) }
 {
     if let Some(message) = argument_named(arguments, "msg") {
@@ -269,7 +293,8 @@ fn message_asked(
 
 // The value of the first argument of that name.
 fn argument_named<'a>(arguments: &'a Vec<Argument>, name: &str) -> Option<&'a Expr>
-    ensures { option_map (λ e. expr_view e.now) result ≡ part_named name.now (argument_parts arguments.now.items) }
+    ensures { option_map (λ e. expr_view e.now) result
+        ≡ part_named name.now (argument_parts arguments.now.items) }
 {
     for argument in arguments {
         if name == argument.name.as_str() {
@@ -285,9 +310,12 @@ fn sets_asked(
     arguments: &Vec<Argument>,
     environment: &Slots,
 ) -> Result<Sets, KindFault>
-    ensures fault { Asks result (fields_fault (own_scope (slots_view environment.now.entries)) (argument_parts arguments.now.items)) }
+    ensures fault { Gives (λ x. None) fault_found result
+        (fields_fault (own_scope (slots_view environment.now.entries))
+        (argument_parts arguments.now.items)) }
     ensures sets { IfOk result (λ s. (a : Bool) → sets_of a s.items
-        ≡ parts_set (own_scope (slots_view environment.now.entries)) a (argument_parts arguments.now.items)) }
+        ≡ parts_set (own_scope (slots_view environment.now.entries)) a
+        (argument_parts arguments.now.items)) }
 {
     let mut sets = Vec::new(alloc);
     for argument in arguments {
@@ -299,9 +327,14 @@ fn sets_asked(
 
 // The kind of a value, which may not be of every kind.
 fn value_asked(alloc: Global, value: &Expr, environment: &Slots) -> Result<Kind, KindFault>
-    ensures fault { Asks result (first (fault (own_scope (slots_view environment.now.entries)) (expr_view value.now))
-        (asks wrong_kind (not (is_anything (kind_found (own_scope (slots_view environment.now.entries)) (expr_view value.now)))))) }
-    ensures kind { IfOk result (λ k. kind_view k ≡ kind_found (own_scope (slots_view environment.now.entries)) (expr_view value.now)) }
+    ensures fault { Gives (λ x. None) fault_found result
+        (first (fault (own_scope (slots_view environment.now.entries)) (expr_view value.now))
+        (asks wrong_kind (not (is_anything
+        (kind_found (own_scope (slots_view environment.now.entries))
+        (expr_view value.now)))))) }
+    ensures kind { IfOk result
+        (λ k. kind_view k ≡ kind_found (own_scope (slots_view environment.now.entries))
+        (expr_view value.now)) }
 {
     let kind = kind_of(alloc, value, environment)?;
     if kind.is_any() {
@@ -312,7 +345,8 @@ fn value_asked(alloc: Global, value: &Expr, environment: &Slots) -> Result<Kind,
 
 // Whether the kind is that of the parameter of that name.
 fn is_of(kind: &Kind, name: &str, parameters: &[Parameter]) -> bool
-    ensures { result ≡ is_below (kind_view kind.now) (parameter_kind name.now (map parameter_view parameters.now)) }
+    ensures { result ≡ is_below (kind_view kind.now)
+        (parameter_kind name.now (map parameter_view parameters.now)) }
 {
     for parameter in parameters {
         if name == parameter.name.as_str() {
@@ -322,7 +356,8 @@ fn is_of(kind: &Kind, name: &str, parameters: &[Parameter]) -> bool
     below(kind, &Kind::Never)
 }
 
-// What is written by the tasks up to this one: what it registers, be it failed or not, then what it sets.
+// What is written by the tasks up to this one: what it registers, be it failed or not, then what it
+// sets.
 fn learn(
     alloc: Global,
     task: &Task,
@@ -330,11 +365,13 @@ fn learn(
     sets: &Sets,
     known: &mut Slots,
 ) -> Result<(), AllocError>
-    ensures { OnOk result ((ms : Modules) → Lists results.now ms → is_known ms task.now.work ≡ true → (a : Bool)
+    ensures { OnOk result ((ms : Modules) → Lists results.now ms → is_known ms task.now.work ≡ true
+        → (a : Bool)
         → slots_view known.new.entries
         ≡ all_joined (sets_of a sets.now.items)
         (register_joined (option_map (λ n. string_bytes n.value) task.now.register)
-        (written_result ms (is_conditional (condition_view task.now.when)) (work_of task.now.work no_parts))
+        (written_result ms (is_conditional (condition_view task.now.when))
+        (work_of task.now.work no_parts))
         (slots_view known.old.entries))) }
 {
     if let Some(name) = &task.register {
@@ -383,7 +420,8 @@ fn write(
         → slots_view environment.new.entries
         ≡ all_set (sets_of (not (is_conditional (condition_view task.now.when))) sets.items)
         (registered (option_map (λ n. string_bytes n.value) task.now.register)
-        (work_result ms (is_conditional (condition_view task.now.when)) (work_of task.now.work no_parts))
+        (work_result ms (is_conditional (condition_view task.now.when))
+        (work_of task.now.work no_parts))
         (slots_view environment.old.entries))) }
 {
     put_registered(task, results, environment)?;
@@ -396,8 +434,10 @@ fn put_registered(
     environment: &mut Slots,
 ) -> Result<(), AllocError>
     ensures { OnOk result ((ms : Modules) → Lists results.now ms → is_known ms task.now.work ≡ true
-        → slots_view environment.new.entries ≡ registered (option_map (λ n. string_bytes n.value) task.now.register)
-        (work_result ms (is_conditional (condition_view task.now.when)) (work_of task.now.work no_parts))
+        → slots_view environment.new.entries
+        ≡ registered (option_map (λ n. string_bytes n.value) task.now.register)
+        (work_result ms (is_conditional (condition_view task.now.when))
+        (work_of task.now.work no_parts))
         (slots_view environment.old.entries)) }
 {
     if let Some(name) = &task.register {
@@ -432,7 +472,8 @@ fn set(
     environment: &mut Slots,
 ) -> Result<(), AllocError>
     ensures { OnOk result (slots_view environment.new.entries ≡ put_spot (string_bytes name.now)
-        (set_spot is_certain (slot_at (string_bytes name.now) (slots_view environment.old.entries)) (kind_view kind))
+        (set_spot is_certain (slot_at (string_bytes name.now) (slots_view environment.old.entries))
+        (kind_view kind))
         (slots_view environment.old.entries)) }
 {
     let slot = if is_certain {

@@ -1,9 +1,12 @@
--- Books of the first path: one play on all hosts, of tasks that call a module, show a message or set variables, on an inventory of one host.
-use Rattle.std.specs.Prelude.{ℕ, suc, List, [], ◌∷◌, Bool, true, false, ◌&&◌, ◌==◌, Option, None, codes}
+-- Books of the first path: one play on all hosts, of tasks that call a module, show a message or
+-- set variables, on an inventory of one host.
+use Rattle.std.specs.Prelude.{ℕ, suc, List, [], ◌∷◌, Bool, true, false, ◌&&◌, ◌==◌, Option, None}
+use Rattle.std.specs.Prelude.{codes}
 use Rattle.pb_semantics.specs.Data.{no_fields}
 use Rattle.pb_language.specs.Expression.{Name, Expressions, no_parts}
 use Rattle.pb_language.specs.Simple.{are_simple, parts_simple}
-use Rattle.pb_language.specs.Book.{Work, module_work, debug_work, set_fact_work, assert_work, fail_work, TaskData, Steps, no_steps, task_step, PlayData}
+use Rattle.pb_language.specs.Book.{Work, module_work, debug_work, set_fact_work, assert_work}
+use Rattle.pb_language.specs.Book.{fail_work, TaskData, Steps, no_steps, task_step, PlayData}
 use Rattle.pb_language.specs.Program.{Inventory}
 
 pub record PlainTask : Type 0 where
@@ -49,7 +52,8 @@ plain_play l ts = record {
 abbrev pub lone_host : Name → Inventory
 lone_host h = record {
   hosts = record { name = h; variables = no_fields } ∷ [];
-  groups = record { name = codes "all"; hosts = h ∷ [] } ∷ record { name = codes "ungrouped"; hosts = h ∷ [] } ∷ [];
+  groups = record { name = codes "all"; hosts = h ∷ [] }
+      ∷ record { name = codes "ungrouped"; hosts = h ∷ [] } ∷ [];
 }
 
 abbrev pub is_plain_work : Work → Bool

@@ -11,4 +11,5 @@ use Rattle.pb_language.specs.plain.Pass.{plain_run, lone_setting}
 -- everything that the tasks write, from a place and an environment on
 abbrev pub plain_writes : Registry → Name → ℕ → Slots → List PlainTask → Sets
 plain_writes ms h p env [] = no_sets
-plain_writes ms h p env (t ∷ ts) = append_sets (task_writes (lone_setting h) (plain_run ms p t) env) (plain_writes ms h (suc p) (going_slots (lone_setting h) (plain_run ms p t) env) ts)
+plain_writes ms h p env (t ∷ ts) = append_sets (task_writes (lone_setting h) (plain_run ms p t) env)
+    (plain_writes ms h (suc p) (going_slots (lone_setting h) (plain_run ms p t) env) ts)

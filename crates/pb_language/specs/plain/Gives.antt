@@ -1,5 +1,6 @@
 -- How a plain task ended, and what is written then.
-use Rattle.std.specs.Prelude.{ℕ, suc, List, [], ◌∷◌, Bool, true, false, cond, Option, Some, None, codes}
+use Rattle.std.specs.Prelude.{ℕ, suc, List, [], ◌∷◌, Bool, true, false, cond, Option, Some, None}
+use Rattle.std.specs.Prelude.{codes}
 use Rattle.pb_semantics.specs.Data.{Data, Fields, boolean, no_fields, field, put_field}
 use Rattle.pb_language.specs.Expression.{Name}
 use Rattle.pb_language.specs.Machine.{Recap, ok_recap}
@@ -50,7 +51,8 @@ after_came c ws message ts r = record r {
 
 -- the result of an action, and of a task that was skipped, with its final statuses
 abbrev pub action_fields : Fields
-action_fields = field (codes "changed") (boolean false) (field (codes "failed") (boolean false) no_fields)
+action_fields =
+    field (codes "changed") (boolean false) (field (codes "failed") (boolean false) no_fields)
 
 abbrev pub a_pass : Entry → List Pass
 a_pass x = record { item = None; entry = x } ∷ []

@@ -1,5 +1,6 @@
 -- A run of plain tasks on one host, as a machine over the tasks that are left.
-use Rattle.std.specs.Prelude.{ℕ, zero, suc, ◌+◌, List, [], ◌∷◌, Bool, true, false, not, ◌&&◌, nat_lt, cond, None}
+use Rattle.std.specs.Prelude.{ℕ, zero, suc, ◌+◌, List, [], ◌∷◌, Bool, true, false, not, ◌&&◌}
+use Rattle.std.specs.Prelude.{nat_lt, cond, None}
 use Rattle.pb_semantics.specs.Data.{Fields, no_fields}
 use Rattle.pb_language.specs.Expression.{Name}
 use Rattle.pb_language.specs.World.{World}
@@ -10,8 +11,12 @@ use Rattle.pb_language.specs.Plays.{play_with}
 use Rattle.pb_language.specs.Program.{Batch}
 use Rattle.pb_language.specs.Setting.{named_fields}
 use Rattle.pb_language.specs.Start.{Pass, Plan, planned, halted, plan_of, call_count}
-use Rattle.pb_language.specs.Give.{Answer, Ended, Results, results_are, no_results, Admitted, admitted, breached, unreached, admit_passes, end_all, any_failed, message_of, written_variables}
-use Rattle.pb_language.specs.Machine.{Event, start, give, turn, stop, Ready, over, begins, Stage, waits, runs, Recap, Host, State, gone, empty_recap, task_recap}
+use Rattle.pb_language.specs.Give.{Answer, Ended, Results, results_are, no_results, Admitted}
+use Rattle.pb_language.specs.Give.{admitted, breached, unreached, admit_passes, end_all, any_failed}
+use Rattle.pb_language.specs.Give.{message_of, written_variables}
+use Rattle.pb_language.specs.Machine.{Event, start, give, turn, stop, Ready, over, begins, Stage}
+use Rattle.pb_language.specs.Machine.{waits, runs, Recap, Host, State, gone, empty_recap}
+use Rattle.pb_language.specs.Machine.{task_recap}
 use Rattle.pb_language.specs.plain.Books.{PlainTask, plain_play, lone_host}
 use Rattle.pb_language.specs.plain.Pass.{plain_run, lone_setting}
 
@@ -118,7 +123,8 @@ on_plan r (planned ps) = record r { standing = inside ps; handed = r.handed + ca
 -- the next task, where there is one, starts
 abbrev pub started : Registry → Name → PlainRun → List PlainTask → PlainRun
 started ms h r [] = r
-started ms h r (t ∷ ts) = on_plan r (plan_of (plain_world h r.variables) (plain_run ms r.place t) None)
+started ms h r (t ∷ ts) =
+    on_plan r (plan_of (plain_world h r.variables) (plain_run ms r.place t) None)
 
 abbrev pub after_failure : Bool → List PlainTask → PlainRun → PlainRun
 after_failure true ts r = record r { standing = away }
@@ -138,13 +144,17 @@ on_results t ts (results_are es) r = ended_run t ts es r
 
 abbrev pub on_admitted : Name → Task → List PlainTask → Admitted → PlainRun → PlainRun
 on_admitted h t ts (admitted os) r = on_results t ts (end_all (plain_world h r.variables) t os) r
-on_admitted h t ts breached r = record r { standing = away; recap = record r.recap { failed = suc r.recap.failed } }
-on_admitted h t ts unreached r = record r { standing = away; recap = record r.recap { unreachable = suc r.recap.unreachable } }
+on_admitted h t ts breached r =
+    record r { standing = away; recap = record r.recap { failed = suc r.recap.failed } }
+on_admitted h t ts unreached r =
+    record r { standing = away; recap = record r.recap { unreachable = suc r.recap.unreachable } }
 
 -- the task's answers come
-abbrev pub answered : Registry → Name → PlainRun → List Answer → List PlainTask → List Pass → PlainRun
+abbrev pub answered : Registry → Name → PlainRun → List Answer → List PlainTask → List Pass
+    → PlainRun
 answered ms h r xs [] ps = r
-answered ms h r xs (t ∷ ts) ps = on_admitted h (plain_run ms r.place t) ts (admit_passes (plain_run ms r.place t).action ps xs) r
+answered ms h r xs (t ∷ ts) ps =
+    on_admitted h (plain_run ms r.place t) ts (admit_passes (plain_run ms r.place t).action ps xs) r
 
 abbrev pub is_before : Standing → Bool
 is_before before = true
@@ -179,7 +189,8 @@ plain_start ms h forks zero r = cond (is_going r && can_begin forks r) (started 
 plain_start ms h forks (suc k) r = r
 
 abbrev pub plain_give : Registry → Name → ℕ → List Answer → PlainRun → PlainRun
-plain_give ms h zero xs r = cond (is_going r && is_inside r.standing r.tasks) (given_to ms h r xs r.standing) r
+plain_give ms h zero xs r =
+    cond (is_going r && is_inside r.standing r.tasks) (given_to ms h r xs r.standing) r
 plain_give ms h (suc k) xs r = r
 
 -- what an event changes; one that isn't enabled changes nothing

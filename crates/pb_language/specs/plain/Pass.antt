@@ -4,7 +4,8 @@ use Rattle.pb_semantics.specs.Kind.{Slots, no_slots}
 use Rattle.pb_language.specs.Expression.{Name}
 use Rattle.pb_language.specs.Expansion.{part_named}
 use Rattle.pb_language.specs.Task.{Action, call_of, debug, set_fact, Task}
-use Rattle.pb_language.specs.Book.{Work, module_work, debug_work, set_fact_work, assert_work, fail_work, Registry}
+use Rattle.pb_language.specs.Book.{Work, module_work, debug_work, set_fact_work, assert_work}
+use Rattle.pb_language.specs.Book.{fail_work, Registry}
 use Rattle.pb_language.specs.Plays.{argument_or, module_named}
 use Rattle.pb_language.specs.Setting.{Setting}
 use Rattle.pb_language.specs.Fit.{Fault}
@@ -51,7 +52,9 @@ lone_setting h = record {
 -- the rules that need no flow: parameters, then names
 abbrev pub task_offence : Registry → PlainTask → Option Refusal → Option Refusal
 task_offence ms t o =
-    cond (is_well_formed ms t.work) (cond (any_among (written_names (Some (task_data t))) reserved_names) (Some (record { code = 8; line = t.line; host = None })) o)
+    cond (is_well_formed ms t.work)
+    (cond (any_among (written_names (Some (task_data t))) reserved_names)
+    (Some (record { code = 8; line = t.line; host = None })) o)
     (Some (record { code = 7; line = t.line; host = None }))
 
 abbrev pub plain_rules : Registry → List PlainTask → Option Refusal
@@ -66,7 +69,8 @@ fault_or h l (Some f) o = Some (record { code = code_of f; line = l; host = Some
 abbrev pub plain_flow : Registry → Name → ℕ → Slots → List PlainTask → Option Refusal
 plain_flow ms h p env [] = None
 plain_flow ms h p env (t ∷ ts) =
-    fault_or h t.line (task_fault (lone_setting h) (plain_run ms p t) env) (plain_flow ms h (suc p) (going_slots (lone_setting h) (plain_run ms p t) env) ts)
+    fault_or h t.line (task_fault (lone_setting h) (plain_run ms p t) env)
+    (plain_flow ms h (suc p) (going_slots (lone_setting h) (plain_run ms p t) env) ts)
 
 abbrev pub work_calls : Work → ℕ
 work_calls (module_work n ps) = 1
@@ -77,4 +81,5 @@ plain_calls [] = 0
 plain_calls (t ∷ ts) = work_calls t.work + plain_calls ts
 
 abbrev pub plain_verdict : Registry → Name → List PlainTask → Verdict
-plain_verdict ms h ts = offence_verdict (plain_rules ms ts) (offence_verdict (plain_flow ms h 0 no_slots ts) (accepted (plain_calls ts)))
+plain_verdict ms h ts = offence_verdict (plain_rules ms ts)
+    (offence_verdict (plain_flow ms h 0 no_slots ts) (accepted (plain_calls ts)))

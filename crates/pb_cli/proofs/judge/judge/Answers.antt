@@ -1,13 +1,14 @@
 use Rattle.std.proofs.Common.{◌≡◌, Err, Ok, is_some, false, sym, ap, ◌∙◌, subst, rules}
 use Rattle.std.proofs.lemmas.Result.{err_from_is_err_and}
+use Rattle.pb_semantics.specs.Gives.{FaultGives}
 use Rattle.pb_language.specs.Judged.{judged}
 use Rattle.pb_sig.specs.Table.{built_modules}
 use Rattle.pb_inventory.specs.Inventory.{inventory_view}
 use Rattle.pb_book.specs.Books.{book_of}
 use Rattle.pb_book.specs.Reading.{IsBook, IsNoBook}
-use Rattle.pb_verify.specs.Judges.{Refuses}
+use Rattle.pb_verify.specs.Judges.{refused_verdict}
 use Rattle.pb_verify.specs.Meaning.{inventory_of}
-use Rattle.pb_cli.specs.Judged.{book_verdict, inventory_verdict}
+use Rattle.pb_cli.specs.FileVerdicts.{book_verdict, inventory_verdict}
 use Rattle.pb_cli.proofs.Verdicts.{book_read, book_says, inventory_read, inventory_says, judges_unsigned, tells_accepted, tells_book, tells_inventory, tells_refused}
 use Rattle.pb_cli.proofs.judge.judge.Goals as goal
 
@@ -41,7 +42,7 @@ returns-in_err-verify-clause-verdict c =
     let read_book = book_read c.args.book.now c.read-2.result c.read-2.ensures.large b c.in_ok-book.was (subst (λ ms. IsBook ms c.args.book.now b) c.in_ok-registry.ensures c.in_ok-book.ensures.book) in
     judges_unsigned (λ s. s.now) c.args.signatures c.args.inventory.now c.args.book.now c.from_residual-in_err-verify.result none
     (rw (p.1, p.2) (tells_refused i (book_of b) c.in_err-verify.field-0.0 (inventory_verdict c.args.inventory.now) (book_verdict c.args.book.now) read read_book
-    (subst (λ ms. Refuses c.in_err-verify.field-0.0 (judged ms (inventory_of i) (book_of b))) c.in_ok-registry.ensures c.in_err-verify.ensures.refused)))
+    (subst (λ ms. FaultGives (refused_verdict c.in_err-verify.field-0.0) (judged ms (inventory_of i) (book_of b))) c.in_ok-registry.ensures c.in_err-verify.ensures.verdict)))
 
 pub returns-clause-read : goal.returns-clause-read
 returns-clause-read c =
@@ -64,7 +65,7 @@ returns-clause-verdict c =
     ap (λ i. judged built_modules (inventory_of (inventory_view i)) (book_of c.in_ok-verify.field-0.book)) kept.1
     ∙ ap (λ b. judged built_modules inventory (book_of b)) kept.0
     ∙ ap (λ ms. judged ms inventory book) (sym c.in_ok-registry.ensures)
-    ∙ c.in_ok-verify.ensures.accepted in
+    ∙ c.in_ok-verify.ensures.verdict in
     judges_unsigned (λ s. s.now) c.args.signatures c.args.inventory.now c.args.book.now (Ok c.in_ok-verify.field-0) none
     (tells_accepted (inventory_view c.in_ok-verify.field-0.inventory) (book_of c.in_ok-verify.field-0.book) c.in_ok-verify.field-0 (inventory_verdict c.args.inventory.now) (book_verdict c.args.book.now)
     (returns-clause-read c) (returns-clause-book_read c) accepted)

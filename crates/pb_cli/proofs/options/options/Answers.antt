@@ -1,7 +1,7 @@
-use Rattle.std.proofs.Common.{◌≡◌, map, string_bytes, IfOk, subst, sym, ap, ◌∙◌}
+use Rattle.std.proofs.Common.{map, string_bytes, IfOk, subst, sym, ap, ◌∙◌}
 use Rattle.std.proofs.lemmas.Result.{IfErr-weaker}
 use Rattle.clap.specs.Words.{HasKind, fault_of, is_simple, is_simple_and_free, kind_of, subcommand_of}
-use Rattle.pb_cli.specs.Options.{Says, playcheck_app}
+use Rattle.pb_cli.specs.Options.{IsMistakeWhere, Says, SaysNone, playcheck_app}
 use Rattle.pb_cli.proofs.Refusals.{is_told, no_command}
 use Rattle.pb_cli.proofs.options.options.Goals as goal
 
@@ -17,11 +17,13 @@ returns-in-Ok-clause-refused c =
     let app = c.in_ok-command.ensures in
     let words = map string_bytes c.args.words.now in
     let none = ap (λ a. fault_of a words) (sym app) ∙ c.in-Ok.ensures.kinds (ap is_simple_and_free app) in
-    IfErr-weaker c.chosen.result _ _ (λ f. no_command (fault_of playcheck_app words) none f) c.chosen.ensures.refused
+    let found = (c.in-Ok.ensures.matches (ap is_simple app)).1 ∙ ap (λ a. subcommand_of a words) app in
+    IfErr-weaker c.chosen.result _ _
+    (λ f says. no_command (fault_of playcheck_app words) (subcommand_of playcheck_app words) none f (subst (λ x. IsMistakeWhere (SaysNone x) f) found says)) c.chosen.ensures.refused
 
 pub returns-in-Err-clause-refused : goal.returns-in-Err-clause-refused
 returns-in-Err-clause-refused c =
     let app = c.in_ok-command.ensures in
     let words = map string_bytes c.args.words.now in
     let found = c.in-Err.ensures.kinds (ap is_simple_and_free app) in
-    is_told (fault_of playcheck_app words) (kind_of c.in-Err.e) c.fault_of.result (subst (λ a. HasKind (fault_of a words) c.in-Err.e) app found) c.fault_of.ensures
+    is_told (fault_of playcheck_app words) (subcommand_of playcheck_app words) (kind_of c.in-Err.e) c.fault_of.result (subst (λ a. HasKind (fault_of a words) c.in-Err.e) app found) c.fault_of.ensures

@@ -25,9 +25,9 @@ chain_kind-loop-operand-preserved t c =
     let are_bool = c.loop-operand.are_bool in
     let next : drop i items ≡ e ∷ drop (i + 1) items = drop-at items i e c.loop-operand-test.true c.operand-item.is in
     record {
-      faults = λ b. c.loop-operand.invariant.faults b ∙ ap (λ es. chain_fault s (exprs_view es) b) next ∙ chain-turn s e rest b c.in_ok-kind.ensures.0;
+      faults = λ b. c.loop-operand.invariant.faults b ∙ ap (λ es. chain_fault s (exprs_view es) b) next ∙ chain-turn s e rest b c.in_ok-kind.ensures.fault;
       kinds = λ b. c.loop-operand.invariant.kinds b ∙ ap (λ es. are_bool && are_booleans s (exprs_view es) b) next
-          ∙ booleans-turn are_bool c.is_bool-are_bool.result (kind_view c.in_ok-kind.kind) s e rest b c.is_bool-are_bool.ensures c.in_ok-kind.ensures.1;
+          ∙ booleans-turn are_bool c.is_bool-are_bool.result (kind_view c.in_ok-kind.kind) s e rest b c.is_bool-are_bool.ensures c.in_ok-kind.ensures.kind;
     }
 
 pub list_kind-loop-item-preserved : goal.list_kind-loop-item-preserved
@@ -40,28 +40,33 @@ list_kind-loop-item-preserved t c =
     let kinds = c.loop-item.kinds.items in
     let next : drop i items ≡ e ∷ drop (i + 1) items = drop-at items i e c.loop-item-test.true c.item-item.is in
     record {
-      faults = c.loop-item.invariant.faults ∙ ap (λ es. items_fault s (exprs_view es)) next ∙ ap (λ f. first f (items_fault s rest)) c.in_ok-kind.ensures.0;
+      faults = c.loop-item.invariant.faults ∙ ap (λ es. items_fault s (exprs_view es)) next ∙ ap (λ f. first f (items_fault s rest)) c.in_ok-kind.ensures.fault;
       kinds = c.loop-item.invariant.kinds ∙ ap (λ es. joined_onto kinds (items_kind s (exprs_view es))) next
-          ∙ ap (λ k. joined_onto kinds (join k (items_kind s rest))) (sym c.in_ok-kind.ensures.1) ∙ sym (onto-last kinds c.in_ok-kind.kind (items_kind s rest))
+          ∙ ap (λ k. joined_onto kinds (join k (items_kind s rest))) (sym c.in_ok-kind.ensures.kind) ∙ sym (onto-last kinds c.in_ok-kind.kind (items_kind s rest))
           ∙ ap (λ ks. joined_onto ks (items_kind s rest)) (sym c.in_ok-push.ensures.items);
     }
 
-pub list_kind-returns : goal.list_kind-returns
-list_kind-returns t c =
+pub list_kind-returns-clause-fault : goal.list_kind-returns-clause-fault
+list_kind-returns-clause-fault t c =
+    let s = own_scope (slots_view c.args.slots.now.entries) in
+    let items = c.deref-item-items.result.now in
+    let past = drop_all c.loop-item.item-index items c.loop-item-test.false in
+    ap (λ xs. items_fault s (exprs_view xs)) (sym c.deref-item-items.ensures.value) ∙ c.loop-item.invariant.faults ∙ ap (λ xs. items_fault s (exprs_view xs)) past
+
+pub list_kind-returns-clause-kind : goal.list_kind-returns-clause-kind
+list_kind-returns-clause-kind t c =
     let s = own_scope (slots_view c.args.slots.now.entries) in
     let items = c.deref-item-items.result.now in
     let es = exprs_view c.args.items.now.items in
     let kinds = c.loop-item.kinds.items in
-    let whole = sym c.deref-item-items.ensures.value in
     let past = drop_all c.loop-item.item-index items c.loop-item-test.false in
     let size : c.len.result ≡ count es =
     omega (arith, c.len.ensures, c.deref-item-items.ensures.len, ap length c.deref-item-items.ensures.value, count-exprs c.args.items.now.items) in
     let joined : items_kind s es ≡ kind_view c.in_ok-joined.joined =
-    ap (λ xs. items_kind s (exprs_view xs)) whole ∙ c.loop-item.invariant.kinds ∙ ap (λ xs. joined_onto kinds (items_kind s (exprs_view xs))) past ∙ sym c.in_ok-joined.ensures in (
-      ap (λ xs. items_fault s (exprs_view xs)) whole ∙ c.loop-item.invariant.faults ∙ ap (λ xs. items_fault s (exprs_view xs)) past,
-      kind_view-List c.in_ok-new.field-0 c.len.result ∙ ap (λ k. lists k c.len.result) (ap kind_view c.in_ok-new.ensures.ok ∙ sym joined)
-          ∙ ap (lists (items_kind s es)) size,
-    )
+    ap (λ xs. items_kind s (exprs_view xs)) (sym c.deref-item-items.ensures.value) ∙ c.loop-item.invariant.kinds
+    ∙ ap (λ xs. joined_onto kinds (items_kind s (exprs_view xs))) past ∙ sym c.in_ok-joined.ensures in
+    kind_view-List c.in_ok-new.field-0 c.len.result ∙ ap (λ k. lists k c.len.result) (ap kind_view c.in_ok-new.ensures.ok ∙ sym joined)
+    ∙ ap (lists (items_kind s es)) size
 
 pub record_kind-loop-name-preserved : goal.record_kind-loop-name-preserved
 record_kind-loop-name-preserved t c =
@@ -77,17 +82,20 @@ record_kind-loop-name-preserved t c =
       done ++ e ∷ [],
       all ∙ sym (append_assoc done (e ∷ []) left),
       c.in_ok-put.ensures
-          ∙ ap (λ k. put_slot (string_bytes e.0) true k kinds) c.in_ok-kind.ensures.1 ∙ ap (put_slot (string_bytes e.0) true (f e.1)) inv.2 ∙ last,
-      inv.3 ∙ ap (λ es. fields_fault s (parts_view es)) c.in-Some.ensures.steps ∙ ap (λ x. first x (fields_fault s (parts_view left))) c.in_ok-kind.ensures.0,
+          ∙ ap (λ k. put_slot (string_bytes e.0) true k kinds) c.in_ok-kind.ensures.kind ∙ ap (put_slot (string_bytes e.0) true (f e.1)) inv.2 ∙ last,
+      inv.3 ∙ ap (λ es. fields_fault s (parts_view es)) c.in-Some.ensures.steps ∙ ap (λ x. first x (fields_fault s (parts_view left))) c.in_ok-kind.ensures.fault,
     )
 
-pub record_kind-returns : goal.record_kind-returns
-record_kind-returns t c =
+pub record_kind-returns-clause-fault : goal.record_kind-returns-clause-fault
+record_kind-returns-clause-fault t c =
+    let s = own_scope (slots_view c.args.slots.now.entries) in
+    c.loop-name.invariant.3 ∙ ap (λ es. fields_fault s (parts_view es)) (c.in-None.ensures).steps.0
+
+pub record_kind-returns-clause-kind : goal.record_kind-returns-clause-kind
+record_kind-returns-clause-kind t c =
     let s = own_scope (slots_view c.args.slots.now.entries) in
     let inv = c.loop-name.invariant in
     let nil : c.loop-name.name-iterator ≡ [] = (c.in-None.ensures).steps.0 in
-    let whole : c.args.fields.now.entries ≡ inv.0 = inv.1 ∙ ap (λ es. inv.0 ++ es) nil ∙ append-nil inv.0 in (
-      inv.3 ∙ ap (λ es. fields_fault s (parts_view es)) nil,
-      kind_view-Rec c.in_ok-new.field-0 ∙ ap (λ m. recs (slots_view m.entries)) c.in_ok-new.ensures.ok
-          ∙ ap recs (inv.2 ∙ ap (slots_from (λ (x : Expr). kind_of s (expr_view x))) (sym whole) ∙ sym (parts_slots-ascending s c.args.fields.now.entries c.iter-name-items.ensures.ordered)),
-    )
+    let whole : c.args.fields.now.entries ≡ inv.0 = inv.1 ∙ ap (λ es. inv.0 ++ es) nil ∙ append-nil inv.0 in
+    kind_view-Rec c.in_ok-new.field-0 ∙ ap (λ m. recs (slots_view m.entries)) c.in_ok-new.ensures.ok
+    ∙ ap recs (inv.2 ∙ ap (slots_from (λ (x : Expr). kind_of s (expr_view x))) (sym whole) ∙ sym (parts_slots-ascending s c.args.fields.now.entries c.iter-name-items.ensures.ordered))

@@ -1,5 +1,6 @@
 use Rattle.std.proofs.Common.{ap, ◌≡◌, List, sym, subst, ◌∙◌, true}
 use Rattle.std.proofs.lemmas.Result.{MatchResult-weaker}
+use Rattle.pb_semantics.specs.Gives.{Gives}
 use Rattle.pb_semantics.specs.Kind.{no_slots}
 use Rattle.pb_value.specs.KindView.{slots_view}
 use Rattle.pb_verify.specs.Known.{IsTable}
@@ -7,14 +8,14 @@ use Rattle.pb_verify.proofs.KnownTables.{play_table}
 use Rattle.pb_sig.specs.Modules.{modules_of}
 use Rattle.pb_inventory.specs.Inventory.{inventory_view}
 use Rattle.pb_language.specs.Judged.{judged}
-use Rattle.pb_language.specs.Verdict.{Verdict}
+use Rattle.pb_language.specs.Verdict.{Verdict, accepted}
 use Rattle.pb_language.specs.plain.Flow.{plain_writes}
 use Rattle.pb_language.specs.plain.Tables.{Joins}
 use Rattle.pb_book.specs.Lines.{is_numbered}
 use Rattle.pb_book.specs.Meaning.{are_plain_plays, plain_tasks}
 use Rattle.pb_book.specs.declared.book.Play.{Play}
 use Rattle.pb_book.specs.Books.{plain_plays}
-use Rattle.pb_verify.specs.Judges.{Judges, tasks_verdict}
+use Rattle.pb_verify.specs.Judges.{refused_verdict, tasks_verdict}
 use Rattle.pb_verify.specs.Meaning.{inventory_of}
 use Rattle.pb_verify.proofs.Lone.{alone}
 use Rattle.pb_verify.proofs.Verdicts.{one_play, only_item}
@@ -28,7 +29,7 @@ returns-in-len1-clause-verdict c =
     let is = only_item c.args.plays.now p c.in-len1.len_at_least c.in-len1.len_below c.play-item.is in
     let numbered = subst (λ (ps : List Play). is_numbered ps ≡ true) is c.requires.numbered in
     let plain = subst (λ (ps : List Play). are_plain_plays ps ≡ true) is c.requires.plain in
-    subst (λ (v : Verdict). Judges c.judge_tasks.result v)
+    subst (λ (v : Verdict). Gives (λ f. accepted f.budget) refused_verdict c.judge_tasks.result v)
     (ap (λ ts. tasks_verdict ms a.host.name (plain_tasks ts)) c.as_slice.ensures.value ∙ sym (ap (λ ps. judged ms (inventory_of (inventory_view c.args.inventory.now)) (plain_plays ps)) is ∙ one_play ms a.host.name (inventory_of (inventory_view c.args.inventory.now)) p a.stands numbered plain))
     (c.judge_tasks.ensures.verdict a.host.name a.stands)
 

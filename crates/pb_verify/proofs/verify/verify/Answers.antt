@@ -1,6 +1,7 @@
 use Rattle.std.proofs.Common.{◌≡◌, refl, sym, ap, ◌∙◌, subst}
 use Rattle.std.proofs.lemmas.Bool.{eq-eqb}
 use Rattle.std.proofs.lemmas.Result.{err_from_is_err_and}
+use Rattle.pb_semantics.specs.Gives.{FaultGives}
 use Rattle.pb_language.specs.Judged.{judged}
 use Rattle.pb_language.specs.Verdict.{Verdict, accepted}
 use Rattle.pb_sig.specs.Modules.{modules_of}
@@ -8,17 +9,17 @@ use Rattle.pb_inventory.specs.Inventory.{inventory_view}
 use Rattle.pb_book.specs.Books.{book_of, plain_plays}
 use Rattle.pb_value.specs.KindView.{slots_view}
 use Rattle.pb_verify.specs.Known.{IsTable}
-use Rattle.pb_verify.specs.Judges.{Refuses}
+use Rattle.pb_verify.specs.Judges.{refused_verdict}
 use Rattle.pb_verify.specs.Meaning.{inventory_of}
 use Rattle.pb_verify.specs.declared.checked.Accepted.{Accepted}
 use Rattle.pb_verify.proofs.verify.verify.Goals as goal
 
-pub returns-in_err-budget-clause-refused : goal.returns-in_err-budget-clause-refused
-returns-in_err-budget-clause-refused c =
+pub returns-in_err-budget-clause-verdict : goal.returns-in_err-budget-clause-verdict
+returns-in_err-budget-clause-verdict c =
     let p = err_from_is_err_and c.from_residual.result c.from_residual.ensures.1 in
     let judge = judged (modules_of c.args.registry) (inventory_of (inventory_view c.args.inventory)) in
     let same : judge (plain_plays c.plays.result.now) ≡ judge (book_of c.args.book) = ap (λ ps. judge (plain_plays ps)) c.plays.ensures.value in
-    rw (p.1, p.2) (subst (λ (v : Verdict). Refuses c.in_err-budget.field-0.0 v) same c.in_err-budget.ensures.verdict)
+    rw (p.1, p.2) (subst (λ (v : Verdict). FaultGives (refused_verdict c.in_err-budget.field-0.0) v) same c.in_err-budget.ensures.verdict)
 
 pub of-requires-clause-accepted : goal.of-requires-clause-accepted
 of-requires-clause-accepted c =
@@ -27,8 +28,8 @@ of-requires-clause-accepted c =
     let verdict : judge (book_of c.args.book) ≡ accepted n = sym (ap (λ ps. judge (plain_plays ps)) c.plays.ensures.value) ∙ c.in_ok-budget.ensures.verdict in
     rw verdict (eq-eqb n n refl)
 
-pub returns-clause-accepted : goal.returns-clause-accepted
-returns-clause-accepted c =
+pub returns-clause-verdict : goal.returns-clause-verdict
+returns-clause-verdict c =
     sym (ap (λ ps. judged (modules_of c.args.registry) (inventory_of (inventory_view c.args.inventory)) (plain_plays ps)) c.plays.ensures.value) ∙ c.in_ok-budget.ensures.verdict
     ∙ ap accepted (sym (ap (λ (a : Accepted). a.budget) c.in_ok-of.ensures))
 

@@ -1,11 +1,11 @@
-use Rattle.std.proofs.Common.{option_map, subst, sym, ap, ◌∙◌}
+use Rattle.std.proofs.Common.{None, option_map, subst, sym, ap, ◌∙◌}
+use Rattle.pb_semantics.specs.Gives.{Gives}
 use Rattle.pb_language.specs.Judgement.{arguments_fault}
 use Rattle.pb_value.specs.KindView.{slots_view}
-use Rattle.pb_expr.specs.FitView.{own_scope}
+use Rattle.pb_expr.specs.FitView.{fault_found, own_scope}
 use Rattle.pb_sig.specs.ModuleView.{builtin_view}
 use Rattle.pb_sig.specs.Modules.{modules_of}
 use Rattle.pb_book.specs.Meaning.{argument_parts}
-use Rattle.pb_verify.specs.Way.{Asks}
 use Rattle.pb_verify.proofs.WalkModules.{found_asked}
 use Rattle.pb_verify.proofs.walk.call_asked.Goals as goal
 
@@ -15,4 +15,4 @@ returns c =
     let ps = argument_parts c.args.arguments.now.items in
     let found = sym c.find.ensures ∙ ap (option_map (λ m. builtin_view m.now)) c.in-Some.is in
     let asked = found_asked s c.args.name.now (modules_of c.args.registry.now) (builtin_view c.in-Some.found.now) ps c.args.registry.now.plain found in
-    subst (λ f. Asks c.arguments_asked.result f) (ap (λ qs. arguments_fault s qs ps) c.params.ensures ∙ sym asked) c.arguments_asked.ensures
+    subst (λ f. Gives (λ x. None) fault_found c.arguments_asked.result f) (ap (λ qs. arguments_fault s qs ps) c.params.ensures ∙ sym asked) c.arguments_asked.ensures

@@ -1,8 +1,9 @@
 use Rattle.std.proofs.Common.{◌≡◌, ◌+◌, ◌∷◌, Some, drop, refl, sym, ap, ◌∙◌, subst}
 use Rattle.std.proofs.lemmas.List.{drop_all}
+use Rattle.pb_semantics.specs.Gives.{FaultGives}
 use Rattle.pb_semantics.specs.Kind.{no_slots}
 use Rattle.pb_value.specs.KindView.{slots_view}
-use Rattle.pb_expr.specs.FitView.{fault_view, Fails}
+use Rattle.pb_expr.specs.FitView.{fault_found, fault_view}
 use Rattle.pb_expr.proofs.Turns.{drop-at}
 use Rattle.pb_sig.specs.Modules.{modules_of}
 use Rattle.pb_book.specs.Meaning.{argument_parts, plain_task, plain_tasks}
@@ -40,7 +41,7 @@ returns-in-Err-Unfit-clause-fault c =
     let next : drop i tasks ≡ t ∷ rest = drop-at tasks i t c.loop-task-test.true c.task-item.is in
     let plain = first_plain ms t rest (subst (Rest ms) next c.loop-task.invariant.left) in
     let way = subst (λ ts. Way ms before now (plain_tasks tasks) (plain_tasks ts)) next c.loop-task.invariant.way in
-    let fault = subst (λ e. Fails e (own_fault ms now (plain_task t))) c.in-Err-Unfit.field-0-is c.in-Err-Unfit.ensures.fault in
+    let fault = subst (λ e. FaultGives (fault_found e) (own_fault ms now (plain_task t))) c.in-Err-Unfit.field-0-is c.in-Err-Unfit.ensures.fault in
     λ h s. ap (λ u. Some (fault_refusal h (record { unfit = u; line = t.line }))) c.in-Err-Unfit.unfit-is
     ∙ way_fault ms before now (plain_tasks tasks) (plain_task t) (plain_tasks rest) plain way (fault_view c.in-Err-Unfit.unfit) fault h s
 

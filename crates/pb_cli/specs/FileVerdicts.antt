@@ -1,6 +1,8 @@
 -- What becomes of the files that are judged.
-use Rattle.std.specs.Prelude.{◌≡◌, ◌⊎◌, ◌<◌, ℕ, List, length, nat_lt, if◌then◌else◌, Option, Some, None, Result, Ok, Err}
+use Rattle.std.specs.Prelude.{◌≡◌, ◌<◌, ◌≤◌, ℕ, List, length, nat_lt, if◌then◌else◌, Option, Some}
+use Rattle.std.specs.Prelude.{None, Result, Ok, Err}
 use Rattle.pb_semantics.specs.Data.{Data}
+use Rattle.pb_semantics.specs.Gives.{FaultGives, Gives}
 use Rattle.pb_semantics.specs.Limits.{most_answer_bytes, most_book_bytes, most_inventory_bytes}
 use Rattle.pb_language.specs.Book.{Book}
 use Rattle.pb_language.specs.Judged.{judged}
@@ -16,7 +18,7 @@ use Rattle.pb_book.specs.declared.fault.BookFault.TheVariants as book
 use Rattle.pb_verify.specs.Meaning.{inventory_of as inventory_data, refusal_of}
 use Rattle.pb_verify.specs.declared.checked.Accepted.{Accepted}
 use Rattle.pb_verify.specs.declared.refusal.Code.{Code}
-use Rattle.pb_strategy.specs.Scripts.{IsNoScript}
+use Rattle.pb_strategy.specs.Scripts.{script_fault, script_in}
 use Rattle.pb_strategy.specs.declared.script.ScriptFault.{ScriptFault}
 use Rattle.pb_strategy.specs.declared.script.ScriptFault.TheVariants as script
 use Rattle.pb_verify.specs.declared.refusal.Code.TheVariants.{N00, P01, I01, A01, A02, A03}
@@ -61,7 +63,8 @@ of_text not_json read (Some d) = built (read d)
 
 -- a text that is too long isn't looked at
 abbrev pub of_bytes : {X : Type 0} → ℕ → Code → (Data → Option X) → List ℕ → Result X Code
-of_bytes most not_json read bytes = if nat_lt most (length bytes) then Err N00 else of_text not_json read (json_data bytes)
+of_bytes most not_json read bytes =
+    if nat_lt most (length bytes) then Err N00 else of_text not_json read (json_data bytes)
 
 -- an inventory's text is this inventory, or is refused with this code
 abbrev pub inventory_verdict : List ℕ → Result InventoryData Code
@@ -71,7 +74,8 @@ inventory_verdict bytes = of_bytes most_inventory_bytes I01 inventory_of bytes
 abbrev pub book_verdict : List ℕ → Result Book Code
 book_verdict bytes = of_bytes most_book_bytes P01 (book_from built_modules) bytes
 
--- what becomes of the files: one is refused as a whole, or the book gets a verdict for the inventory
+-- what becomes of the files: one is refused as a whole, or the book gets a verdict for the
+-- inventory
 pub data Found : Type 0 where
   whole_file : Code → Found
   verdict : Verdict → Found
@@ -88,26 +92,27 @@ found_by (Ok i) book = book_found i book
 abbrev pub found : List ℕ → List ℕ → Found
 found inventory book = found_by (inventory_verdict inventory) (book_verdict book)
 
--- refused with that refusal, want of memory aside
-abbrev pub Refuses : Fault → Verdict → Type 0
-Refuses (Refused r) v = v ≡ refused_at (refusal_of r)
-Refuses NoMemory v = Unit {0}
+-- the verdict that refuses so, none for want of memory
+abbrev pub refused_verdict : Fault → Option Verdict
+refused_verdict (Refused r) = Some (refused_at (refusal_of r))
+refused_verdict NoMemory = None
+
+-- the fault itself, none for want of memory
+abbrev pub fault_given : Fault → Option (Result Accepted Fault)
+fault_given (Refused r) = Some (Err (Refused r))
+fault_given NoMemory = None
 
 -- that answer says what becomes of the files
 abbrev pub Tells : Result Accepted Fault → Found → Type 0
-Tells (Ok a) (whole_file code) = ⊥
-Tells (Ok a) (verdict v) = v ≡ accepted a.budget
-Tells (Err f) (whole_file code) = (f ≡ refused code) ⊎ (f ≡ NoMemory)
-Tells (Err f) (verdict v) = Refuses f v
+Tells r (whole_file code) = Gives (λ a. Ok a) fault_given r (Err (refused code))
+Tells r (verdict v) = Gives (λ a. accepted a.budget) refused_verdict r v
 
 -- files with signatures aren't judged yet, and else that answer says what becomes of them
 abbrev pub Judges : Option (List ℕ) → List ℕ → List ℕ → Result Accepted Fault → Type 0
 Judges (Some signatures) inventory book r = r ≡ Err (refused N00)
 Judges None inventory book r = Tells r (found inventory book)
 
--- a file of answers has that fault
-abbrev pub HasScriptFault : List ℕ → ScriptFault → Type 0
-HasScriptFault bytes script.NotJson = json_data bytes ≡ None
-HasScriptFault bytes script.Shape = IsNoScript bytes
-HasScriptFault bytes script.Limit = most_answer_bytes < length bytes
-HasScriptFault bytes script.NoMemory = Unit {0}
+-- a file of answers has that fault: of one that is too long nothing else is asked
+pub record HasScriptFault (bytes : List ℕ) (fault : ScriptFault) : Type 0 where
+  pub read : length bytes ≤ most_answer_bytes → FaultGives (script_fault fault) (script_in bytes)
+  pub long : most_answer_bytes < length bytes → fault ≡ script.Limit

@@ -15,8 +15,8 @@ use Rattle.pb_language.specs.Cases.{Sets, no_sets, sets, append_sets}
 use Rattle.pb_language.specs.Expression.{Name}
 use Rattle.pb_language.specs.Plays.{program_of}
 use Rattle.pb_language.specs.Program.{Program}
-use Rattle.pb_language.specs.Scope.{Later, View, spot_kind, view_of, with_spot}
-use Rattle.pb_language.specs.Tables.{next_round, views_after, with_writes, written_spot}
+use Rattle.pb_language.specs.Scope.{Later, spot_kind, view_of, with_spot}
+use Rattle.pb_language.specs.Tables.{views_after, with_writes, written_spot}
 use Rattle.pb_language.specs.Verdict.{found_laters}
 use Rattle.pb_language.specs.Wells.{WellSets, WellSpot}
 use Rattle.pb_language.specs.plain.Books.{PlainTask, plain_play, lone_host, are_plain_tasks}
@@ -226,14 +226,3 @@ play_joined ms h l ts plain =
     let same = plain_program ms h l ts plain in
     subst (λ (ps : Program). Joins (plain_writes ms h 0 no_slots ts) (view_of h (views_after 4 (lone_host h) ps (found_laters ps (lone_host h))))) (sym same)
     (view_joined ms h l ts plain (found_laters (program ms h l ts plain) (lone_host h)) 3)
-
--- and without a play
-still_view : (h : Name) (views : List View) (ls : List (List Later)) → view_of h (next_round (lone_host h) [] ls views) ≡ view_of h views
-still_view h views ls = rw (own_name h) refl
-
-none_after : (h : Name) (ls : List (List Later)) (n : ℕ) → view_of h (views_after n (lone_host h) [] ls) ≡ no_slots
-none_after h ls zero = rw (own_name h) refl
-none_after h ls (suc n) = still_view h (views_after n (lone_host h) [] ls) ls ∙ none_after h ls n
-
-pub nothing_known : (ms : Registry) (h : Name) → view_of h (views_after 4 (lone_host h) (program_of ms (lone_host h) []) (found_laters (program_of ms (lone_host h) []) (lone_host h))) ≡ no_slots
-nothing_known ms h = none_after h (found_laters (program_of ms (lone_host h) []) (lone_host h)) 4

@@ -8,7 +8,6 @@ use Rattle.pb_language.specs.Expression.{Name}
 use Rattle.pb_language.specs.Cases.{ended_kind}
 use Rattle.pb_language.specs.Scope.{without_slot}
 use Rattle.pb_value.specs.KindView.{kind_view}
-use Rattle.pb_value.specs.declared.kind.Kind.{Kind}
 use Rattle.pb_value.specs.declared.kind.Kind as Kind-of
 use Rattle.pb_value.specs.declared.kind.Kind.{the_lemmas as kind_lemmas}
 

@@ -95,8 +95,8 @@ fn fits(value: &Value, levels: usize) -> bool
 }
 
 #[cycle(fits)]
-fn items_fit(items: &Vec<Value>, levels: usize) -> bool
-    ensures { result ≡ items_fit levels (items_view items.now.items) }
+fn items_fit(items: &[Value], levels: usize) -> bool
+    ensures { result ≡ items_fit levels (items_view items.now) }
 {
     for item in items {
         if !fits(item, levels) {
@@ -160,8 +160,8 @@ fn holds_template(value: &Value) -> bool
 }
 
 #[cycle(template)]
-fn some_item_holds(items: &Vec<Value>) -> bool
-    ensures { result ≡ some_item_holds (items_view items.now.items) }
+fn some_item_holds(items: &[Value]) -> bool
+    ensures { result ≡ some_item_holds (items_view items.now) }
 {
     for item in items {
         if holds_template(item) {
@@ -200,9 +200,9 @@ fn expr_of(alloc: Global, value: &Value) -> Result<Expr, FormFault>
 }
 
 #[cycle(expr_of)]
-fn list_of(alloc: Global, items: &Vec<Value>) -> Result<Vec<Expr>, FormFault>
+fn list_of(alloc: Global, items: &[Value]) -> Result<Vec<Expr>, FormFault>
     ensures given { Gives (λ parts. Some (exprs_view parts.items)) refused result
-        (items_of (items_view items.now.items)) }
+        (items_of (items_view items.now)) }
     ensures simple { IfOk result (λ parts. are_simple (exprs_view parts.items) ≡ true) }
 {
     let mut parts = Vec::with_capacity(alloc, items.len())?;

@@ -67,8 +67,8 @@ fn is_text(value: &Value, one: &str) -> bool
 }
 
 #[cycle(equal)]
-fn items_equal(left: &Vec<Value>, right: &Vec<Value>) -> bool
-    ensures { result ≡ items_eq (items_view left.now.items) (items_view right.now.items) }
+fn items_equal(left: &[Value], right: &[Value]) -> bool
+    ensures { result ≡ items_eq (items_view left.now) (items_view right.now) }
 {
     if left.len() != right.len() {
         return false;
@@ -100,8 +100,8 @@ fn fields_equal(left: &Fields, right: &Fields) -> bool
 }
 
 /// Whether an item of the list is equal to the value.
-pub fn has_item(items: &Vec<Value>, value: &Value) -> bool
-    ensures { result ≡ is_item (view value.now) (items_view items.now.items) }
+pub fn has_item(items: &[Value], value: &Value) -> bool
+    ensures { result ≡ is_item (view value.now) (items_view items.now) }
 {
     for item in items {
         if equal(value, item) {
@@ -126,8 +126,8 @@ pub fn holds_opaque(value: &Value) -> bool
 
 /// Whether an item of the list holds what may not be read.
 #[cycle(holds_opaque)]
-pub fn items_hold_opaque(items: &Vec<Value>) -> bool
-    ensures { result ≡ any_item_opaque (items_view items.now.items) }
+pub fn items_hold_opaque(items: &[Value]) -> bool
+    ensures { result ≡ any_item_opaque (items_view items.now) }
 {
     for item in items {
         if holds_opaque(item) {

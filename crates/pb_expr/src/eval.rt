@@ -66,9 +66,9 @@ fn pair_of<V: Vars>(
 }
 
 #[cycle(eval)]
-fn all_of<V: Vars>(alloc: Global, operands: &Vec<Expr>, vars: &V) -> Result<Value, AllocError>
+fn all_of<V: Vars>(alloc: Global, operands: &[Expr], vars: &V) -> Result<Value, AllocError>
     ensures { IfOk result (λ v. view v
-        ≡ shown (eval_all (V.world vars.now) (exprs_view operands.now.items))) }
+        ≡ shown (eval_all (V.world vars.now) (exprs_view operands.now))) }
 {
     for operand in operands {
         let found = eval(alloc, operand, vars)?;
@@ -82,9 +82,9 @@ fn all_of<V: Vars>(alloc: Global, operands: &Vec<Expr>, vars: &V) -> Result<Valu
 }
 
 #[cycle(eval)]
-fn any_of<V: Vars>(alloc: Global, operands: &Vec<Expr>, vars: &V) -> Result<Value, AllocError>
+fn any_of<V: Vars>(alloc: Global, operands: &[Expr], vars: &V) -> Result<Value, AllocError>
     ensures { IfOk result (λ v. view v
-        ≡ shown (eval_any (V.world vars.now) (exprs_view operands.now.items))) }
+        ≡ shown (eval_any (V.world vars.now) (exprs_view operands.now))) }
 {
     for operand in operands {
         let found = eval(alloc, operand, vars)?;
@@ -98,9 +98,9 @@ fn any_of<V: Vars>(alloc: Global, operands: &Vec<Expr>, vars: &V) -> Result<Valu
 }
 
 #[cycle(eval)]
-fn list_of<V: Vars>(alloc: Global, items: &Vec<Expr>, vars: &V) -> Result<Value, AllocError>
+fn list_of<V: Vars>(alloc: Global, items: &[Expr], vars: &V) -> Result<Value, AllocError>
     ensures { IfOk result (λ v. view v
-        ≡ shown (eval_items (V.world vars.now) (exprs_view items.now.items))) }
+        ≡ shown (eval_items (V.world vars.now) (exprs_view items.now))) }
 {
     let mut values = Vec::new(alloc);
     for item in items {
@@ -145,9 +145,9 @@ fn value_of_path<V: Vars>(path: &Path, vars: &V) -> Result<Value, AllocError>
 }
 
 // The value at the end of the steps.
-fn inner_value(outer: &Value, steps: &Vec<String>) -> Result<Value, AllocError>
+fn inner_value(outer: &Value, steps: &[String]) -> Result<Value, AllocError>
     ensures { IfOk result (λ v. view v
-        ≡ shown (value_below (names_of steps.now.items) (view outer.now))) }
+        ≡ shown (value_below (names_of steps.now) (view outer.now))) }
 {
     let mut here = outer;
     for step in steps {
@@ -231,8 +231,8 @@ fn membership(part: &Value, whole: &Value) -> Value
     }
 }
 
-fn membership_in(part: &Value, items: &Vec<Value>) -> Value
-    ensures { view result ≡ shown (found_in (view part.now) (list (items_view items.now.items))) }
+fn membership_in(part: &Value, items: &[Value]) -> Value
+    ensures { view result ≡ shown (found_in (view part.now) (list (items_view items.now))) }
 {
     if holds_opaque(part) || items_hold_opaque(items) {
         return Value::Opaque;

@@ -120,12 +120,12 @@ fn pair_of(
 }
 
 #[cycle(kind_of)]
-fn chain_kind(alloc: Global, operands: &Vec<Expr>, slots: &Slots) -> Result<Kind, KindFault>
+fn chain_kind(alloc: Global, operands: &[Expr], slots: &Slots) -> Result<Kind, KindFault>
     ensures fault { (answer : Bool) → Gives (λ k. None) fault_found result (first
-        (chain_fault (own_scope (slots_view slots.now.entries)) (exprs_view operands.now.items)
+        (chain_fault (own_scope (slots_view slots.now.entries)) (exprs_view operands.now)
         answer)
         (asks wrong_kind
-        (are_booleans (own_scope (slots_view slots.now.entries)) (exprs_view operands.now.items)
+        (are_booleans (own_scope (slots_view slots.now.entries)) (exprs_view operands.now)
         answer))) }
     ensures kind { IfOk result (λ k. kind_view k ≡ booleans) }
 {
@@ -138,12 +138,12 @@ fn chain_kind(alloc: Global, operands: &Vec<Expr>, slots: &Slots) -> Result<Kind
 }
 
 #[cycle(kind_of)]
-fn list_kind(alloc: Global, items: &Vec<Expr>, slots: &Slots) -> Result<Kind, KindFault>
+fn list_kind(alloc: Global, items: &[Expr], slots: &Slots) -> Result<Kind, KindFault>
     ensures fault { Gives (λ k. None) fault_found result
-        (items_fault (own_scope (slots_view slots.now.entries)) (exprs_view items.now.items)) }
+        (items_fault (own_scope (slots_view slots.now.entries)) (exprs_view items.now)) }
     ensures kind { IfOk result (λ k. kind_view k
-        ≡ lists (items_kind (own_scope (slots_view slots.now.entries)) (exprs_view items.now.items))
-        (count (exprs_view items.now.items))) }
+        ≡ lists (items_kind (own_scope (slots_view slots.now.entries)) (exprs_view items.now))
+        (count (exprs_view items.now))) }
 {
     let mut kinds = Vec::new(alloc);
     for item in items {
@@ -236,11 +236,11 @@ fn path_kind(path: &Path, slots: &Slots) -> Result<Kind, KindFault>
 }
 
 // The kind at the end of the steps.
-fn inner_kind(outer: &Kind, steps: &Vec<String>) -> Result<Kind, KindFault>
+fn inner_kind(outer: &Kind, steps: &[String]) -> Result<Kind, KindFault>
     ensures fault { Gives (λ k. None) fault_found result
-        (steps_fault (names_of steps.now.items) (kind_view outer.now)) }
+        (steps_fault (names_of steps.now) (kind_view outer.now)) }
     ensures kind { IfOk result (λ k. kind_view k
-        ≡ spot_kind (path_spot (names_of steps.now.items) (spot true (kind_view outer.now)))) }
+        ≡ spot_kind (path_spot (names_of steps.now) (spot true (kind_view outer.now)))) }
 {
     let mut here = outer;
     for step in steps {
@@ -402,8 +402,8 @@ fn slots_hold_any(slots: &Slots) -> bool
 }
 
 #[cycle(holds_any)]
-fn cases_hold_any(cases: &Vec<Case<Kind>>) -> bool
-    ensures { result ≡ any_case_holds (cases_view cases.now.items) }
+fn cases_hold_any(cases: &[Case<Kind>]) -> bool
+    ensures { result ≡ any_case_holds (cases_view cases.now) }
 {
     for case in cases {
         if holds_any(&case.fields) {
@@ -430,10 +430,10 @@ fn literal_kind(alloc: Global, known: &Value) -> Result<Kind, AllocError>
 }
 
 #[cycle(literal_kind)]
-fn literal_items(alloc: Global, items: &Vec<Value>) -> Result<Kind, AllocError>
+fn literal_items(alloc: Global, items: &[Value]) -> Result<Kind, AllocError>
     ensures { IfOk result (λ k. kind_view k
-        ≡ lists (known_items (items_view items.now.items))
-        (count_of (items_view items.now.items))) }
+        ≡ lists (known_items (items_view items.now))
+        (count_of (items_view items.now))) }
 {
     let mut joined = Kind::Never;
     for index in (0..items.len()).rev() {

@@ -65,12 +65,12 @@ fn list_of(alloc: Global, item: Kind, most: usize) -> Result<Kind, AllocError>
 /// A result with the cases of both.
 fn result_of(
     alloc: Global,
-    cases: &Vec<Case<Kind>>,
-    others: &Vec<Case<Kind>>,
+    cases: &[Case<Kind>],
+    others: &[Case<Kind>],
     known: Kind,
 ) -> Result<Kind, AllocError>
     ensures { IfOk result (λ k. kind_view k ≡ results
-        (both_cases (cases_view cases.now.items) (cases_view others.now.items)) (kind_view known)) }
+        (both_cases (cases_view cases.now) (cases_view others.now)) (kind_view known)) }
 {
     let known = Arc::new(alloc, known)?;
     let cases = share_cases(alloc, cases, others)?;
@@ -79,11 +79,11 @@ fn result_of(
 
 fn share_cases(
     alloc: Global,
-    cases: &Vec<Case<Kind>>,
-    others: &Vec<Case<Kind>>,
+    cases: &[Case<Kind>],
+    others: &[Case<Kind>],
 ) -> Result<Arc<Vec<Case<Kind>>>, AllocError>
     ensures { IfOk result (λ a. cases_view a.value.items
-        ≡ both_cases (cases_view cases.now.items) (cases_view others.now.items)) }
+        ≡ both_cases (cases_view cases.now) (cases_view others.now)) }
 {
     let all = add_cases(alloc, cases, others)?;
     Ok(Arc::new(alloc, all)?)
@@ -227,11 +227,11 @@ fn both(first: Presence, second: Presence) -> Presence
 /// The cases of the first, then those of the second that the first doesn't cover.
 fn add_cases(
     alloc: Global,
-    cases: &Vec<Case<Kind>>,
-    others: &Vec<Case<Kind>>,
+    cases: &[Case<Kind>],
+    others: &[Case<Kind>],
 ) -> Result<Vec<Case<Kind>>, AllocError>
     ensures { IfOk result (λ v. cases_view v.items
-        ≡ both_cases (cases_view cases.now.items) (cases_view others.now.items)) }
+        ≡ both_cases (cases_view cases.now) (cases_view others.now)) }
 {
     let mut all = copies(alloc, cases)?;
     for other in others {
@@ -243,12 +243,12 @@ fn add_cases(
 /// One case more, if none of the cases covers it.
 fn add_case(
     all: &mut Vec<Case<Kind>>,
-    cases: &Vec<Case<Kind>>,
+    cases: &[Case<Kind>],
     other: &Case<Kind>,
 ) -> Result<(), AllocError>
     ensures { OnOk result (cases_view all.new.items
         ≡ append_cases (cases_view all.old.items)
-        (new_cases (cases_view (other.now ∷ [])) (cases_view cases.now.items))) }
+        (new_cases (cases_view (other.now ∷ [])) (cases_view cases.now))) }
 {
     if !is_covered(cases, other) {
         all.push(copy(other)?)?;
@@ -256,8 +256,8 @@ fn add_case(
     Ok(())
 }
 
-fn copies(alloc: Global, cases: &Vec<Case<Kind>>) -> Result<Vec<Case<Kind>>, AllocError>
-    ensures { IfOk result (λ v. cases_view v.items ≡ cases_view cases.now.items) }
+fn copies(alloc: Global, cases: &[Case<Kind>]) -> Result<Vec<Case<Kind>>, AllocError>
+    ensures { IfOk result (λ v. cases_view v.items ≡ cases_view cases.now) }
 {
     let mut all = Vec::new(alloc);
     for case in cases {

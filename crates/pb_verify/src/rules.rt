@@ -91,17 +91,17 @@ fn is_well_formed(task: &Task, registry: &Registry) -> bool
 }
 
 // Each argument is a parameter, and each parameter that is required is given.
-fn fills(arguments: &Vec<Argument>, parameters: &[Parameter]) -> bool
+fn fills(arguments: &[Argument], parameters: &[Parameter]) -> bool
     ensures { result ≡ are_parameters (map parameter_view parameters.now)
-        (argument_parts arguments.now.items)
-        && has_required (map parameter_view parameters.now) (argument_parts arguments.now.items) }
+        (argument_parts arguments.now)
+        && has_required (map parameter_view parameters.now) (argument_parts arguments.now) }
 {
     all_parameters(arguments, parameters) && all_given(parameters, arguments)
 }
 
-fn all_parameters(arguments: &Vec<Argument>, parameters: &[Parameter]) -> bool
+fn all_parameters(arguments: &[Argument], parameters: &[Parameter]) -> bool
     ensures { result ≡ are_parameters (map parameter_view parameters.now)
-        (argument_parts arguments.now.items) }
+        (argument_parts arguments.now) }
 {
     for argument in arguments {
         if !is_parameter(argument.name.as_str(), parameters) {
@@ -122,9 +122,9 @@ fn is_parameter(name: &str, parameters: &[Parameter]) -> bool
     false
 }
 
-fn all_given(parameters: &[Parameter], arguments: &Vec<Argument>) -> bool
+fn all_given(parameters: &[Parameter], arguments: &[Argument]) -> bool
     ensures { result ≡ has_required (map parameter_view parameters.now)
-        (argument_parts arguments.now.items) }
+        (argument_parts arguments.now) }
 {
     for parameter in parameters {
         if parameter.required && !is_given(parameter.name.as_str(), arguments) {
@@ -134,8 +134,8 @@ fn all_given(parameters: &[Parameter], arguments: &Vec<Argument>) -> bool
     true
 }
 
-fn is_given(name: &str, arguments: &Vec<Argument>) -> bool
-    ensures { result ≡ has_part name.now (argument_parts arguments.now.items) }
+fn is_given(name: &str, arguments: &[Argument]) -> bool
+    ensures { result ≡ has_part name.now (argument_parts arguments.now) }
 {
     for argument in arguments {
         if name == argument.name.as_str() {
@@ -146,15 +146,15 @@ fn is_given(name: &str, arguments: &Vec<Argument>) -> bool
 }
 
 // The message alone.
-fn is_message(arguments: &Vec<Argument>) -> bool
-    ensures { result ≡ has_part (codes "msg") (argument_parts arguments.now.items)
-        && are_among (codes "msg" ∷ []) (argument_parts arguments.now.items) }
+fn is_message(arguments: &[Argument]) -> bool
+    ensures { result ≡ has_part (codes "msg") (argument_parts arguments.now)
+        && are_among (codes "msg" ∷ []) (argument_parts arguments.now) }
 {
     is_given("msg", arguments) && all_messages(arguments)
 }
 
-fn all_messages(arguments: &Vec<Argument>) -> bool
-    ensures { result ≡ are_among (codes "msg" ∷ []) (argument_parts arguments.now.items) }
+fn all_messages(arguments: &[Argument]) -> bool
+    ensures { result ≡ are_among (codes "msg" ∷ []) (argument_parts arguments.now) }
 {
     for argument in arguments {
         if argument.name.as_str() != "msg" {
@@ -165,15 +165,15 @@ fn all_messages(arguments: &Vec<Argument>) -> bool
 }
 
 // At least one name, and each can be set.
-fn are_variables(arguments: &Vec<Argument>) -> bool
+fn are_variables(arguments: &[Argument]) -> bool
     ensures { (ms : List ModuleData) → result
-        ≡ is_well ms (set_fact_work (argument_parts arguments.now.items)) }
+        ≡ is_well ms (set_fact_work (argument_parts arguments.now)) }
 {
     !arguments.is_empty() && all_settable(arguments)
 }
 
-fn all_settable(arguments: &Vec<Argument>) -> bool
-    ensures { result ≡ can_be_set (argument_parts arguments.now.items) }
+fn all_settable(arguments: &[Argument]) -> bool
+    ensures { result ≡ can_be_set (argument_parts arguments.now) }
 {
     for argument in arguments {
         let name = argument.name.as_str();
@@ -205,8 +205,8 @@ fn sets_reserved(task: &Task) -> bool
     }
 }
 
-fn any_reserved(arguments: &Vec<Argument>) -> bool
-    ensures { result ≡ any_among (part_names (argument_parts arguments.now.items)) reserved_names }
+fn any_reserved(arguments: &[Argument]) -> bool
+    ensures { result ≡ any_among (part_names (argument_parts arguments.now)) reserved_names }
 {
     for argument in arguments {
         if is_reserved(argument.name.as_str()) {

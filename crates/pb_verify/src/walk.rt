@@ -224,7 +224,7 @@ fn task_asked(
 fn call_asked(
     alloc: Global,
     name: &str,
-    arguments: &Vec<Argument>,
+    arguments: &[Argument],
     registry: &Registry,
     environment: &Slots,
 ) -> Result<(), KindFault>
@@ -232,7 +232,7 @@ fn call_asked(
     ensures { Gives (λ x. None) fault_found result
         (action_fault (own_scope (slots_view environment.now.entries))
         (call_of (module_named name.now (modules_of registry.now))
-        (argument_parts arguments.now.items))) }
+        (argument_parts arguments.now))) }
 {
     match registry.find(name) {
         Some(found) => arguments_asked(alloc, arguments, found.params(), environment),
@@ -256,13 +256,13 @@ fn condition_asked(alloc: Global, condition: &Expr, environment: &Slots) -> Resu
 // Each argument is of its parameter's kind.
 fn arguments_asked(
     alloc: Global,
-    arguments: &Vec<Argument>,
+    arguments: &[Argument],
     parameters: &[Parameter],
     environment: &Slots,
 ) -> Result<(), KindFault>
     ensures { Gives (λ x. None) fault_found result
         (arguments_fault (own_scope (slots_view environment.now.entries))
-        (map parameter_view parameters.now) (argument_parts arguments.now.items)) }
+        (map parameter_view parameters.now) (argument_parts arguments.now)) }
 {
     for argument in arguments {
         let kind = value_asked(alloc, &argument.value, environment)?;
@@ -275,15 +275,15 @@ fn arguments_asked(
 
 fn message_asked(
     alloc: Global,
-    arguments: &Vec<Argument>,
+    arguments: &[Argument],
     environment: &Slots,
 ) -> Result<(), KindFault>
     ensures { Gives (λ x. None) fault_found result (first
         (fault (own_scope (slots_view environment.now.entries))
-        (argument_or (part_named (codes "msg") (argument_parts arguments.now.items))))
+        (argument_or (part_named (codes "msg") (argument_parts arguments.now))))
         (asks wrong_kind (not (is_anything
         (kind_found (own_scope (slots_view environment.now.entries))
-        (argument_or (part_named (codes "msg") (argument_parts arguments.now.items)))))))) }
+        (argument_or (part_named (codes "msg") (argument_parts arguments.now)))))))) }
 {
     if let Some(message) = argument_named(arguments, "msg") {
         drop(value_asked(alloc, message, environment)?);
@@ -292,9 +292,9 @@ fn message_asked(
 }
 
 // The value of the first argument of that name.
-fn argument_named<'a>(arguments: &'a Vec<Argument>, name: &str) -> Option<&'a Expr>
+fn argument_named<'a>(arguments: &'a [Argument], name: &str) -> Option<&'a Expr>
     ensures { option_map (λ e. expr_view e.now) result
-        ≡ part_named name.now (argument_parts arguments.now.items) }
+        ≡ part_named name.now (argument_parts arguments.now) }
 {
     for argument in arguments {
         if name == argument.name.as_str() {
@@ -305,17 +305,13 @@ fn argument_named<'a>(arguments: &'a Vec<Argument>, name: &str) -> Option<&'a Ex
 }
 
 // The values are of kinds that are known.
-fn sets_asked(
-    alloc: Global,
-    arguments: &Vec<Argument>,
-    environment: &Slots,
-) -> Result<Sets, KindFault>
+fn sets_asked(alloc: Global, arguments: &[Argument], environment: &Slots) -> Result<Sets, KindFault>
     ensures fault { Gives (λ x. None) fault_found result
         (fields_fault (own_scope (slots_view environment.now.entries))
-        (argument_parts arguments.now.items)) }
+        (argument_parts arguments.now)) }
     ensures sets { IfOk result (λ s. (a : Bool) → sets_of a s.items
         ≡ parts_set (own_scope (slots_view environment.now.entries)) a
-        (argument_parts arguments.now.items)) }
+        (argument_parts arguments.now)) }
 {
     let mut sets = Vec::new(alloc);
     for argument in arguments {

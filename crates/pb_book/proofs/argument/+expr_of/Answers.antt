@@ -43,16 +43,16 @@ expr_of-returns-in_ok-record_of-in-Rec-clause-given t c =
 pub list_of-returns-in_err-expr_of-clause-given : goal.list_of-returns-in_err-expr_of-clause-given
 list_of-returns-in_err-expr_of-clause-given t c =
     let l = c.loop-item in
-    let vs = c.deref-item-items.result.now in
+    let vs = c.args.items.now in
     let v = c.item-item.result in
     let rest = items_of (items_view (drop (l.item-index + 1) vs)) in
-    refused-exit (λ (parts : Vec Expr Global). exprs_view parts.items) _ _ (value_of (view v)) (items_of (items_view c.args.items.now.items)) c.from_residual-in_err-expr_of.ensures.1
-    c.in_err-expr_of.ensures.given (λ none. ap (λ (xs : List Value). items_of (items_view xs)) (sym c.deref-item-items.ensures.value) ∙ l.invariant.given ∙ ap (items_before (exprs_view l.parts.items)) (items_of-next vs l.item-index v c.loop-item-test.true c.item-item.is ∙ ap (λ x. with_item x rest) none) ∙ items_before-none (exprs_view l.parts.items))
+    refused-exit (λ (parts : Vec Expr Global). exprs_view parts.items) _ _ (value_of (view v)) (items_of (items_view c.args.items.now)) c.from_residual-in_err-expr_of.ensures.1
+    c.in_err-expr_of.ensures.given (λ none. l.invariant.given ∙ ap (items_before (exprs_view l.parts.items)) (items_of-next vs l.item-index v c.loop-item-test.true c.item-item.is ∙ ap (λ x. with_item x rest) none) ∙ items_before-none (exprs_view l.parts.items))
 
 pub list_of-loop-item-preserved : goal.list_of-loop-item-preserved
 list_of-loop-item-preserved t c =
     let l = c.loop-item in
-    let vs = c.deref-item-items.result.now in
+    let vs = c.args.items.now in
     let rest = items_of (items_view (drop (l.item-index + 1) vs)) in
     let all : c.push.new.self.items ≡ l.parts.items ++ c.in_ok-expr_of.field-0 ∷ [] = c.in_ok-push.ensures.items in
     let next = items_of-next vs l.item-index c.item-item.result c.loop-item-test.true c.item-item.is in record {
@@ -64,9 +64,9 @@ list_of-loop-item-preserved t c =
 pub list_of-returns-clause-given : goal.list_of-returns-clause-given
 list_of-returns-clause-given t c =
     let l = c.loop-item in
-    let vs = c.deref-item-items.result.now in
+    let vs = c.args.items.now in
     let over : length vs ≤ l.item-index = omega arith in
-    ap (λ (xs : List Value). items_of (items_view xs)) (sym c.deref-item-items.ensures.value) ∙ l.invariant.given
+    l.invariant.given
     ∙ ap (items_before (exprs_view l.parts.items)) (at_drop_all (λ (xs : List Value). items_of (items_view xs)) vs l.item-index over) ∙ items_before-all (exprs_view l.parts.items)
 
 pub record_of-returns-in_err-expr_of-clause-given :

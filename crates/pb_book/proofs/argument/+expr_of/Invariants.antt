@@ -9,7 +9,7 @@ use Rattle.pb_book.proofs.argument.+expr_of.Given as goal
 
 abbrev pub invariant-list_of-loop-item : goal.invariant-list_of-loop-item
 invariant-list_of-loop-item l = record {
-  given : items_of (items_view l.item-items) ≡ items_before (exprs_view l.parts.items) (items_of (items_view (drop l.item-index l.item-items)));
+  given : items_of (items_view l.items) ≡ items_before (exprs_view l.parts.items) (items_of (items_view (drop l.item-index l.items)));
   simple : are_simple (exprs_view l.parts.items) ≡ true;
 }
 

@@ -4,7 +4,7 @@ use Rattle.pb_book.specs.Reading.{some_item_holds, some_field_holds}
 use Rattle.pb_book.proofs.argument.+template.Given as goal
 
 abbrev pub invariant-some_item_holds-loop-item : goal.invariant-some_item_holds-loop-item
-invariant-some_item_holds-loop-item l = some_item_holds (items_view l.item-items) ≡ some_item_holds (items_view (drop l.item-index l.item-items))
+invariant-some_item_holds-loop-item l = some_item_holds (items_view l.items) ≡ some_item_holds (items_view (drop l.item-index l.items))
 
 abbrev pub invariant-some_field_holds-loop-value : goal.invariant-some_field_holds-loop-value
 invariant-some_field_holds-loop-value l = some_field_holds (fields_view l.fields.entries) ≡ some_field_holds (fields_view l.value-iterator)

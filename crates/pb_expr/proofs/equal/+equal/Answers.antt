@@ -9,5 +9,5 @@ equal-returns-in-Rec-right t c =
     let others = c.in-Rec-right.others in
     c.fields_equal.ensures ∙ rw (c.in-Rec.is, c.in-Rec-right.is, view-Rec ones, view-Rec others, c.deref-in-Rec-right.ensures, c.deref-in-Rec-right-2.ensures) refl
 
-pub items_equal-returns-then-len : goal.items_equal-returns-then-len
-items_equal-returns-then-len t c = sym (items_eq-lengths c.args.left.now.items c.args.right.now.items (λ e. omega arith))
+pub items_equal-returns-then-left-right : goal.items_equal-returns-then-left-right
+items_equal-returns-then-left-right t c = sym (items_eq-lengths c.args.left.now c.args.right.now (λ e. omega arith))

@@ -5,7 +5,7 @@ use Rattle.pb_expr.proofs.Ascending.{Ascending}
 use Rattle.pb_expr.proofs.equal.+holds_opaque.Given as goal
 
 abbrev pub invariant-items_hold_opaque-loop-item : goal.invariant-items_hold_opaque-loop-item
-invariant-items_hold_opaque-loop-item l = any_item_opaque (items_view l.item-items) ≡ any_item_opaque (items_view (drop l.item-index l.item-items))
+invariant-items_hold_opaque-loop-item l = any_item_opaque (items_view l.items) ≡ any_item_opaque (items_view (drop l.item-index l.items))
 
 abbrev pub invariant-fields_hold_opaque-loop-value : goal.invariant-fields_hold_opaque-loop-value
 invariant-fields_hold_opaque-loop-value l = record {

@@ -4,4 +4,4 @@ use Rattle.pb_value.specs.View.{view, items_view}
 use Rattle.pb_expr.proofs.equal.has_item.Given as goal
 
 abbrev pub invariant-loop-item : goal.invariant-loop-item
-invariant-loop-item l = is_item (view l.value) (items_view l.item-items) ≡ is_item (view l.value) (items_view (drop l.item-index l.item-items))
+invariant-loop-item l = is_item (view l.value) (items_view l.items) ≡ is_item (view l.value) (items_view (drop l.item-index l.items))

@@ -4,7 +4,7 @@ use Rattle.std.specs.Map.{keys_of}
 use Rattle.std.specs.String.{string_cmp}
 use Rattle.pb_semantics.specs.Data.{Data, field, no_fields}
 use Rattle.pb_language.specs.Expression.{equal, comparison}
-use Rattle.pb_language.specs.Evaluation.{eval, eval_all, eval_any, eval_items, eval_parts}
+use Rattle.pb_language.specs.Evaluation.{eval, eval_items, eval_parts}
 use Rattle.pb_value.specs.View.{view, items_view, fields_view, fields_of}
 use Rattle.pb_value.proofs.Fields.{put_last}
 use Rattle.pb_value.specs.Append.{append_fields}
@@ -19,28 +19,28 @@ use Rattle.pb_expr.proofs.eval.+eval.Goals as goal
 pub all_of-loop-operand-preserved : goal.all_of-loop-operand-preserved
 all_of-loop-operand-preserved g t c =
     c.loop-operand.invariant
-    ∙ all-turn (g.V.Vars.world c.args.vars.now) c.deref-operand-items.result.now c.loop-operand.operand-index c.operand-item.result c.in_ok-found.found c.as_bool.result
+    ∙ all-turn (g.V.Vars.world c.args.vars.now) c.args.operands.now c.loop-operand.operand-index c.operand-item.result c.in_ok-found.found c.as_bool.result
     c.loop-operand-test.true c.operand-item.is c.in_ok-found.ensures c.as_bool.ensures (c.in-Some-true.is ∙ ap Some c.in-Some-true.field-0-test)
 
 pub all_of-returns : goal.all_of-returns
 all_of-returns g t c =
     let w = g.V.Vars.world c.args.vars.now in
     view-Bool true
-    ∙ sym (ap (λ xs. shown (eval_all w (exprs_view xs))) (sym c.deref-operand-items.ensures.value) ∙ ap shown c.loop-operand.invariant
-    ∙ all-done w c.deref-operand-items.result.now c.loop-operand.operand-index c.loop-operand-test.false)
+    ∙ sym (ap shown c.loop-operand.invariant
+    ∙ all-done w c.args.operands.now c.loop-operand.operand-index c.loop-operand-test.false)
 
 pub any_of-loop-operand-preserved : goal.any_of-loop-operand-preserved
 any_of-loop-operand-preserved g t c =
     c.loop-operand.invariant
-    ∙ any-turn (g.V.Vars.world c.args.vars.now) c.deref-operand-items.result.now c.loop-operand.operand-index c.operand-item.result c.in_ok-found.found c.as_bool.result
+    ∙ any-turn (g.V.Vars.world c.args.vars.now) c.args.operands.now c.loop-operand.operand-index c.operand-item.result c.in_ok-found.found c.as_bool.result
     c.loop-operand-test.true c.operand-item.is c.in_ok-found.ensures c.as_bool.ensures (c.in-Some-false.is ∙ ap Some c.in-Some-false.field-0-test)
 
 pub any_of-returns : goal.any_of-returns
 any_of-returns g t c =
     let w = g.V.Vars.world c.args.vars.now in
     view-Bool false
-    ∙ sym (ap (λ xs. shown (eval_any w (exprs_view xs))) (sym c.deref-operand-items.ensures.value) ∙ ap shown c.loop-operand.invariant
-    ∙ any-done w c.deref-operand-items.result.now c.loop-operand.operand-index c.loop-operand-test.false)
+    ∙ sym (ap shown c.loop-operand.invariant
+    ∙ any-done w c.args.operands.now c.loop-operand.operand-index c.loop-operand-test.false)
 
 pub eval-returns-in_ok-pair_of-in-Equal : goal.eval-returns-in_ok-pair_of-in-Equal
 eval-returns-in_ok-pair_of-in-Equal g t c =
@@ -74,55 +74,55 @@ pub all_of-returns-in-Some-false : goal.all_of-returns-in-Some-false
 all_of-returns-in-Some-false g t c =
     let w = g.V.Vars.world c.args.vars.now in
     view-Bool false
-    ∙ sym (ap (λ xs. shown (eval_all w (exprs_view xs))) (sym c.deref-operand-items.ensures.value) ∙ ap shown c.loop-operand.invariant
-    ∙ all-stops w c.deref-operand-items.result.now c.loop-operand.operand-index c.operand-item.result c.in_ok-found.found c.as_bool.result
+    ∙ sym (ap shown c.loop-operand.invariant
+    ∙ all-stops w c.args.operands.now c.loop-operand.operand-index c.operand-item.result c.in_ok-found.found c.as_bool.result
     c.loop-operand-test.true c.operand-item.is c.in_ok-found.ensures c.as_bool.ensures (c.in-Some-false.is ∙ ap Some c.in-Some-false.field-0-test))
 
 pub all_of-returns-in-None : goal.all_of-returns-in-None
 all_of-returns-in-None g t c =
     let w = g.V.Vars.world c.args.vars.now in
     view-Opaque
-    ∙ sym (ap (λ xs. shown (eval_all w (exprs_view xs))) (sym c.deref-operand-items.ensures.value) ∙ ap shown c.loop-operand.invariant
-    ∙ all-spoilt w c.deref-operand-items.result.now c.loop-operand.operand-index c.operand-item.result c.in_ok-found.found c.as_bool.result
+    ∙ sym (ap shown c.loop-operand.invariant
+    ∙ all-spoilt w c.args.operands.now c.loop-operand.operand-index c.operand-item.result c.in_ok-found.found c.as_bool.result
     c.loop-operand-test.true c.operand-item.is c.in_ok-found.ensures c.as_bool.ensures c.in-None.is)
 
 pub any_of-returns-in-Some-true : goal.any_of-returns-in-Some-true
 any_of-returns-in-Some-true g t c =
     let w = g.V.Vars.world c.args.vars.now in
     view-Bool true
-    ∙ sym (ap (λ xs. shown (eval_any w (exprs_view xs))) (sym c.deref-operand-items.ensures.value) ∙ ap shown c.loop-operand.invariant
-    ∙ any-stops w c.deref-operand-items.result.now c.loop-operand.operand-index c.operand-item.result c.in_ok-found.found c.as_bool.result
+    ∙ sym (ap shown c.loop-operand.invariant
+    ∙ any-stops w c.args.operands.now c.loop-operand.operand-index c.operand-item.result c.in_ok-found.found c.as_bool.result
     c.loop-operand-test.true c.operand-item.is c.in_ok-found.ensures c.as_bool.ensures (c.in-Some-true.is ∙ ap Some c.in-Some-true.field-0-test))
 
 pub any_of-returns-in-None : goal.any_of-returns-in-None
 any_of-returns-in-None g t c =
     let w = g.V.Vars.world c.args.vars.now in
     view-Opaque
-    ∙ sym (ap (λ xs. shown (eval_any w (exprs_view xs))) (sym c.deref-operand-items.ensures.value) ∙ ap shown c.loop-operand.invariant
-    ∙ any-spoilt w c.deref-operand-items.result.now c.loop-operand.operand-index c.operand-item.result c.in_ok-found.found c.as_bool.result
+    ∙ sym (ap shown c.loop-operand.invariant
+    ∙ any-spoilt w c.args.operands.now c.loop-operand.operand-index c.operand-item.result c.in_ok-found.found c.as_bool.result
     c.loop-operand-test.true c.operand-item.is c.in_ok-found.ensures c.as_bool.ensures c.in-None.is)
 
 pub eval-returns-in-And : goal.eval-returns-in-And
-eval-returns-in-And g t c = rw (c.in-And.is, view-And c.in-And.operands) c.all_of.ensures
+eval-returns-in-And g t c = rw (c.in-And.is, view-And c.in-And.operands, ← c.deref-in-And.ensures.value) c.all_of.ensures
 
 pub eval-returns-in-Or : goal.eval-returns-in-Or
-eval-returns-in-Or g t c = rw (c.in-Or.is, view-Or c.in-Or.operands) c.any_of.ensures
+eval-returns-in-Or g t c = rw (c.in-Or.is, view-Or c.in-Or.operands, ← c.deref-in-Or.ensures.value) c.any_of.ensures
 
 pub eval-returns-in-List : goal.eval-returns-in-List
-eval-returns-in-List g t c = rw (c.in-List.is, view-List c.in-List.items) c.list_of.ensures
+eval-returns-in-List g t c = rw (c.in-List.is, view-List c.in-List.items, ← c.deref-in-List.ensures.value) c.list_of.ensures
 
 pub list_of-returns-in-None : goal.list_of-returns-in-None
 list_of-returns-in-None g t c =
     let w = g.V.Vars.world c.args.vars.now in
     view-Opaque
-    ∙ sym (ap (λ xs. shown (eval_items w (exprs_view xs))) (sym c.deref-item-items.ensures.value) ∙ ap shown c.loop-item.invariant
-    ∙ list-spoilt w c.deref-item-items.result.now c.loop-item.values.items c.loop-item.item-index c.item-item.result c.in_ok-found.found
+    ∙ sym (ap shown c.loop-item.invariant
+    ∙ list-spoilt w c.args.items.now c.loop-item.values.items c.loop-item.item-index c.item-item.result c.in_ok-found.found
     c.loop-item-test.true c.item-item.is c.in_ok-found.ensures c.in-None.ensures)
 
 pub list_of-loop-item-preserved : goal.list_of-loop-item-preserved
 list_of-loop-item-preserved g t c =
     let w = g.V.Vars.world c.args.vars.now in
-    let items = c.deref-item-items.result.now in
+    let items = c.args.items.now in
     c.loop-item.invariant
     ∙ list-turn w items c.loop-item.values.items c.loop-item.item-index c.item-item.result c.in-Some.found
     c.loop-item-test.true c.item-item.is (c.in-Some.ensures.0 ∙ c.in_ok-found.ensures) c.in-Some.ensures.1
@@ -132,8 +132,8 @@ pub list_of-returns : goal.list_of-returns
 list_of-returns g t c =
     let w = g.V.Vars.world c.args.vars.now in
     subst (λ (d : Data). IfOk c.of_items.result (λ v. view v ≡ d))
-    (sym (ap (λ xs. shown (eval_items w (exprs_view xs))) (sym c.deref-item-items.ensures.value) ∙ ap shown c.loop-item.invariant
-    ∙ list-done w c.deref-item-items.result.now c.loop-item.values.items c.loop-item.item-index c.loop-item-test.false))
+    (sym (ap shown c.loop-item.invariant
+    ∙ list-done w c.args.items.now c.loop-item.values.items c.loop-item.item-index c.loop-item-test.false))
     c.of_items.ensures
 
 pub record_of-returns-in-None-readable : goal.record_of-returns-in-None-readable

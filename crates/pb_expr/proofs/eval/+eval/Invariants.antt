@@ -9,15 +9,15 @@ use Rattle.pb_expr.proofs.eval.+eval.Given as goal
 
 abbrev pub invariant-all_of-loop-operand : goal.invariant-all_of-loop-operand
 invariant-all_of-loop-operand g l =
-    eval_all (g.V.Vars.world l.vars) (exprs_view l.operand-items) ≡ eval_all (g.V.Vars.world l.vars) (exprs_view (drop l.operand-index l.operand-items))
+    eval_all (g.V.Vars.world l.vars) (exprs_view l.operands) ≡ eval_all (g.V.Vars.world l.vars) (exprs_view (drop l.operand-index l.operands))
 
 abbrev pub invariant-any_of-loop-operand : goal.invariant-any_of-loop-operand
 invariant-any_of-loop-operand g l =
-    eval_any (g.V.Vars.world l.vars) (exprs_view l.operand-items) ≡ eval_any (g.V.Vars.world l.vars) (exprs_view (drop l.operand-index l.operand-items))
+    eval_any (g.V.Vars.world l.vars) (exprs_view l.operands) ≡ eval_any (g.V.Vars.world l.vars) (exprs_view (drop l.operand-index l.operands))
 
 abbrev pub invariant-list_of-loop-item : goal.invariant-list_of-loop-item
 invariant-list_of-loop-item g l =
-    eval_items (g.V.Vars.world l.vars) (exprs_view l.item-items) ≡ after_items (items_view l.values.items) (eval_items (g.V.Vars.world l.vars) (exprs_view (drop l.item-index l.item-items)))
+    eval_items (g.V.Vars.world l.vars) (exprs_view l.items) ≡ after_items (items_view l.values.items) (eval_items (g.V.Vars.world l.vars) (exprs_view (drop l.item-index l.items)))
 
 abbrev pub invariant-record_of-loop-name : goal.invariant-record_of-loop-name
 invariant-record_of-loop-name g l =

@@ -1,7 +1,6 @@
 use Rattle.std.proofs.Common.{sym, ap, ◌∙◌}
-use Rattle.pb_language.specs.Evaluation.{value_below}
 use Rattle.pb_value.specs.View.{view}
-use Rattle.pb_expr.specs.ExprView.{names_of, field_in}
+use Rattle.pb_expr.specs.ExprView.{field_in}
 use Rattle.pb_expr.specs.OwnWorld.{shown}
 use Rattle.pb_expr.proofs.Exprs.{view-Opaque}
 use Rattle.pb_expr.proofs.Turns.{steps-turn, steps-lost, steps-done}
@@ -11,19 +10,19 @@ pub loop-step-preserved : goal.loop-step-preserved
 loop-step-preserved c =
     let here = view c.loop-step.here.now in
     c.loop-step.invariant
-    ∙ steps-turn c.deref-step-items.result.now c.loop-step.step-index c.step-item.result here (view c.in-Some.inner.now)
+    ∙ steps-turn c.args.steps.now c.loop-step.step-index c.step-item.result here (view c.in-Some.inner.now)
     c.loop-step-test.true c.step-item.is (c.in-Some.ensures ∙ ap (λ n. field_in n here) c.as_str.ensures.value)
 
 pub returns-in-None : goal.returns-in-None
 returns-in-None c =
     let here = view c.loop-step.here.now in
     view-Opaque
-    ∙ sym (ap (λ ns. shown (value_below (names_of ns) (view c.args.outer.now))) (sym c.deref-step-items.ensures.value) ∙ ap shown c.loop-step.invariant
-    ∙ steps-lost c.deref-step-items.result.now c.loop-step.step-index c.step-item.result here
+    ∙ sym (ap shown c.loop-step.invariant
+    ∙ steps-lost c.args.steps.now c.loop-step.step-index c.step-item.result here
     c.loop-step-test.true c.step-item.is (c.in-None.ensures ∙ ap (λ n. field_in n here) c.as_str.ensures.value))
 
 pub returns : goal.returns
 returns c =
     c.in_ok-clone.ensures.cases
-    ∙ sym (ap (λ ns. shown (value_below (names_of ns) (view c.args.outer.now))) (sym c.deref-step-items.ensures.value) ∙ ap shown c.loop-step.invariant
-    ∙ steps-done c.deref-step-items.result.now c.loop-step.step-index (view c.loop-step.here.now) c.loop-step-test.false)
+    ∙ sym (ap shown c.loop-step.invariant
+    ∙ steps-done c.args.steps.now c.loop-step.step-index (view c.loop-step.here.now) c.loop-step-test.false)

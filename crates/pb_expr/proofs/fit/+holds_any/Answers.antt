@@ -7,4 +7,4 @@ holds_any-returns-in-Rec t c = c.slots_hold_any.ensures ∙ rw (c.in-Rec.is, kin
 
 pub holds_any-returns-in-Result : goal.holds_any-returns-in-Result
 holds_any-returns-in-Result t c =
-    c.cases_hold_any.ensures ∙ rw (c.in-Result.is, kind_view-Result c.in-Result.cases c.in-Result.field-1, c.deref-in-Result.ensures) refl
+    c.cases_hold_any.ensures ∙ rw (c.in-Result.is, kind_view-Result c.in-Result.cases c.in-Result.field-1, c.deref-in-Result-2.ensures.value, c.deref-in-Result.ensures) refl

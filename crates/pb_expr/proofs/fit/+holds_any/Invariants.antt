@@ -7,4 +7,4 @@ abbrev pub invariant-slots_hold_any-loop-slot : goal.invariant-slots_hold_any-lo
 invariant-slots_hold_any-loop-slot l = any_slot_holds (slots_view l.slots.entries) ≡ any_slot_holds (slots_view l.slot-iterator)
 
 abbrev pub invariant-cases_hold_any-loop-case : goal.invariant-cases_hold_any-loop-case
-invariant-cases_hold_any-loop-case l = any_case_holds (cases_view l.case-items) ≡ any_case_holds (cases_view (drop l.case-index l.case-items))
+invariant-cases_hold_any-loop-case l = any_case_holds (cases_view l.cases) ≡ any_case_holds (cases_view (drop l.case-index l.cases))

@@ -1,4 +1,4 @@
-use Rattle.std.proofs.Common.{◌≡◌, true, ◌&&◌, ◌+◌, [], ◌∷◌, ◌++◌, drop, length, String, Global, string_bytes, sym, ap, ◌∙◌, subst, append_assoc, arith}
+use Rattle.std.proofs.Common.{◌≡◌, true, ◌&&◌, ◌+◌, length, [], ◌∷◌, ◌++◌, drop, String, Global, string_bytes, sym, ap, ◌∙◌, subst, append_assoc, arith}
 use Rattle.std.proofs.lemmas.List.{append-nil, drop_all}
 use Rattle.pb_semantics.specs.Kind.{lists, recs, put_slot}
 use Rattle.pb_semantics.specs.Join.{join}
@@ -18,7 +18,7 @@ use Rattle.pb_expr.proofs.fit.+kind_of.Goals as goal
 pub chain_kind-loop-operand-preserved : goal.chain_kind-loop-operand-preserved
 chain_kind-loop-operand-preserved t c =
     let s = own_scope (slots_view c.args.slots.now.entries) in
-    let items = c.deref-operand-items.result.now in
+    let items = c.args.operands.now in
     let i = c.loop-operand.operand-index in
     let e = c.operand-item.result in
     let rest = exprs_view (drop (i + 1) items) in
@@ -33,7 +33,7 @@ chain_kind-loop-operand-preserved t c =
 pub list_kind-loop-item-preserved : goal.list_kind-loop-item-preserved
 list_kind-loop-item-preserved t c =
     let s = own_scope (slots_view c.args.slots.now.entries) in
-    let items = c.deref-item-items.result.now in
+    let items = c.args.items.now in
     let i = c.loop-item.item-index in
     let e = c.item-item.result in
     let rest = exprs_view (drop (i + 1) items) in
@@ -49,23 +49,22 @@ list_kind-loop-item-preserved t c =
 pub list_kind-returns-clause-fault : goal.list_kind-returns-clause-fault
 list_kind-returns-clause-fault t c =
     let s = own_scope (slots_view c.args.slots.now.entries) in
-    let items = c.deref-item-items.result.now in
+    let items = c.args.items.now in
     let past = drop_all c.loop-item.item-index items c.loop-item-test.false in
-    ap (λ xs. items_fault s (exprs_view xs)) (sym c.deref-item-items.ensures.value) ∙ c.loop-item.invariant.faults ∙ ap (λ xs. items_fault s (exprs_view xs)) past
+    c.loop-item.invariant.faults ∙ ap (λ xs. items_fault s (exprs_view xs)) past
 
 pub list_kind-returns-clause-kind : goal.list_kind-returns-clause-kind
 list_kind-returns-clause-kind t c =
     let s = own_scope (slots_view c.args.slots.now.entries) in
-    let items = c.deref-item-items.result.now in
-    let es = exprs_view c.args.items.now.items in
+    let items = c.args.items.now in
+    let es = exprs_view c.args.items.now in
     let kinds = c.loop-item.kinds.items in
     let past = drop_all c.loop-item.item-index items c.loop-item-test.false in
-    let size : c.len.result ≡ count es =
-    omega (arith, c.len.ensures, c.deref-item-items.ensures.len, ap length c.deref-item-items.ensures.value, count-exprs c.args.items.now.items) in
+    let size : length items ≡ count es = omega (arith, count-exprs items) in
     let joined : items_kind s es ≡ kind_view c.in_ok-joined.joined =
-    ap (λ xs. items_kind s (exprs_view xs)) (sym c.deref-item-items.ensures.value) ∙ c.loop-item.invariant.kinds
+    c.loop-item.invariant.kinds
     ∙ ap (λ xs. joined_onto kinds (items_kind s (exprs_view xs))) past ∙ sym c.in_ok-joined.ensures in
-    kind_view-List c.in_ok-new.field-0 c.len.result ∙ ap (λ k. lists k c.len.result) (ap kind_view c.in_ok-new.ensures.ok ∙ sym joined)
+    kind_view-List c.in_ok-new.field-0 (length items) ∙ ap (λ k. lists k (length items)) (ap kind_view c.in_ok-new.ensures.ok ∙ sym joined)
     ∙ ap (lists (items_kind s es)) size
 
 pub record_kind-loop-name-preserved : goal.record_kind-loop-name-preserved

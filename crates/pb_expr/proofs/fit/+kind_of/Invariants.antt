@@ -12,16 +12,16 @@ abbrev pub invariant-chain_kind-loop-operand : goal.invariant-chain_kind-loop-op
 invariant-chain_kind-loop-operand l =
     let c = own_scope (slots_view l.slots.entries) in
     record {
-      faults : (answer : Bool) → chain_fault c (exprs_view l.operand-items) answer ≡ chain_fault c (exprs_view (drop l.operand-index l.operand-items)) answer;
-      kinds : (answer : Bool) → are_booleans c (exprs_view l.operand-items) answer ≡ l.are_bool && are_booleans c (exprs_view (drop l.operand-index l.operand-items)) answer;
+      faults : (answer : Bool) → chain_fault c (exprs_view l.operands) answer ≡ chain_fault c (exprs_view (drop l.operand-index l.operands)) answer;
+      kinds : (answer : Bool) → are_booleans c (exprs_view l.operands) answer ≡ l.are_bool && are_booleans c (exprs_view (drop l.operand-index l.operands)) answer;
     }
 
 abbrev pub invariant-list_kind-loop-item : goal.invariant-list_kind-loop-item
 invariant-list_kind-loop-item l =
     let c = own_scope (slots_view l.slots.entries) in
     record {
-      faults : items_fault c (exprs_view l.item-items) ≡ items_fault c (exprs_view (drop l.item-index l.item-items));
-      kinds : items_kind c (exprs_view l.item-items) ≡ joined_onto l.kinds.items (items_kind c (exprs_view (drop l.item-index l.item-items)));
+      faults : items_fault c (exprs_view l.items) ≡ items_fault c (exprs_view (drop l.item-index l.items));
+      kinds : items_kind c (exprs_view l.items) ≡ joined_onto l.kinds.items (items_kind c (exprs_view (drop l.item-index l.items)));
     }
 
 abbrev pub invariant-record_kind-loop-name : goal.invariant-record_kind-loop-name

@@ -1,4 +1,4 @@
-use Rattle.std.proofs.Common.{◌≡◌, [], ◌∷◌, ◌++◌, drop, String, Global, sym, ap, ◌∙◌, subst, append_assoc, arith}
+use Rattle.std.proofs.Common.{◌≡◌, length, [], ◌∷◌, ◌++◌, drop, String, Global, sym, ap, ◌∙◌, subst, append_assoc, arith}
 use Rattle.std.proofs.lemmas.List.{append-nil}
 use Rattle.pb_semantics.specs.Data.{count_of}
 use Rattle.pb_semantics.specs.Kind.{lists, recs}
@@ -35,14 +35,14 @@ literal_fields-returns t c =
 
 pub literal_items-returns : goal.literal_items-returns
 literal_items-returns t c =
-    let size : c.len.result ≡ count_of (items_view c.args.items.now.items) = omega (arith, c.len.ensures, count_of-items_view c.args.items.now.items) in
+    let size : length c.args.items.now ≡ count_of (items_view c.args.items.now) = omega (arith, count_of-items_view c.args.items.now) in
     let first : c.loop-index.index ≡ 0 = omega arith in
-    kind_view-List c.in_ok-new.field-0 c.len.result
-    ∙ ap (λ k. lists k c.len.result) (ap kind_view c.in_ok-new.ensures.ok ∙ c.loop-index.invariant ∙ ap (λ i. known_items (items_view (drop i c.args.items.now.items))) first)
-    ∙ ap (lists (known_items (items_view c.args.items.now.items))) size
+    kind_view-List c.in_ok-new.field-0 (length c.args.items.now)
+    ∙ ap (λ k. lists k (length c.args.items.now)) (ap kind_view c.in_ok-new.ensures.ok ∙ c.loop-index.invariant ∙ ap (λ i. known_items (items_view (drop i c.args.items.now))) first)
+    ∙ ap (lists (known_items (items_view c.args.items.now))) size
 
 pub literal_kind-returns-in-Rec : goal.literal_kind-returns-in-Rec
 literal_kind-returns-in-Rec t c = rw (c.in-Rec.is, view-Rec c.in-Rec.fields, sym c.deref-in-Rec.ensures) c.literal_fields.ensures
 
 pub literal_kind-returns-in-List : goal.literal_kind-returns-in-List
-literal_kind-returns-in-List t c = rw (c.in-List.is, view-List c.in-List.items, sym c.deref.ensures) c.literal_items.ensures
+literal_kind-returns-in-List t c = rw (c.in-List.is, view-List c.in-List.items, sym c.deref.ensures, sym c.deref-in-List.ensures.value) c.literal_items.ensures

@@ -7,7 +7,7 @@ use Rattle.pb_expr.proofs.Records.{slots_from}
 use Rattle.pb_expr.proofs.fit.+literal_kind.Given as goal
 
 abbrev pub invariant-literal_items-loop-index : goal.invariant-literal_items-loop-index
-invariant-literal_items-loop-index l = kind_view l.joined ≡ known_items (items_view (drop l.index l.items.items))
+invariant-literal_items-loop-index l = kind_view l.joined ≡ known_items (items_view (drop l.index l.items))
 
 abbrev pub invariant-literal_fields-loop-name : goal.invariant-literal_fields-loop-name
 invariant-literal_fields-loop-name l =

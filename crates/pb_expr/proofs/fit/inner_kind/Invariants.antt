@@ -5,4 +5,4 @@ use Rattle.pb_expr.specs.FitView.{LeadsTo}
 use Rattle.pb_expr.proofs.fit.inner_kind.Given as goal
 
 abbrev pub invariant-loop-step : goal.invariant-loop-step
-invariant-loop-step l = LeadsTo (names_of l.step-items) (kind_view l.outer) (names_of (drop l.step-index l.step-items)) (kind_view l.here)
+invariant-loop-step l = LeadsTo (names_of l.steps) (kind_view l.outer) (names_of (drop l.step-index l.steps)) (kind_view l.here)

@@ -51,7 +51,9 @@ join-returns-in_ok-record-in-Result-Result t c =
       ← c.deref-in-Result-Result.ensures,
       ← c.deref-in-Result-Result-2.ensures,
       ← c.deref-in-Result-Result-3.ensures,
-      ← c.deref-in-Result-Result-4.ensures,
+      ← c.deref-in-Result-Result-4.ensures.value,
+      ← c.deref-in-Result-Result-5.ensures,
+      ← c.deref-in-Result-Result-6.ensures.value,
       ← c.in_ok-record-in-Result-Result.ensures,
     ) c.result_of.ensures
 

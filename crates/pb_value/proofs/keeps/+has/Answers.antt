@@ -59,7 +59,7 @@ has-returns-then-len-most t c =
     let p = c.in-List-List in
     let at_most : length p.items.value.items ≤ p.most = omega (arith, ap length (ap (λ v. v.items) c.deref-in-List-List.ensures), c.len.ensures, c.if-len-most.true) in
     c.has_each.ensures
-    ∙ rw (p.is-0, p.is-1, view-List, kind_view-List, keeps-short p.items.value.items (kind_view p.item.value) p.most at_most, c.deref-then-len-most.ensures, c.deref-then-len-most-2.ensures) refl
+    ∙ rw (p.is-0, p.is-1, view-List, kind_view-List, keeps-short p.items.value.items (kind_view p.item.value) p.most at_most, c.deref-then-len-most.ensures, c.deref-then-len-most-3.ensures.value, c.deref-then-len-most-2.ensures) refl
 
 pub has-returns-else-len-most : goal.has-returns-else-len-most
 has-returns-else-len-most t c =
@@ -87,4 +87,4 @@ has-returns-else-has_fields t c =
 pub has-returns-in-Result-Rec : goal.has-returns-in-Result-Rec
 has-returns-in-Result-Rec t c =
     let p = c.in-Result-Rec in
-    c.has_case.ensures ∙ rw (p.is-0, p.is-1, view-Rec, kind_view-Result, c.deref-in-Result-Rec.ensures, c.deref-in-Result-Rec-2.ensures) refl
+    c.has_case.ensures ∙ rw (p.is-0, p.is-1, view-Rec, kind_view-Result, c.deref-in-Result-Rec-2.ensures.value, c.deref-in-Result-Rec.ensures, c.deref-in-Result-Rec-3.ensures) refl

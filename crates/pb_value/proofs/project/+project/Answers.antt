@@ -82,7 +82,7 @@ project_fields-returns t c =
 
 pub project_each-loop-item-preserved : goal.project_each-loop-item-preserved
 project_each-loop-item-preserved t c =
-    let vs = c.deref-item-items.result.now in
+    let vs = c.args.items.now in
     let so_far = items_view c.loop-item.found.items in
     let fit = rw c.in-Some.is at c.in_ok-item.ensures in
     let within : c.loop-item.item-index < length vs = omega arith in
@@ -93,12 +93,12 @@ project_each-loop-item-preserved t c =
 
 pub project_each-returns : goal.project_each-returns
 project_each-returns t c =
-    let vs = c.deref-item-items.result.now in
+    let vs = c.args.items.now in
     let so_far = items_view c.loop-item.found.items in
     let none : drop c.loop-item.item-index vs ≡ [] = grind (arith, common_steps) in
     let whole : projected_items (λ d. projected d (kind_view c.args.kind.now)) (items_view vs) ≡ Some so_far =
     c.loop-item.invariant ∙ ap (λ es. and_items so_far (projected_items (λ d. projected d (kind_view c.args.kind.now)) (items_view es))) none ∙ ap Some (append_items-none so_far) in
-    sym (rw c.deref-item-items.ensures.value at whole)
+    sym whole
 
 pub project_onto-returns-in_default : goal.project_onto-returns-in_default
 project_onto-returns-in_default t c = search (rules, kind_lemmas, value_lemmas)
@@ -115,7 +115,7 @@ project_onto-returns-in_ok-kept-in-List-List t c =
     let p = c.in-List-List in
     let size : c.len.result ≡ length p.items.value.items = omega (arith, ap length (ap (λ v. v.items) c.deref-in-List-List.ensures), c.len.ensures) in
     let at_most : length p.items.value.items ≤ p.most = omega (arith, size, c.if-len-most.false) in
-    let each = rw (c.deref-in-List-List-2.ensures, c.deref-in-List-List-3.ensures) at c.in_ok-kept-in-List-List.ensures in
+    let each = rw (c.deref-in-List-List-2.ensures, c.deref-in-List-List-4.ensures.value, c.deref-in-List-List-3.ensures) at c.in_ok-kept-in-List-List.ensures in
     rw (p.is-0, p.is-1, view-List, kind_view-List, projected-short p.items.value.items (kind_view p.item.value) p.most at_most, ← each) c.list_of.ensures
 
 pub project_onto-returns-in_ok-kept-in-Rec-Rec : goal.project_onto-returns-in_ok-kept-in-Rec-Rec

@@ -5,4 +5,4 @@ use Rattle.pb_book.specs.Meaning.{argument_parts}
 use Rattle.pb_verify.proofs.rules.all_given.Given as goal
 
 abbrev pub invariant-loop-parameter : goal.invariant-loop-parameter
-invariant-loop-parameter l = has_required (map parameter_view (drop l.parameter-index l.parameters)) (argument_parts l.arguments.items) ≡ has_required (map parameter_view l.parameters) (argument_parts l.arguments.items)
+invariant-loop-parameter l = has_required (map parameter_view (drop l.parameter-index l.parameters)) (argument_parts l.arguments) ≡ has_required (map parameter_view l.parameters) (argument_parts l.arguments)

@@ -4,4 +4,4 @@ use Rattle.pb_book.specs.Meaning.{argument_parts}
 use Rattle.pb_verify.proofs.rules.all_messages.Given as goal
 
 abbrev pub invariant-loop-argument : goal.invariant-loop-argument
-invariant-loop-argument l = are_known (codes "msg" ∷ []) (argument_parts (drop l.argument-index l.argument-items)) ≡ are_known (codes "msg" ∷ []) (argument_parts l.arguments.items)
+invariant-loop-argument l = are_known (codes "msg" ∷ []) (argument_parts (drop l.argument-index l.arguments)) ≡ are_known (codes "msg" ∷ []) (argument_parts l.arguments)

@@ -5,4 +5,4 @@ use Rattle.pb_book.specs.Meaning.{argument_parts}
 use Rattle.pb_verify.proofs.rules.all_parameters.Given as goal
 
 abbrev pub invariant-loop-argument : goal.invariant-loop-argument
-invariant-loop-argument l = are_parameters (map parameter_view l.parameters) (argument_parts (drop l.argument-index l.argument-items)) ≡ are_parameters (map parameter_view l.parameters) (argument_parts l.arguments.items)
+invariant-loop-argument l = are_parameters (map parameter_view l.parameters) (argument_parts (drop l.argument-index l.arguments)) ≡ are_parameters (map parameter_view l.parameters) (argument_parts l.arguments)

@@ -4,4 +4,4 @@ use Rattle.pb_book.specs.Meaning.{argument_parts}
 use Rattle.pb_verify.proofs.rules.all_settable.Given as goal
 
 abbrev pub invariant-loop-argument : goal.invariant-loop-argument
-invariant-loop-argument l = can_be_set (argument_parts (drop l.argument-index l.argument-items)) ≡ can_be_set (argument_parts l.arguments.items)
+invariant-loop-argument l = can_be_set (argument_parts (drop l.argument-index l.arguments)) ≡ can_be_set (argument_parts l.arguments)

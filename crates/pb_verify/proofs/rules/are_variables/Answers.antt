@@ -1,4 +1,4 @@
-use Rattle.std.proofs.Common.{◌≡◌, List, [], ◌∷◌, Bool, false, ◌==◌, length, rules, vec_len}
+use Rattle.std.proofs.Common.{◌≡◌, List, [], ◌∷◌, Bool, false, ◌==◌, length}
 use Rattle.pb_semantics.specs.Signature.{ModuleData}
 use Rattle.pb_language.specs.Book.{set_fact_work}
 use Rattle.pb_language.specs.Rules.{can_be_set, is_well_formed}
@@ -11,6 +11,4 @@ some_names q ms [] h e = (cc)
 some_names q ms (x ∷ xs) h e = e
 
 pub returns-then-not-is_empty : goal.returns-then-not-is_empty
-returns-then-not-is_empty c ms =
-    let same : vec_len c.args.arguments.now ≡ length c.args.arguments.now.items = search rules in
-    some_names c.all_settable.result ms c.args.arguments.now.items (rw same at c.if-not-is_empty.ensures) c.all_settable.ensures
+returns-then-not-is_empty c ms = some_names c.all_settable.result ms c.args.arguments.now c.if-not-is_empty.ensures c.all_settable.ensures

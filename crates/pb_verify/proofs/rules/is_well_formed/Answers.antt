@@ -11,14 +11,14 @@ use Rattle.pb_verify.proofs.rules.is_well_formed.Goals as goal
 pub returns-in-Some : goal.returns-in-Some
 returns-in-Some c =
     let ms = modules_of c.args.registry.now in
-    let parts = argument_parts c.args.task.now.arguments.items in
+    let parts = argument_parts c.deref-in-Some.result.now in
     let found : module_at c.as_str.result.now ms ≡ Some (builtin_view c.in-Some.found.now) = sym c.in-Some.ensures in
     let name : c.as_str.result.now ≡ string_bytes c.in-Module.name.value = cc in
     let named : module_named (string_bytes c.in-Module.name.value) ms ≡ builtin_view c.in-Some.found.now = rw name at (module_found _ ms _ found) in
-    rw (c.in-Module.is, named) (c.fills.ensures ∙ ap (λ (ps : List ParameterData). are_parameters ps parts && has_required ps parts) c.params.ensures)
+    rw (c.in-Module.is, named, ← c.deref-in-Some.ensures.value) (c.fills.ensures ∙ ap (λ (ps : List ParameterData). are_parameters ps parts && has_required ps parts) c.params.ensures)
 
 pub returns-in-SetFact : goal.returns-in-SetFact
-returns-in-SetFact c = rw c.in-SetFact.is (c.are_variables.ensures (modules_of c.args.registry.now))
+returns-in-SetFact c = rw (c.in-SetFact.is, ← c.deref-in-SetFact.ensures.value) (c.are_variables.ensures (modules_of c.args.registry.now))
 
 pub returns-in-Debug : goal.returns-in-Debug
-returns-in-Debug c = rw c.in-Debug.is c.is_message.ensures
+returns-in-Debug c = rw (c.in-Debug.is, ← c.deref-in-Debug.ensures.value) c.is_message.ensures

@@ -10,4 +10,4 @@ abbrev pub invariant-loop-argument : goal.invariant-loop-argument
 invariant-loop-argument l =
     let c = own_scope (slots_view l.environment.entries) in
     let ps = map parameter_view l.parameters in
-    arguments_fault c ps (argument_parts (drop l.argument-index l.argument-items)) ≡ arguments_fault c ps (argument_parts l.arguments.items)
+    arguments_fault c ps (argument_parts (drop l.argument-index l.arguments)) ≡ arguments_fault c ps (argument_parts l.arguments)

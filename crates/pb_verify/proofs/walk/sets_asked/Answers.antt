@@ -13,7 +13,7 @@ use Rattle.pb_verify.proofs.walk.sets_asked.Goals as goal
 pub loop-argument-preserved : goal.loop-argument-preserved
 loop-argument-preserved c =
     let s = own_scope (slots_view c.args.environment.now.entries) in
-    let items = c.deref-argument-items.result.now in
+    let items = c.args.arguments.now in
     let i = c.loop-argument.argument-index in
     let e = c.argument-item.result in
     let rest = argument_parts (drop (i + 1) items) in
@@ -31,6 +31,6 @@ loop-argument-preserved c =
 pub returns-clause-sets : goal.returns-clause-sets
 returns-clause-sets c a =
     let s = own_scope (slots_view c.args.environment.now.entries) in
-    let past = drop_all c.loop-argument.argument-index c.deref-argument-items.result.now c.loop-argument-test.false in
+    let past = drop_all c.loop-argument.argument-index c.args.arguments.now c.loop-argument-test.false in
     sym (sets_alone (sets_of a c.loop-argument.sets.items))
     ∙ ap (λ es. append_sets (sets_of a c.loop-argument.sets.items) (parts_set s a (argument_parts es))) (sym past) ∙ c.loop-argument.invariant.sets a

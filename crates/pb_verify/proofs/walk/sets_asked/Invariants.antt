@@ -11,6 +11,6 @@ abbrev pub invariant-loop-argument : goal.invariant-loop-argument
 invariant-loop-argument l =
     let c = own_scope (slots_view l.environment.entries) in
     record {
-      faults : fields_fault c (argument_parts (drop l.argument-index l.argument-items)) ≡ fields_fault c (argument_parts l.arguments.items);
-      sets : (a : Bool) → append_sets (sets_of a l.sets.items) (parts_set c a (argument_parts (drop l.argument-index l.argument-items))) ≡ parts_set c a (argument_parts l.arguments.items);
+      faults : fields_fault c (argument_parts (drop l.argument-index l.arguments)) ≡ fields_fault c (argument_parts l.arguments);
+      sets : (a : Bool) → append_sets (sets_of a l.sets.items) (parts_set c a (argument_parts (drop l.argument-index l.arguments))) ≡ parts_set c a (argument_parts l.arguments);
     }

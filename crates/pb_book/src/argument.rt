@@ -68,7 +68,7 @@ pub(crate) fn lone_argument(
     Ok(vec![in alloc; argument]?)
 }
 
-/// The expression that an argument's value is: the value itself where no text in it is a template.
+// The expression that an argument's value is: the value itself where no text in it is a template.
 fn argument_value(alloc: Global, value: &Value) -> Result<Expr, FormFault>
     ensures given { Gives (λ e. Some (expr_view e)) refused result (argument_of (view value.now)) }
     ensures large { fits most_levels (view value.now) ≡ false → result ≡ Err FormFault.NotBuilt }
@@ -80,7 +80,7 @@ fn argument_value(alloc: Global, value: &Value) -> Result<Expr, FormFault>
     expr_of(alloc, value)
 }
 
-/// Whether the value is within the limits, with at most so many levels, and holds no opaque value.
+// Whether the value is within the limits, with at most so many levels, and holds no opaque value.
 #[cycle(fits)]
 fn fits(value: &Value, levels: usize) -> bool
     ensures { result ≡ fits levels (view value.now) }
@@ -118,7 +118,7 @@ fn fields_fit(fields: &Fields, levels: usize) -> bool
     true
 }
 
-/// Whether the text is short enough: a template is one expression, and other texts may be longer.
+// Whether the text is short enough: a template is one expression, and other texts may be longer.
 fn text_fits(text: &str) -> bool
     ensures { result ≡ text_fits text.now }
 {
@@ -126,7 +126,7 @@ fn text_fits(text: &str) -> bool
         || (text.len() <= MOST_TEXT_BYTES && !has_opening(text))
 }
 
-/// Whether a template, a statement or a comment begins in the text.
+// Whether a template, a statement or a comment begins in the text.
 fn has_opening(text: &str) -> bool
     ensures { result ≡ has_opening text.now }
 {
@@ -146,7 +146,7 @@ fn is_mark(byte: u8) -> bool
     matches!(byte, b'{' | b'%' | b'#')
 }
 
-/// Whether some text in the value is a template.
+// Whether some text in the value is a template.
 #[cycle(template)]
 fn holds_template(value: &Value) -> bool
     ensures { result ≡ holds_opening (view value.now) }

@@ -60,10 +60,7 @@ impl Book {
 
     /// The plays in their order.
     pub fn plays(&self) -> &[Play]
-        ensures value { result.now ≡ plays_of self.now }
-        ensures numbered { is_numbered result.now ≡ true }
-        ensures plain { are_plain_plays result.now ≡ true }
-        ensures ordered { are_ordered_plays result.now ≡ true }
+        ensures { result.now ≡ plays_of self.now }
     {
         self.plays.as_slice()
     }

@@ -100,7 +100,7 @@ fn play_of(alloc: Global, value: Value, registry: &Registry) -> Result<Play, For
     })
 }
 
-/// The tasks of a play whose field `tasks` this is.
+// The tasks of a play whose field `tasks` this is.
 fn tasks_in(
     alloc: Global,
     tasks: Option<Value>,
@@ -123,14 +123,14 @@ fn tasks_in(
     tasks_of(alloc, own_items(items)?, registry)
 }
 
-/// Whether the record's keys are `hosts`, whose value is `all`, and perhaps `tasks` and a `name`.
+// Whether the record's keys are `hosts`, whose value is `all`, and perhaps `tasks` and a `name`.
 fn is_play(fields: &Fields) -> bool
     ensures { result ≡ is_play (fields_view fields.now.entries) }
 {
     has_play_keys(fields) && names_all(fields) && is_named(fields)
 }
 
-/// Whether each key is one that a play has.
+// Whether each key is one that a play has.
 fn has_play_keys(fields: &Fields) -> bool
     ensures { result ≡ are_keys (codes "hosts" ∷ codes "name" ∷ codes "tasks" ∷ [])
         (fields_view fields.now.entries) }

@@ -65,7 +65,7 @@ pub(crate) fn tasks_of(
     Ok(tasks)
 }
 
-/// The task that a record describes, which is let go.
+// The task that a record describes, which is let go.
 fn task_of(alloc: Global, value: Value, line: u32, registry: &Registry) -> Result<Task, FormFault>
     ensures given { Gives (λ t. Some (plain_task t)) refused result
         (task_of (modules_of registry.now) line (view value)) }
@@ -90,7 +90,7 @@ fn task_of(alloc: Global, value: Value, line: u32, registry: &Registry) -> Resul
     })
 }
 
-/// What the task does that has these fields, and its arguments.
+// What the task does that has these fields, and its arguments.
 fn work_in(
     alloc: Global,
     fields: &Fields,
@@ -119,7 +119,7 @@ pub(crate) fn is_named(fields: &Fields) -> bool
     }
 }
 
-/// The one entry whose key is no keyword.
+// The one entry whose key is no keyword.
 fn work_entry(fields: &Fields) -> Option<(&str, &Value)>
     ensures { option_map (λ e. (e.0.now, view e.1.now)) result
         ≡ lone (works_of (fields_view fields.now.entries)) }
@@ -142,8 +142,8 @@ fn is_keyword(key: &str) -> bool
     key == "name" || key == "register" || key == "when"
 }
 
-/// The action or the module of that name, and the parameter that a text in place of its arguments
-/// stands for, if any.
+// The action or the module of that name, and the parameter that a text in place of its arguments
+// stands for, if any.
 fn work_of<'a>(key: &str, registry: &'a Registry) -> Result<(Work, Option<&'a str>), FormFault>
     ensures given { (ps : Parts) → Gives (λ w. Some (work_of w.0 ps)) refused result
         (work_with (modules_of registry.now) key.now (Some ps)) }
@@ -168,7 +168,7 @@ fn work_of<'a>(key: &str, registry: &'a Registry) -> Result<(Work, Option<&'a st
     }
 }
 
-/// The arguments that stand at the key of a module or an action, whose free form is that parameter.
+// The arguments that stand at the key of a module or an action, whose free form is that parameter.
 fn given_arguments(
     alloc: Global,
     free: Option<&str>,
@@ -190,7 +190,7 @@ fn given_arguments(
     }
 }
 
-/// The condition of a task: a text that is an expression, or a truth value.
+// The condition of a task: a text that is an expression, or a truth value.
 fn condition_of(alloc: Global, fields: &Fields) -> Result<Option<Expr>, FormFault>
     ensures given { Gives (λ when. Some (condition_view when)) refused result
         (condition_of (field_value (codes "when") (fields_view fields.now.entries))) }
@@ -206,7 +206,7 @@ fn condition_of(alloc: Global, fields: &Fields) -> Result<Option<Expr>, FormFaul
     }
 }
 
-/// The variable that keeps the result.
+// The variable that keeps the result.
 fn register_of(fields: &Fields) -> Result<Option<Arc<String>>, FormFault>
     ensures given { Gives (λ register. Some (option_map (λ n. string_bytes n.value) register))
         refused result

@@ -2,7 +2,6 @@
 // status.
 ghost use Rattle.std.specs.Prelude.{◌+◌, ◌<◌, ◌^◌, ◌≡◌, IfOk, max, min};
 ghost use Rattle.pb_strategy.specs.Words.{answers_in};
-ghost use Rattle.pb_cli.specs.Options.{HasForks};
 ghost use Rattle.pb_cli.specs.Outcomes.{ChecksAs, IsAnsweredBy, IsOutcome, IsWholeRun};
 ghost use Rattle.pb_cli.specs.Outcomes.{JudgesFiles, LineSays, Prints, RunSays, RunsAnswers};
 ghost use Rattle.pb_cli.specs.Outcomes.{RunsAs};
@@ -92,7 +91,6 @@ fn printed(text: String, status: u8) -> Outcome
 /// What comes of the options and the bytes of the files that they name: of `check` the verdict, of
 /// `run` the recap of the run, or the refusal. Nothing for want of memory.
 pub fn outcome_of(alloc: Global, options: &Options, bytes: &Bytes) -> Result<Outcome, AllocError>
-    requires { HasForks options.now }
     ensures { IfOk result (IsOutcome options.now bytes.now) }
 {
     match options {
@@ -107,7 +105,6 @@ fn answered(
     bytes: &Bytes,
     forks: u16,
 ) -> Result<Outcome, AllocError>
-    requires { 0 < forks }
     ensures { IfOk result (RunsBy source.now forks bytes.now) }
 {
     match source {
@@ -133,7 +130,6 @@ fn checked(alloc: Global, bytes: &Bytes) -> Result<Outcome, AllocError>
 }
 
 fn ran(alloc: Global, bytes: &Bytes, forks: u16) -> Result<Outcome, AllocError>
-    requires { 0 < forks }
     ensures { IfOk result (RunsAs forks bytes.now) }
 {
     let run = run_of(alloc, bytes, forks);
@@ -186,7 +182,6 @@ fn verdict_of(alloc: Global, bytes: &Bytes) -> Result<Checked, Fault>
 /// The run of an accepted book to its end, with the answers of the file; else the verdict's
 /// refusal, and after it that of the answers.
 pub fn run_of(alloc: Global, bytes: &Bytes, forks: u16) -> Result<Run, Fault>
-    requires { 0 < forks }
     ensures { RunsFiles forks bytes.now result }
 {
     let checked = verdict_of(alloc, bytes)?;
@@ -196,7 +191,6 @@ pub fn run_of(alloc: Global, bytes: &Bytes, forks: u16) -> Result<Run, Fault>
 }
 
 fn scripted_run(alloc: Global, checked: &Checked, forks: u16, answers: &[u8]) -> Result<Run, Fault>
-    requires { 0 < forks }
     ensures { RunsAnswers forks answers.now checked.now result }
 {
     let mut runner = ScriptRunner::read(alloc, answers)?;
@@ -221,7 +215,6 @@ fn ended_run(
     runner: &mut ScriptRunner,
 ) -> Result<Run, AllocError>
     requires few { ⟦<ScriptRunner as Runner>⟧.calls runner.old < 2 ^ 63 }
-    requires forks { 0 < forks }
     ensures whole { IfOk result (IsWholeRun forks checked.now) }
     ensures answered { IfOk result (λ r. IsAnsweredBy (answers_in runner.old) checked.now r) }
     ensures made { IfOk result (λ r. ⟦<ScriptRunner as Runner>⟧.calls runner.new

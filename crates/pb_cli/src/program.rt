@@ -1,5 +1,4 @@
 // The program: reads its words and the files that they name, and prints what comes of them.
-ghost use Rattle.pb_cli.specs.Options.{HasForks};
 
 use crate::files::read_bounded;
 use crate::options::options;
@@ -21,9 +20,7 @@ pub fn run<R: Files + AllocGlobal + Print + Eprint>(rt: &R, words: &[String]) ->
     }
 }
 
-fn act<R: Files + AllocGlobal + Print + Eprint>(rt: &R, options: &Options) -> u8
-    requires { HasForks options.now }
-{
+fn act<R: Files + AllocGlobal + Print + Eprint>(rt: &R, options: &Options) -> u8 {
     match read_all(rt, options) {
         Ok(bytes) => say(rt, outcome_of(rt.alloc(), options, &bytes)),
         Err(status) => status,

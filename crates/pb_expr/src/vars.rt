@@ -12,6 +12,7 @@ pub trait Vars {
     /// The world that an expression is evaluated in.
     ghost world: { Self → World };
 
+    /// The value at the name; none where nothing stands there.
     fn value(&self, name: &str) -> Option<&Value>
         ensures { option_map (λ v. view v.now) result
             ≡ field_value name.now (world self.now).mine };

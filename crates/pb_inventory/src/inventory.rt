@@ -1,10 +1,10 @@
 // The hosts of a run in their order, and the groups that they stand in.
-ghost use Rattle.std.specs.Prelude.{[], ◌<◌, ◌∷◌, ◌≡◌, ◌≤◌, IfOk, OnOk, Some, String, Vec, codes};
+ghost use Rattle.std.specs.Prelude.{[], ◌<◌, ◌∷◌, ◌≡◌, IfOk, OnOk, Some, String, Vec, codes};
 ghost use Rattle.std.specs.Prelude.{length, map, option_map, slice_get, string_bytes, true, ℕ};
 ghost use Rattle.std.specs.declared.alloc.Global.{Global};
 ghost use Rattle.std.specs.Str.{bytes_eq};
-ghost use Rattle.indexmap.specs.IndexMap.{index_map_len, insert_entry};
-ghost use Rattle.pb_semantics.specs.Words.{most_hosts, no_fields};
+ghost use Rattle.indexmap.specs.IndexMap.{insert_entry};
+ghost use Rattle.pb_semantics.specs.Words.{no_fields};
 ghost use Rattle.pb_value.specs.Words.{fields_view};
 ghost use Rattle.pb_inventory.specs.Hosts.{is_lone, one_host};
 ghost use Rattle.pb_inventory.specs.Views.{group_view, host_view};
@@ -28,7 +28,6 @@ struct Host {
 pub struct Inventory {
     hosts: IndexMap<String, Host>,
     groups: IndexMap<String, Vec<usize>>,
-    ghost few: { index_map_len hosts ≤ most_hosts },
     ghost lone: { is_lone (record {
       hosts = map host_view hosts.entries;
       groups = map group_view groups.entries;
@@ -40,9 +39,7 @@ impl Inventory {
 
     /// How many hosts there are.
     pub fn hosts(&self) -> usize
-        ensures count { result ≡ length (inventory_view self.now).hosts }
-        ensures few { result ≤ most_hosts }
-        ensures lone { is_lone (inventory_view self.now) ≡ true }
+        ensures { result ≡ length (inventory_view self.now).hosts }
     {
         self.hosts.len()
     }
@@ -117,7 +114,7 @@ fn ungrouped_host(alloc: Global) -> Result<Host, AllocError>
     Ok(Host { groups, vars })
 }
 
-/// The groups that the only host stands in.
+// The groups that the only host stands in.
 fn first_groups(alloc: Global) -> Result<IndexMap<String, Vec<usize>>, AllocError>
     ensures { IfOk result (λ m. map group_view m.entries ≡ (one_host []).groups) }
 {
@@ -127,7 +124,7 @@ fn first_groups(alloc: Global) -> Result<IndexMap<String, Vec<usize>>, AllocErro
     Ok(groups)
 }
 
-/// Puts a group of the first host.
+// Puts a group of the first host.
 fn put_first(
     alloc: Global,
     groups: &mut IndexMap<String, Vec<usize>>,

@@ -66,7 +66,6 @@ impl Inventory {
     pub fn read(alloc: Global, bytes: &[u8]) -> Result<Inventory, InventoryFault>
         ensures ok { IfOk result (λ i. (d : Data) × (json_data bytes.now ≡ Some d)
             × (inventory_of d ≡ Some (inventory_view i))) }
-        ensures one_host { IfOk result (λ i. length (inventory_view i).hosts ≡ 1) }
 
         ensures not_json { result ≡ Err InventoryFault.NotJson → json_data bytes.now ≡ None }
         ensures not_built { result ≡ Err InventoryFault.NotBuilt
@@ -88,7 +87,7 @@ impl Inventory {
     }
 }
 
-/// The name of the only host that the value lists.
+// The name of the only host that the value lists.
 fn only_host(value: &Value) -> Option<&str>
     ensures { option_map (λ n. n.now) result ≡ host_of (view value.now) }
 {
@@ -98,7 +97,7 @@ fn only_host(value: &Value) -> Option<&str>
     if is_name(name) { Some(name) } else { None }
 }
 
-/// The value of the record's only field, if it has that name.
+// The value of the record's only field, if it has that name.
 fn field_alone<'v>(value: &'v Value, name: &str) -> Option<&'v Value>
     ensures { option_map (λ v. view v.now) result ≡ only_field name.now (Some (view value.now)) }
 {
@@ -114,7 +113,7 @@ fn field_alone<'v>(value: &'v Value, name: &str) -> Option<&'v Value>
     }
 }
 
-/// The text that is the list's only item.
+// The text that is the list's only item.
 fn text_alone(value: &Value) -> Option<&str>
     ensures { option_map (λ n. n.now) result ≡ only_text (Some (view value.now)) }
 {
@@ -140,7 +139,7 @@ fn text_of(value: &Value) -> Option<&str>
     }
 }
 
-/// Whether a host can have that name.
+// Whether a host can have that name.
 fn is_name(name: &str) -> bool
     ensures { result ≡ is_host_name name.now }
 {

@@ -40,7 +40,7 @@ pub fn admit<M: Module>(alloc: Global, source: &M, answer: &Value) -> Result<Adm
     }
 }
 
-/// The answer of these fields with what that shape keeps of it.
+// The answer of these fields with what that shape keeps of it.
 fn ended_in(
     alloc: Global,
     failed: bool,
@@ -55,7 +55,7 @@ fn ended_in(
     ended_as(alloc, failed, project(alloc, &whole, shape)?)
 }
 
-/// The field `failed`, false where it is absent; none where it is no truth value.
+// The field `failed`, false where it is absent; none where it is no truth value.
 fn failed_in(fields: &Fields) -> Option<bool>
     ensures { result ≡ failed_of (field_value (codes "failed") (fields_view fields.now.entries)) }
 {
@@ -65,7 +65,7 @@ fn failed_in(fields: &Fields) -> Option<bool>
     }
 }
 
-/// The record with `changed`, false where it was absent.
+// The record with `changed`, false where it was absent.
 fn with_changed(alloc: Global, fields: &Arc<Fields>) -> Result<Value, AllocError>
     ensures { IfOk result (λ v. view v
         ≡ rec (changed_fields (fields_view fields.now.value.entries))) }
@@ -77,7 +77,7 @@ fn with_changed(alloc: Global, fields: &Arc<Fields>) -> Result<Value, AllocError
     Value::of_fields(alloc, unchanged)
 }
 
-/// The answer with what is kept of it.
+// The answer with what is kept of it.
 fn ended_as(alloc: Global, failed: bool, kept: Option<Value>) -> Result<Admission, AllocError>
     ensures { IfOk result (λ a. admission_view a ≡ ended failed (option_map view kept)) }
 {
@@ -112,7 +112,7 @@ fn admitted(failed: bool, value: Value) -> Admission
     }
 }
 
-/// The fields with that flag.
+// The fields with that flag.
 fn put(alloc: Global, fields: Fields, name: &str, flag: bool) -> Result<Fields, AllocError>
     ensures { IfOk result (λ m. fields_view m.entries
         ≡ put_field name.now (boolean flag) (fields_view fields.entries)) }

@@ -67,7 +67,7 @@ pub fn failed_kind(alloc: Global, action: &str, failure: &Slots) -> Result<Kind,
     result_of_case(alloc, failed)
 }
 
-/// The result of a task that always runs and ends with that record.
+// The result of a task that always runs and ends with that record.
 fn ran_kind(alloc: Global, action: &Arc<String>, ended: &Kind) -> Result<Kind, AllocError>
     ensures { IfOk result (λ k. kind_view k
         ≡ results (one (string_bytes action.now.value) ok_shape false (kind_view ended.now)
@@ -77,7 +77,7 @@ fn ran_kind(alloc: Global, action: &Arc<String>, ended: &Kind) -> Result<Kind, A
     result_of_case(alloc, ran)
 }
 
-/// The result of a task that is skipped, or ends with that record.
+// The result of a task that is skipped, or ends with that record.
 fn perhaps_skipped_kind(
     alloc: Global,
     action: &Arc<String>,
@@ -145,7 +145,7 @@ fn case_of(
     })
 }
 
-/// The record of a shape's fields with the final status.
+// The record of a shape's fields with the final status.
 fn ended_record(alloc: Global, shape: &Slots) -> Result<Kind, AllocError>
     requires { is_listed (codes "failed") (slots_view shape.now.entries) ≡ false }
     ensures { IfOk result (λ k. kind_view k ≡ ended_kind (slots_view shape.now.entries)) }

@@ -25,6 +25,7 @@ pub trait Module {
 
     ghost meaning: { Self → ModuleData };
 
+    /// The name without a prefix.
     fn name(&self) -> &str
         ensures { result.now ≡ (meaning self.now).name };
 

@@ -48,6 +48,14 @@ is_stopped-stop es = is_stopped-more es Stop ∙ or-true (is_stopped es)
 pub is_over-stop : (r : RunState) → is_over (after r Stop) ≡ true
 is_over-stop r = rw (is_stopped-stop r.history) refl
 
+stop_over : (q : Bool) (r s : RunState) → is_over r ≡ q → (is_over r ≡ false → s ≡ after r Stop) → (is_over r ≡ true → s ≡ r) → is_over s ≡ true
+stop_over true r s e going over = ap is_over (over e) ∙ e
+stop_over false r s e going over = ap is_over (going e) ∙ is_over-stop r
+
+-- a run that was stopped is over
+pub stopped_over : (r s : RunState) → (is_over r ≡ false → s ≡ after r Stop) → (is_over r ≡ true → s ≡ r) → is_over s ≡ true
+stopped_over r s going over = stop_over (is_over r) r s refl going over
+
 pub is_over-turn : (r : RunState) → is_over (after r Turn) ≡ true
 is_over-turn r =
     rw (is_turned-more r.history Turn, or-true (is_turned r.history), or-true (has_no_plays (plays_of r.checked.book))) (or-true (is_stopped (r.history ++ Turn ∷ [])))

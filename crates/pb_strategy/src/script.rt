@@ -185,7 +185,7 @@ fn item_in(items: &[Value], number: u64) -> Option<&Value>
     items.get(number as usize)
 }
 
-/// Whether the object has `unreachable` true.
+// Whether the object has `unreachable` true.
 fn is_unreachable(entry: &Value) -> bool
     ensures { result ≡ says_unreachable (view entry.now) }
 {

@@ -62,7 +62,7 @@ fn list_of(alloc: Global, item: Kind, most: usize) -> Result<Kind, AllocError>
     Ok(Kind::List(Arc::new(alloc, item)?, most))
 }
 
-/// A result with the cases of both.
+// A result with the cases of both.
 fn result_of(
     alloc: Global,
     cases: &[Case<Kind>],
@@ -102,7 +102,7 @@ fn join_hosts(
     Ok(Kind::Host(Arc::new(alloc, names)?))
 }
 
-/// The names of both.
+// The names of both.
 fn add_all(few: &BTreeSet<String>, more: &BTreeSet<String>) -> Result<BTreeSet<String>, AllocError>
     ensures { IfOk result (λ s. map (λ n. string_bytes n) s.keys
         ≡ add_names (map (λ n. string_bytes n) few.now.keys)
@@ -115,7 +115,7 @@ fn add_all(few: &BTreeSet<String>, more: &BTreeSet<String>) -> Result<BTreeSet<S
     Ok(all)
 }
 
-/// A record and what is known of all cases of a result.
+// A record and what is known of all cases of a result.
 #[cycle(join)]
 fn join_with_record(alloc: Global, slots: &Arc<Slots>, fields: &Kind) -> Result<Kind, AllocError>
     ensures { IfOk result (λ k. kind_view k ≡ record_with (slots_view slots.now.value.entries)
@@ -152,7 +152,7 @@ pub fn join_slots(alloc: Global, first: &Slots, second: &Slots) -> Result<Slots,
     Ok(all)
 }
 
-/// The second's slots that the first lacks, each uncertain.
+// The second's slots that the first lacks, each uncertain.
 fn add_others(all: &mut Slots, first: &Slots, second: &Slots) -> Result<(), AllocError>
     ensures { OnOk result (slots_view all.new.entries ≡ with_others
         (slots_view second.now.entries) (slots_view first.now.entries)
@@ -174,7 +174,7 @@ fn put_uncertain(slots: &mut Slots, name: &String, kind: &Kind) -> Result<(), Al
     put_slot(slots, name.clone()?, Slot::maybe(kind.clone()?))
 }
 
-/// The first's slots, each with what the second knows of it.
+// The first's slots, each with what the second knows of it.
 #[cycle(join)]
 fn meet_slots(alloc: Global, first: &Slots, second: &Slots) -> Result<Slots, AllocError>
     ensures { IfOk result (λ s. slots_view s.entries
@@ -188,7 +188,7 @@ fn meet_slots(alloc: Global, first: &Slots, second: &Slots) -> Result<Slots, All
     Ok(all)
 }
 
-/// Puts the first's slot with what the second knows of it.
+// Puts the first's slot with what the second knows of it.
 #[cycle(join)]
 fn put_met(
     alloc: Global,
@@ -224,7 +224,7 @@ fn both(first: Presence, second: Presence) -> Presence
     }
 }
 
-/// The cases of the first, then those of the second that the first doesn't cover.
+// The cases of the first, then those of the second that the first doesn't cover.
 fn add_cases(
     alloc: Global,
     cases: &[Case<Kind>],
@@ -240,7 +240,7 @@ fn add_cases(
     Ok(all)
 }
 
-/// One case more, if none of the cases covers it.
+// One case more, if none of the cases covers it.
 fn add_case(
     all: &mut Vec<Case<Kind>>,
     cases: &[Case<Kind>],
@@ -266,7 +266,7 @@ fn copies(alloc: Global, cases: &[Case<Kind>]) -> Result<Vec<Case<Kind>>, AllocE
     Ok(all)
 }
 
-/// The same case, which shares its action and its fields.
+// The same case, which shares its action and its fields.
 fn copy(case: &Case<Kind>) -> Result<Case<Kind>, AllocError>
     ensures { IfOk result (λ c. cases_view (c ∷ []) ≡ cases_view (case.now ∷ [])) }
 {

@@ -8,7 +8,7 @@ use Rattle.pb_strategy.specs.declared.event.Event.TheVariants.{Start, Give}
 use Rattle.pb_strategy.specs.declared.event.Taken.{Taken}
 use Rattle.pb_strategy.specs.declared.event.Taken.TheVariants as taken
 use Rattle.pb_strategy.proofs.Drives.{IsQuiet, no_job, quiet}
-use Rattle.pb_strategy.proofs.Histories.{stop_keeps}
+use Rattle.pb_strategy.proofs.Histories.{stop_keeps, stopped_over}
 use Rattle.pb_strategy.proofs.drive.drive.Goals as goal
 
 over_or_out : (r s : RunState) (t : Taken) → ((j : Job) → t ≡ taken.Job j → ⊥) → IsQuiet r s → (t ≡ taken.Finished → is_over s ≡ true) → (t ≡ taken.Stopped → is_stopped r.history ≡ true)
@@ -42,7 +42,7 @@ returns-in-Err g c =
       driven = tt;
       book = (kept.0 ∙ ap (λ r. r.checked) same ∙ i.checked, kept.1 ∙ ap (λ r. r.forks) same ∙ i.forks);
       ends = tt;
-      stopped = e.ends;
+      stopped = stopped_over c.take.new.self c.stop-in-Err.new.self e.going e.over;
       made = tt;
     }
 
@@ -57,7 +57,7 @@ returns-in-Err-step g c =
       driven = tt;
       book = (kept.0 ∙ book.0 ∙ ap (λ r. r.checked) begun ∙ i.checked, kept.1 ∙ book.1 ∙ ap (λ r. r.forks) begun ∙ i.forks);
       ends = tt;
-      stopped = e.ends;
+      stopped = stopped_over c.step.new.run c.stop.new.self e.going e.over;
       made = tt;
     }
 

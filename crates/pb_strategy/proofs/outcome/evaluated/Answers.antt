@@ -19,16 +19,15 @@ use Rattle.pb_strategy.proofs.outcome.evaluated.Goals as goal
 pub returns-then-is_opaque : goal.returns-then-is_opaque
 returns-then-is_opaque c =
     let w = own_world (own_fields c.args.vars.now) in
-    let xs = c.deref-argument-items.result.now in
+    let xs = c.args.arguments.now in
     let i = c.loop-argument.argument-index in
     let a = c.argument-item.result in
     let e : String Global × Expr = (a.name.value, a.value) in
     let left = argument_entries (drop (i + 1) xs) in
     let fs = fields_view c.loop-argument.fields.entries in
     let here : argument_entries (drop i xs) ≡ e ∷ left = ap argument_entries (drop-at xs i a c.loop-argument-test.true c.argument-item.is) in
-    let all : argument_entries xs ≡ argument_entries c.args.arguments.now.items = ap argument_entries c.deref-argument-items.ensures.value in
     view-Opaque
-    ∙ sym (ap (λ ps. shown (eval_parts w ps)) (sym (parts_of-arguments c.args.arguments.now.items)) ∙ ap (λ es. shown (eval_parts w (parts_view es))) (sym all)
+    ∙ sym (ap (λ ps. shown (eval_parts w ps)) (sym (parts_of-arguments xs))
     ∙ ap shown (c.loop-argument.invariant.3 ∙ ap (λ es. after_fields fs (eval_parts w (parts_view es))) here)
     ∙ record-spoilt w fs e left c.in_ok-value.value c.in_ok-value.ensures (sym c.is_opaque.ensures ∙ c.if-is_opaque.true))
 
@@ -36,7 +35,7 @@ pub loop-argument-preserved : goal.loop-argument-preserved
 loop-argument-preserved c =
     let w = own_world (own_fields c.args.vars.now) in
     let inv = c.loop-argument.invariant in
-    let xs = c.deref-argument-items.result.now in
+    let xs = c.args.arguments.now in
     let i = c.loop-argument.argument-index in
     let a = c.argument-item.result in
     let e : String Global × Expr = (a.name.value, a.value) in
@@ -45,8 +44,7 @@ loop-argument-preserved c =
     let fs = fields_view c.loop-argument.fields.entries in
     let here : argument_entries (drop i xs) ≡ e ∷ left = ap argument_entries (drop-at xs i a c.loop-argument-test.true c.argument-item.is) in
     let all : argument_entries xs ≡ done ++ e ∷ left = inv.1 ∙ ap (λ es. done ++ es) here in
-    let given : argument_entries c.args.arguments.now.items ≡ argument_entries xs = ap argument_entries (sym c.deref-argument-items.ensures.value) in
-    let last = put_last (λ x. shown (eval w (expr_view x))) done e left (subst Ascending (given ∙ all) (ascending-arguments c.args.arguments.now.items c.requires)) in
+    let last = put_last (λ x. shown (eval w (expr_view x))) done e left (subst Ascending all (ascending-arguments xs c.requires)) in
     let named : c.as_str.result.now ≡ string_bytes e.0 = c.as_str.ensures.value ∙ ap (λ (n : String Global). string_bytes n) c.deref.ensures in
     let stored : fields_view c.put.new.fields.entries ≡ fields_of (map (λ m. (m.0, shown (eval w (expr_view m.1)))) (done ++ e ∷ [])) = c.in_ok-put.ensures ∙ rw (named, c.in_ok-value.ensures, inv.2) last in (
       done ++ e ∷ [],
@@ -61,10 +59,9 @@ loop-argument-preserved c =
 pub returns : goal.returns
 returns c =
     let w = own_world (own_fields c.args.vars.now) in
-    let xs = c.deref-argument-items.result.now in
+    let xs = c.args.arguments.now in
     let fs = fields_view c.loop-argument.fields.entries in
     let nil : argument_entries (drop c.loop-argument.argument-index xs) ≡ [] = ap argument_entries (drop_all c.loop-argument.argument-index xs c.loop-argument-test.false) in
-    let all : argument_entries xs ≡ argument_entries c.args.arguments.now.items = ap argument_entries c.deref-argument-items.ensures.value in
     c.in_ok-of_fields.ensures
-    ∙ sym (ap (λ ps. shown (eval_parts w ps)) (sym (parts_of-arguments c.args.arguments.now.items)) ∙ ap (λ es. shown (eval_parts w (parts_view es))) (sym all)
+    ∙ sym (ap (λ ps. shown (eval_parts w ps)) (sym (parts_of-arguments xs))
     ∙ ap shown (c.loop-argument.invariant.3 ∙ ap (λ es. after_fields fs (eval_parts w (parts_view es))) nil ∙ fields-end fs))

@@ -11,7 +11,7 @@ use Rattle.pb_strategy.proofs.outcome.evaluated.Given as goal
 
 abbrev pub invariant-loop-argument : goal.invariant-loop-argument
 invariant-loop-argument l =
-    (done : List (String Global × Expr)) × (argument_entries l.argument-items ≡ done ++ argument_entries (drop l.argument-index l.argument-items))
+    (done : List (String Global × Expr)) × (argument_entries l.arguments ≡ done ++ argument_entries (drop l.argument-index l.arguments))
     × (fields_view l.fields.entries ≡ fields_of (map (λ m. (m.0, shown (eval (own_world (own_fields l.vars)) (expr_view m.1)))) done))
-    × (eval_parts (own_world (own_fields l.vars)) (parts_view (argument_entries l.argument-items))
-    ≡ after_fields (fields_view l.fields.entries) (eval_parts (own_world (own_fields l.vars)) (parts_view (argument_entries (drop l.argument-index l.argument-items)))))
+    × (eval_parts (own_world (own_fields l.vars)) (parts_view (argument_entries l.arguments))
+    ≡ after_fields (fields_view l.fields.entries) (eval_parts (own_world (own_fields l.vars)) (parts_view (argument_entries (drop l.argument-index l.arguments)))))

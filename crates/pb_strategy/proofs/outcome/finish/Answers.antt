@@ -17,13 +17,13 @@ pub returns-in_ok-ended-in-Skipped : goal.returns-in_ok-ended-in-Skipped
 returns-in_ok-ended-in-Skipped c = λ ps q h r ts.
     let e = c.in_ok-ended-in-Skipped.ensures in
     let here : ps ≡ a_pass skips = rw c.in-Skipped.is at q in
-    (r.failure, rw (here, e.ending, e.writes, c.in_ok-clone-in-Skipped.ensures.cases, c.requires.skipped) (skip_gives (modules_of c.args.registry.now) h r (plain_task c.args.task.now) ts (map answer_data c.args.answers.now.items)))
+    (r.failure, rw (here, e.ending, e.writes, c.in_ok-clone-in-Skipped.ensures.cases, c.requires.skipped) (skip_gives (modules_of c.args.registry.now) h r (plain_task c.args.task.now) ts (map answer_data c.args.answers.now)))
 
 pub returns-in_ok-acted-in-Debug : goal.returns-in_ok-acted-in-Debug
 returns-in_ok-acted-in-Debug c = λ ps q h r ts.
     let e = c.in_ok-acted-in-Debug.ensures in
     let here : ps ≡ a_pass (acts ok_shape unchanged no_changes) = rw c.in-Debug.is at q in
-    (r.failure, rw (here, e.ending, e.writes) (act_gives (modules_of c.args.registry.now) h r (plain_task c.args.task.now) ts (map answer_data c.args.answers.now.items) no_fields))
+    (r.failure, rw (here, e.ending, e.writes) (act_gives (modules_of c.args.registry.now) h r (plain_task c.args.task.now) ts (map answer_data c.args.answers.now) no_fields))
 
 pub returns-in_ok-add_all-in-Facts : goal.returns-in_ok-add_all-in-Facts
 returns-in_ok-add_all-in-Facts c = λ ps q h r ts.
@@ -34,4 +34,4 @@ returns-in_ok-add_all-in-Facts c = λ ps q h r ts.
     ∙ ap (λ ws. append_fields ws (fields_view c.deref.result.now.entries)) c.in_ok-outcome-in-Facts.ensures.writes
     ∙ ap (λ (m : BTreeMap (String Global) Value). append_fields (result_writes t.register (rec action_fields) no_fields) (fields_view m.entries)) c.deref.ensures
     ∙ writes_with t.register (rec action_fields) fs in
-    (r.failure, rw (here, c.in_ok-outcome-in-Facts.ensures.ending, written) (act_gives (modules_of c.args.registry.now) h r t ts (map answer_data c.args.answers.now.items) fs))
+    (r.failure, rw (here, c.in_ok-outcome-in-Facts.ensures.ending, written) (act_gives (modules_of c.args.registry.now) h r t ts (map answer_data c.args.answers.now) fs))

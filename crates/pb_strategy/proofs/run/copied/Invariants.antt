@@ -4,6 +4,6 @@ use Rattle.pb_strategy.proofs.run.copied.Given as goal
 
 abbrev pub invariant-loop-answer : goal.invariant-loop-answer
 invariant-loop-answer l = record {
-  same : map answer_data l.copies.items ≡ map answer_data (take l.answer-index l.answers.items);
-  whys : map why_of l.copies.items ≡ map why_of (take l.answer-index l.answers.items);
+  same : map answer_data l.copies.items ≡ map answer_data (take l.answer-index l.answers);
+  whys : map why_of l.copies.items ≡ map why_of (take l.answer-index l.answers);
 }

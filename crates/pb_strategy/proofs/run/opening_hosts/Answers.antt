@@ -18,7 +18,7 @@ loop-host-preserved c = record {
   opening = λ h lone more.
       let hosts = (inventory_view c.inventory-inventory.result.now).hosts in
       let one : hosts ≡ h ∷ [] = ap (λ i. (inventory_view i).hosts) c.inventory-inventory.ensures ∙ lone in
-      let zero : c.loop-host.host ≡ 0 = omega (arith, ap length one, c.hosts-count.ensures.count) in
+      let zero : c.loop-host.host ≡ 0 = omega (arith, ap length one, c.hosts-count.ensures) in
       let none = nil_from_length c.loop-host.hosts.items (sym (length-map c.loop-host.hosts.items _) ∙ ap length c.loop-host.invariant.recaps ∙ length-replicate c.loop-host.host nothing ∙ zero) in
       let name = first_of (λ x. x.name) hosts h c.loop-host.host _ one zero c.host_name-name.ensures in
       let groups = first_of (λ x. x.groups) hosts h c.loop-host.host _ one zero c.group_names.ensures in
@@ -36,4 +36,4 @@ loop-host-preserved c = record {
 pub returns-clause-opening : goal.returns-clause-opening
 returns-clause-opening c = λ h lone.
     let one : (inventory_view c.inventory-inventory.result.now).hosts ≡ h ∷ [] = ap (λ i. (inventory_view i).hosts) c.inventory-inventory.ensures ∙ lone in
-    c.loop-host.invariant.opening h lone (omega (arith, ap length one, c.hosts-count.ensures.count))
+    c.loop-host.invariant.opening h lone (omega (arith, ap length one, c.hosts-count.ensures))

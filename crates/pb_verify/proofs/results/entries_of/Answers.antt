@@ -18,4 +18,4 @@ loop-found-preserved c =
 pub returns : goal.returns
 returns c =
     c.loop-found.invariant ∙ ap (λ ms. map module_listed (map builtin_view ms)) (take_all c.loop-found.found-index c.modules-found-items.result.now c.loop-found-test.false)
-    ∙ ap (map module_listed) c.modules-found-items.ensures.value
+    ∙ ap (map module_listed) c.modules-found-items.ensures

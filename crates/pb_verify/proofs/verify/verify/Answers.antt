@@ -18,21 +18,21 @@ pub returns-in_err-budget-clause-verdict : goal.returns-in_err-budget-clause-ver
 returns-in_err-budget-clause-verdict c =
     let p = err_from_is_err_and c.from_residual.result c.from_residual.ensures.1 in
     let judge = judged (modules_of c.args.registry) (inventory_of (inventory_view c.args.inventory)) in
-    let same : judge (plain_plays c.plays.result.now) ≡ judge (book_of c.args.book) = ap (λ ps. judge (plain_plays ps)) c.plays.ensures.value in
+    let same : judge (plain_plays c.plays.result.now) ≡ judge (book_of c.args.book) = ap (λ ps. judge (plain_plays ps)) c.plays.ensures in
     rw (p.1, p.2) (subst (λ (v : Verdict). FaultGives (refused_verdict c.in_err-budget.field-0.0) v) same c.in_err-budget.ensures.verdict)
 
 pub of-requires-clause-accepted : goal.of-requires-clause-accepted
 of-requires-clause-accepted c =
     let n = c.in_ok-budget.field-0.budget in
     let judge = judged (modules_of c.args.registry) (inventory_of (inventory_view c.args.inventory)) in
-    let verdict : judge (book_of c.args.book) ≡ accepted n = sym (ap (λ ps. judge (plain_plays ps)) c.plays.ensures.value) ∙ c.in_ok-budget.ensures.verdict in
+    let verdict : judge (book_of c.args.book) ≡ accepted n = sym (ap (λ ps. judge (plain_plays ps)) c.plays.ensures) ∙ c.in_ok-budget.ensures.verdict in
     rw verdict (eq-eqb n n refl)
 
 pub returns-clause-verdict : goal.returns-clause-verdict
 returns-clause-verdict c =
-    sym (ap (λ ps. judged (modules_of c.args.registry) (inventory_of (inventory_view c.args.inventory)) (plain_plays ps)) c.plays.ensures.value) ∙ c.in_ok-budget.ensures.verdict
+    sym (ap (λ ps. judged (modules_of c.args.registry) (inventory_of (inventory_view c.args.inventory)) (plain_plays ps)) c.plays.ensures) ∙ c.in_ok-budget.ensures.verdict
     ∙ ap accepted (sym (ap (λ (a : Accepted). a.budget) c.in_ok-of.ensures))
 
 pub of-requires-clause-table : goal.of-requires-clause-table
 of-requires-clause-table c =
-    subst (λ b. IsTable (modules_of c.args.registry) (inventory_of (inventory_view c.args.inventory)) b (slots_view c.in_ok-budget.field-0.known.entries)) (ap plain_plays c.plays.ensures.value) c.in_ok-budget.ensures.known
+    subst (λ b. IsTable (modules_of c.args.registry) (inventory_of (inventory_view c.args.inventory)) b (slots_view c.in_ok-budget.field-0.known.entries)) (ap plain_plays c.plays.ensures) c.in_ok-budget.ensures.known

@@ -1,12 +1,15 @@
-use Rattle.std.proofs.Common.{◌≡◌, ◌++◌, ◌∷◌, [], ◌≤◌, ◌<◌, ◌+◌, ◌^◌, length, get_or, set, slice_get, None, Some, is_some, true, false, vec_len, vec_capacity, refl, sym, ap, ◌∙◌, arith, rules}
+use Rattle.std.proofs.Common.{◌≡◌, ◌++◌, ◌∷◌, [], ◌≤◌, ◌<◌, ◌+◌, ◌^◌, length, get_or, set, slice_get, None, Some, is_some, true, false, List, vec_len, vec_capacity, refl, sym, ap, subst, ◌∙◌, arith, rules}
 use Rattle.std.proofs.lemmas.List.{length-map, length-set}
 use Rattle.std.proofs.lemmas.List.Sums.{count_by-le-length}
 use Rattle.std.proofs.lemmas.Option.{slice_get_within, get_or_from_slice_get}
+use Rattle.pb_sig.specs.Modules.{modules_of}
 use Rattle.pb_strategy.specs.Inside.{recaps_of, tickets_of, handed_of, is_phase_stopped}
 use Rattle.pb_strategy.specs.Jobs.{ticket_in, ticket_out}
+use Rattle.pb_strategy.specs.Outcomes.{ComesTo}
 use Rattle.pb_strategy.specs.Recaps.{counted, Counts}
 use Rattle.pb_strategy.specs.History.{RunState, is_stopped}
 use Rattle.pb_strategy.specs.Tally.{is_give_of, recap_of, gives_of}
+use Rattle.pb_strategy.specs.declared.answer.Answer.{Answer}
 use Rattle.pb_strategy.specs.declared.event.Event.TheVariants.{Give}
 use Rattle.pb_strategy.proofs.Histories.{goes_on, longer, same_state, stays}
 use Rattle.pb_strategy.proofs.Jobs.{ticket_at, tickets-more}
@@ -64,7 +67,7 @@ invariant_of-self-2 c =
     (rw (items, settled) (tally-give es rs k c.args.answers c.in-Ok.found.ending within i.tally))
     (rw (items, handed) (longer (handed_of x.hosts.items) es (Give k c.args.answers) i.handed))
     (rw (items, c.settle.ensures.tickets, c.room_for.ensures.tickets) (tickets-more es (tickets_of x.hosts.items) (Give k c.args.answers) k _ out (λ k o. refl) i.tickets))
-    (give_run x.checked x.forks es x.hosts.items x.phase m k s c.args.answers c.in-Ok.found c.settle.new.hosts.items at busy live c.in-Ok.ensures came)
+    (give_run x.checked x.forks es x.hosts.items x.phase m k s c.args.answers c.in-Ok.found c.settle.new.hosts.items at busy live (λ q ticket t i j. subst (λ (xs : List Answer). ComesTo (modules_of x.checked.registry) t q xs c.in-Ok.found) c.deref-2.ensures.value (c.in-Ok.ensures q ticket t i j)) came)
 
 pub invariant_of-self-then-is_err-2 : goal.invariant_of-self-then-is_err-2
 invariant_of-self-then-is_err-2 c =

@@ -1,7 +1,7 @@
 use Rattle.std.proofs.Common.{◌≡◌, ◌&&◌, not, is_some, map, get_or, None, refl, sym, ap, ap₂, ◌∙◌}
 use Rattle.std.proofs.Math.Bool.{and-false}
 use Rattle.pb_language.specs.Machine.{give}
-use Rattle.pb_strategy.specs.Events.{answer_data}
+use Rattle.pb_strategy.specs.Events.{answer_data, why_of}
 use Rattle.pb_strategy.specs.History.{RunState, is_stopped}
 use Rattle.pb_strategy.specs.Inside.{tickets_of}
 use Rattle.pb_strategy.specs.Jobs.{ticket_out}
@@ -28,7 +28,7 @@ returns-in-Ok-clause-followed c =
     let on = give_possible c.self.inside c.self.invariant old c.self.view_is host xs
     ∙ is_answerable (is_stopped old.history) c.in-Some.ticket (ticket_out host old.history) c.in-Ok.ensures.refused c.in-Ok.ensures.done_only in
     one_more (Give host c.args.answers.now) (Give host c.in_ok-answers.answers) old c.give.new.self on
-    (ap₂ (λ ds whys. (give host ds, whys)) c.in_ok-answers.ensures.same c.in_ok-answers.ensures.whys) c.in-Ok.ensures.done
+    (ap₂ (λ ds whys. (give host ds, whys)) (c.in_ok-answers.ensures.same ∙ ap (map answer_data) c.deref-2.ensures.value) (c.in_ok-answers.ensures.whys ∙ ap (map why_of) c.deref-2.ensures.value)) c.in-Ok.ensures.done
 
 pub returns-in-Err-Stopped-default-default-clause-followed : goal.returns-in-Err-Stopped-default-default-clause-followed
 returns-in-Err-Stopped-default-default-clause-followed c =

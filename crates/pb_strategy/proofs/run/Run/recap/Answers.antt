@@ -4,7 +4,6 @@ use Rattle.pb_strategy.specs.History.{state_of}
 use Rattle.pb_strategy.specs.Inside.{recaps_of}
 use Rattle.pb_strategy.specs.Tally.{recap_of}
 use Rattle.pb_strategy.proofs.Nexts.{recap_same}
-use Rattle.pb_strategy.proofs.Tallies.{counts_nothing}
 use Rattle.pb_strategy.proofs.run.Run.recap.Goals as goal
 
 pub returns-clause-value : goal.returns-clause-value
@@ -12,9 +11,6 @@ returns-clause-value c = c.recap_at.ensures ∙ ap (λ hs. recap_of (recaps_of h
 
 pub returns-clause-counts : goal.returns-clause-counts
 returns-clause-counts c = rw (returns-clause-value c, ← c.self.view_is) (c.self.invariant.tally.counts c.args.host)
-
-pub returns-clause-none : goal.returns-clause-none
-returns-clause-none c = λ none. counts_nothing _ _ none (returns-clause-counts c)
 
 pub returns-clause-defined : goal.returns-clause-defined
 returns-clause-defined c = ap recap_data (returns-clause-value c) ∙ recap_same c.args.self.now.recaps (state_of c.args.self.now).hosts c.args.host c.known.ensures.recaps

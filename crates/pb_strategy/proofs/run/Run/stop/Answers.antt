@@ -26,6 +26,3 @@ invariant_of-self c =
       machine = same_machine x.checked x.checked x.forks x.forks _ _ x.hosts.items phase.Stopped phase.Stopped refl refl items refl (stop_kept x.checked x.forks es x.hosts.items x.phase c.self.invariant.machine phase.Stopped refl refl c.in-Going.is);
       forks = c.self.invariant.forks;
     }
-
-pub returns-in-Going-clause-ends : goal.returns-in-Going-clause-ends
-returns-in-Going-clause-ends c = rw c.push_reserved.ensures.items (is_over-stop (run_state c.self.inside))

@@ -1,5 +1,6 @@
 """Turns books, inventories, signatures and answers into terms of the definitions."""
 
+import json
 import re
 
 from expressions import codes, conditions, expressions, integer, names, parts, template
@@ -13,8 +14,9 @@ RESERVED = set(
 TASK_WORDS = set("name when loop register vars notify changed_when failed_when ignore_errors listen".split())
 
 
-class Opaque:
-    """A number that is no whole one of 64 bits, or a text of an inventory that holds a template."""
+def read_json(text):
+    """A JSON text; `-0` is no whole number."""
+    return json.loads(text, parse_int=lambda digits: -0.0 if digits == "-0" else int(digits))
 
 
 def by_bytes(keys):

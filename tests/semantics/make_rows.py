@@ -13,8 +13,9 @@ import re
 import sys
 from pathlib import Path
 
+import outcomes
 import trees
-from books import answers_term, book_term, inventory_term, registry_term
+from books import answers_term, book_term, inventory_term, read_json, registry_term
 from expressions import codes
 
 PER_FILE = 12
@@ -45,8 +46,8 @@ def recap_term(line):
 
 def row(case):
     name = case["id"].replace("-", "_")
-    book = json.loads(read_text(case["book"]))
-    hosts, inventory = inventory_term(json.loads(read_text(case["inventory"])))
+    book = read_json(read_text(case["book"]))
+    hosts, inventory = inventory_term(read_json(read_text(case["inventory"])))
     signatures = json.loads(read_text(case["signatures"])) if case["signatures"] else None
     lines = case["expected_stdout"].splitlines()
     note = " ".join((case.get("note") or "").split())
@@ -59,7 +60,7 @@ def row(case):
     judged = f"judged {name}_registry {name}_inventory {name}_book"
     if lines and re.match("accepted|refused V", lines[0]):
         return f"-- {name}: {note}\n{given}{name} : {judged} ≡ {verdict_term(lines[0])}\n{name} = refl\n"
-    answers = answers_term(json.loads(read_text(case["answers"])), hosts)
+    answers = answers_term(read_json(read_text(case["answers"])), hosts)
     recaps = "(" + "".join(f"{recap_term(line)} ∷ " for line in lines) + "[])"
     program = f"{name}_registry {name}_inventory {name}_book {case['forks']} {answers}"
     return f"-- {name}: {note}\n{given}{name} : recaps_of {program} ≡ {recaps}\nunfolding digits\n{name} = refl\n"
@@ -92,7 +93,7 @@ def files():
         for number, start in enumerate(range(0, len(rows), PER_FILE)):
             text = f"-- Cases of {family}, computed.\n" + HEADER.read_text() + "\n" + "\n".join(rows[start : start + PER_FILE])
             texts[f"{family.capitalize()}{number + 1:02}"] = text
-    return {**texts, **trees.files(cases_in(HERE.parent / "cases"))}
+    return {**texts, **trees.files(cases_in(HERE.parent / "cases")), **outcomes.files(HEADER.read_text(), verdict_term)}
 
 
 def bare(text):

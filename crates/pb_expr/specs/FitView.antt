@@ -22,6 +22,7 @@ own_scope ss = record {
   learned = nothing;
   present = [];
   views = [];
+  table = [];
   active = [];
   item_slots = no_slots;
   item_active = false;

@@ -53,7 +53,7 @@ own_length : (q : Bool) (m n : ℕ) → q ≡ true → m ≤ cond q (max m n) n
 own_length true m n e = grind arith
 own_length false m n e = untrue e
 
-same_place : (p : ℕ) → nat_eq p p ≡ true
+pub same_place : (p : ℕ) → nat_eq p p ≡ true
 same_place p = grind (arith, nat_tests)
 
 place_more : (t : Task) (o : Option Expression) (v : Visit) (vs : List Visit) → place_length t o vs ≤ place_length t o (v ∷ vs)

@@ -10,8 +10,9 @@ use Rattle.pb_language.specs.Scope.{Scope, Later, view_of, with_spot}
 use Rattle.pb_language.specs.Kinds.{kind_of}
 use Rattle.pb_language.specs.Knows.{WellScope}
 use Rattle.pb_language.specs.Task.{Action, call_of, debug, set_fact, assertion, failure_of, Task}
-use Rattle.pb_language.specs.Cases.{slots_of, ended_kind, changed_slots, message_slots, ok_case, failure_case, answered_cases, either_status, ended_cases, skipped_slots, skipped_cases, action_name, is_conditional, all_results, going_cases, failing_cases, item_kind, registered_kind, Sets, no_sets, sets, parts_set, fact_prefix, after_prefix, with_stripped, stripped_slots, facts_set, gathered, is_setup, may_go_on_failed, is_certain_to_run, action_sets, set_spot, with_sets, with_register, append_sets, is_plain, are_plain, is_lawful_shape, shape_slots}
-use Rattle.pb_language.specs.Setting.{Setting, group_slots, with_failure_slot, named_slots, scope_at, start_scope, loop_kind, with_item, item_scope, action_scope}
+use Rattle.pb_language.specs.Narrow.{results_of}
+use Rattle.pb_language.specs.Cases.{slots_of, ended_kind, changed_slots, message_slots, ok_case, failure_case, answered_cases, either_status, ended_cases, skipped_slots, skipped_cases, action_name, is_conditional, all_results, going_cases, failing_cases, item_kind, registered_kind, listed_kind, Sets, no_sets, sets, parts_set, fact_prefix, after_prefix, with_stripped, stripped_slots, facts_set, gathered, is_setup, may_go_on_failed, is_certain_to_run, action_sets, set_spot, with_sets, with_register, append_sets, is_plain, are_plain, is_lawful_shape, shape_slots}
+use Rattle.pb_language.specs.Setting.{Setting, group_slots, with_failure_slot, named_slots, scope_at, start_scope, loop_kind, with_item, item_scope, action_scope, with_own_result}
 use Rattle.pb_language.specs.Judgement.{task_kind, task_sets, going_slots, failing_slots, task_writes, register_writes, has_going, has_case}
 use Rattle.pb_language.specs.Wells.{WellSpot, WellSets}
 use Rattle.pb_language.proofs.WithSlot.{well_with}
@@ -21,7 +22,7 @@ use Rattle.pb_language.proofs.Known.{well_narrow}
 use Rattle.pb_language.proofs.Claims.{AfterClaim}
 
 -- the names that are always there
-well_groups : (gs : List Group) → Well (recs (group_slots gs))
+pub well_groups : (gs : List Group) → Well (recs (group_slots gs))
 well_groups [] = (refl, tt)
 well_groups (g ∷ gs) = well_with g.name true (lists (hosts g.hosts) (length g.hosts)) (group_slots gs) tt (well_groups gs)
 
@@ -38,14 +39,14 @@ well_named st d env w =
 
 -- scopes
 pub well_scope : (st : Setting) (laters : List Later) (place : ℕ) (own : Slots) → ((g : Name) → Well (recs (view_of g st.views))) → Well (recs own) → WellScope (scope_at st laters place own)
-well_scope st laters place own v w = record { own = w; views = v; learned = λ n e k h. absurd (cc); item_slots = (refl, tt) }
+well_scope st laters place own v w = record { own = w; views = v; table = v; learned = λ n e k h. absurd (cc); item_slots = (refl, tt) }
 
-well_item_kind : (k : KindData) → Well k → Well (item_kind k)
+pub well_item_kind : (k : KindData) → Well k → Well (item_kind k)
 well_item_kind (lists k n) w = w
 well_item_kind anything w = tt
 well_item_kind k w = tt
 
-well_item : (c : Scope) (o : Option Expression) (env : Slots) → WellScope c → Well (recs env) → Well (recs (with_item (loop_kind c o) env))
+pub well_item : (c : Scope) (o : Option Expression) (env : Slots) → WellScope c → Well (recs env) → Well (recs (with_item (loop_kind c o) env))
 well_item c None env v w = w
 well_item c (Some e) env v w = well_with (codes "item") true (item_kind (kind_of c e)) env (well_item_kind (kind_of c e) (kinds_are_well c e v)) w
 
@@ -122,13 +123,20 @@ well_going t = let w = well_all_results t in well_cases_cond t.ignores (all_resu
 pub well_failing : (t : Task) → WellCases (failing_cases t)
 well_failing t = well_cases_cond t.ignores no_cases _ tt (well_cases_with (λ sh fl k. fl) (all_results t) (well_all_results t))
 
-well_registered_kind : (t : Task) (o : Option KindData) (cs : Cases) → WellCases cs → Well (registered_kind t o cs)
+pub well_registered_kind : (t : Task) (o : Option KindData) (cs : Cases) → WellCases cs → Well (registered_kind t o cs)
 well_registered_kind t None cs w = well_results cs w
-well_registered_kind t (Some l) cs w = (refl, (tt, (tt, (well_results (all_results t) (well_all_results t), (tt, tt)))))
+well_registered_kind t (Some l) cs w = (refl, (tt, (tt, (well_listed l, (tt, tt))))) where
+  well_listed : (l : KindData) → Well (listed_kind (results_of (all_results t)) l)
+  well_listed anything = tt
+  well_listed k = well_results (all_results t) (well_all_results t)
 
 pub well_register : (o : Option Name) (k : KindData) (env : Slots) → Well k → Well (recs env) → Well (recs (with_register o k env))
 well_register None k env w v = v
 well_register (Some n) k env w v = well_with n true k env w v
+
+pub well_own_result : (r : Option Name) (cs : Cases) (env : Slots) → WellCases cs → Well (recs env) → Well (recs (with_own_result r cs env))
+well_own_result None cs env w v = v
+well_own_result (Some n) cs env w v = well_with n true (results_of cs) env (well_results cs w) v
 
 -- sets
 pub well_set_spot : (a : Bool) (s : Spot) (k : KindData) → WellSpot s → Well k → WellSpot (set_spot a s k)
@@ -150,11 +158,11 @@ pub well_stripped : (ss : Slots) → WellSlots ss → Well (recs (stripped_slots
 well_stripped no_slots w = (refl, tt)
 well_stripped (slot n a k ss) w = well_with_stripped (after_prefix fact_prefix n) a k (stripped_slots ss) w.0 (well_stripped ss w.1)
 
-well_facts : (a : Bool) (ss : Slots) → WellSlots ss → WellSets (facts_set a ss)
+pub well_facts : (a : Bool) (ss : Slots) → WellSlots ss → WellSets (facts_set a ss)
 well_facts a no_slots w = tt
 well_facts a (slot n b k ss) w = (w.0, well_facts a ss w.1)
 
-well_gathered : (a : Bool) (s : Spot) → WellSpot s → WellSets (gathered a s)
+pub well_gathered : (a : Bool) (s : Spot) → WellSpot s → WellSets (gathered a s)
 well_gathered a nowhere w = tt
 well_gathered a (spot b (recs ss)) w = (well_stripped ss w.1, well_facts (a && b) ss w.1)
 well_gathered a (spot b k) w = tt
@@ -163,11 +171,11 @@ well_sets_cond : (q : Bool) (s : Sets) → WellSets s → WellSets (cond q s no_
 well_sets_cond true s w = w
 well_sets_cond false s w = tt
 
-well_parts_set : (c : Scope) (a : Bool) (ps : Parts) → WellScope c → WellSets (parts_set c a ps)
+pub well_parts_set : (c : Scope) (a : Bool) (ps : Parts) → WellScope c → WellSets (parts_set c a ps)
 well_parts_set c a no_parts w = tt
 well_parts_set c a (part n e ps) w = (kinds_are_well c e w, well_parts_set c a ps w)
 
-well_action_sets : (a : Action) (c : Scope) (t : Task) → WellScope c → WellSets (action_sets c t a)
+pub well_action_sets : (a : Action) (c : Scope) (t : Task) → WellScope c → WellSets (action_sets c t a)
 well_action_sets (call_of m ps) c t w =
     let facts = slot_at (codes "ansible_facts") (shape_slots m.ok) in
     well_sets_cond (is_setup m) (gathered (is_certain_to_run t && not (may_go_on_failed t)) facts)
@@ -192,8 +200,8 @@ module _ (st : Setting) (v : (g : Name) → Well (recs (view_of g st.views))) (t
   pub well_own_item : Well (recs (with_item (loop_kind (start_scope st t env) t.loop) (named_slots st t.depth env)))
   well_own_item = well_item (start_scope st t env) t.loop (named_slots st t.depth env) well_start (well_named st t.depth env w)
 
-  well_item_scope : WellScope (item_scope st t env)
-  well_item_scope = record { own = well_own_item; views = v; learned = well_start.learned; item_slots = well_start.item_slots }
+  pub well_item_scope : WellScope (item_scope st t env)
+  well_item_scope = record { own = well_own_item; views = v; table = v; learned = well_start.learned; item_slots = well_start.item_slots }
 
   pub well_action : WellScope (action_scope st t env)
   well_action = well_narrow (conjunction t.conditions) (item_scope st t env) true well_item_scope
@@ -207,13 +215,13 @@ module _ (st : Setting) (v : (g : Name) → Well (recs (view_of g st.views))) (t
   pub well_going_register : Well (recs (with_register t.register (task_kind st t env (going_cases t)) env))
   well_going_register = well_register t.register (task_kind st t env (going_cases t)) env (well_task_kind (going_cases t) (well_going t)) w
 
-  well_going_slots : Well (recs (going_slots st t env))
+  pub well_going_slots : Well (recs (going_slots st t env))
   well_going_slots = well_with_sets (task_sets st t env) (with_register t.register (task_kind st t env (going_cases t)) env) well_task_sets well_going_register
 
-  well_failing_slots : Well (recs (failing_slots st t env))
+  pub well_failing_slots : Well (recs (failing_slots st t env))
   well_failing_slots = well_register t.register (task_kind st t env (failing_cases t)) env (well_task_kind (failing_cases t) (well_failing t)) w
 
-  well_task_writes : WellSets (task_writes st t env)
+  pub well_task_writes : WellSets (task_writes st t env)
   well_task_writes =
       let going = register_writes t.register (has_going t t.loop) (task_kind st t env (going_cases t)) in
       let failing = register_writes t.register (has_case (failing_cases t)) (task_kind st t env (failing_cases t)) in

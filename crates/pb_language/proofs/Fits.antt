@@ -2,16 +2,16 @@
 use Rattle.std.proofs.Common.{◌≡◌, ℕ, ℤ, List, [], ◌∷◌, ◌++◌, Bool, true, false, not, ◌&&◌, ◌||◌, cond, Option, Some, None, is_some, codes, refl, sym, ap, ◌∙◌, int_le, int_lt, nat_le}
 use Rattle.pb_semantics.specs.Data.{Data, Items, Fields, boolean, int, text, list, rec, opaque, no_items, item, field_value, count_of}
 use Rattle.pb_semantics.specs.Kind.{KindData, Slots, Spot, never, booleans, ints, texts, hosts, lists, recs, results, anything, nowhere, spot, slot_at}
-use Rattle.pb_semantics.specs.Keeps.{all_items, keeps, spot_ok}
+use Rattle.pb_semantics.specs.Keeps.{flag_is, all_items, keeps, spot_ok}
 use Rattle.pb_semantics.specs.Equal.{data_eq, is_item}
 use Rattle.pb_semantics.specs.Fit.{holds_any}
 use Rattle.pb_semantics.specs.Render.{is_plain, rendered}
 use Rattle.pb_semantics.specs.Well.{Well}
-use Rattle.pb_semantics.proofs.Bools.{untrue, and-left, and-right, not-true}
+use Rattle.pb_semantics.proofs.Bools.{and-both, untrue, and-left, and-right, not-true}
 use Rattle.pb_semantics.proofs.Kept.{nothing_keeps_never}
-use Rattle.pb_language.specs.Expression.{Name, Comparison, equal, less, at_most, more, at_least, Status, is_failed, is_changed, is_skipped, Term, named_host, this_host, item_host, group_member, Expression, literal, path, hostvars_alone, negation, conjunction, disjunction, comparison, membership, in_batch, defined, undefinable, path_status, value_status, path_or, value_or, length_of, joined_by, concatenation, list_of, record_of, Root, variable, alias, other, member, Expressions, no_expressions, expression, Parts, no_parts, part}
+use Rattle.pb_language.specs.Expression.{Name, Comparison, equal, less, at_most, more, at_least, Status, Term, named_host, this_host, item_host, group_member, Expression, literal, path, hostvars_alone, negation, conjunction, disjunction, comparison, membership, in_batch, defined, undefinable, path_status, value_status, path_or, value_or, length_of, joined_by, concatenation, list_of, record_of, Root, variable, alias, other, member, Expressions, no_expressions, expression, Parts, no_parts, part}
 use Rattle.pb_language.specs.World.{World, variables_of, member_of}
-use Rattle.pb_language.specs.Evaluation.{undefined, no_field, wrong_sort, Outcome, value, stuck, Look, there, absent, failing, Named, host_named, no_host, not_a_host, then_go, or_stuck, value_below, is_value, found, readable, name_in, member_named, member_text, host_of, look_there, read, is_there, value_else, or_else, only_boolean, negated, and_then, or_then, holds_opaque, any_item_opaque, ordered, compared, found_in, is_text_among, member_among, is_active, flag_of, status_of, counted, plain_text, with_text, joined_items, joined, put_item, put_part, given, eval, look, eval_all, eval_any, eval_text, eval_items, eval_parts}
+use Rattle.pb_language.specs.Evaluation.{undefined, no_field, wrong_sort, Outcome, value, stuck, Look, there, absent, failing, Named, host_named, no_host, not_a_host, then_go, or_stuck, value_below, is_value, found, readable, name_in, member_named, member_text, host_of, look_there, read, is_there, value_else, or_else, only_boolean, negated, and_then, or_then, holds_opaque, any_item_opaque, ordered, compared, found_in, is_text_among, member_among, is_active, is_truth, may_be_truth, has_statuses, status_name, status_of, counted, plain_text, with_text, joined_items, joined, put_item, put_part, given, eval, look, eval_all, eval_any, eval_text, eval_items, eval_parts}
 use Rattle.pb_language.specs.Scope.{Scope, is_present, spot_kind, is_certain, hosts_at, hosts_of, other_spot}
 use Rattle.pb_language.specs.Kinds.{path_spot, kind_of, root_spot, items_kind, parts_slots, count}
 use Rattle.pb_language.specs.Narrow.{narrow}
@@ -193,29 +193,39 @@ active_has w c (group_member g n) m h i =
     member_has (member_of g n w.groups) w.batch (rw (ap (λ gs. is_some (member_of g n gs)) m.groups) (not_asked unknown_name (is_some (member_of g n c.groups)) h))
 
 -- what is asked of a status
-flag_has : (o : Option Data) (s : Spot) → spot_ok o s ≡ true → is_flag s ≡ true → is_value (flag_of o) ≡ true
+boolean_flag : (d : Data) → keeps d booleans ≡ true → is_truth (Some d) ≡ true
+boolean_flag (boolean b) h = refl
+boolean_flag d h = untrue h
+
+flag_has : (o : Option Data) (s : Spot) → spot_ok o s ≡ true → is_flag s ≡ true → is_truth o ≡ true
 flag_has None nowhere h i = untrue i
 flag_has None (spot true k) h i = untrue h
 flag_has None (spot false k) h i = untrue i
 flag_has (Some d) nowhere h i = untrue h
 flag_has (Some d) (spot false k) h i = untrue i
-flag_has (Some d) (spot true k) h i = boolean_flag d (a_boolean d k h i) where
-  boolean_flag : (d : Data) → keeps d booleans ≡ true → is_value (flag_of (Some d)) ≡ true
-  boolean_flag (boolean b) h = refl
-  boolean_flag d h = untrue h
+flag_has (Some d) (spot true k) h i = boolean_flag d (a_boolean d k h i)
+
+may_flag : (o : Option Data) (s : Spot) → spot_ok o s ≡ true → may_be_flag s ≡ true → may_be_truth o ≡ true
+may_flag None s h i = refl
+may_flag (Some d) nowhere h i = untrue h
+may_flag (Some d) (spot a k) h i = boolean_flag d (a_boolean d k h i)
+
+asked_has : (q b : Bool) → q ≡ true → is_value (cond q (value (boolean b)) (stuck wrong_sort)) ≡ true
+asked_has true b e = refl
+asked_has false b e = e
 
 record_status : (s : Status) (fs : Fields) (ss : Slots) → keeps (rec fs) (recs ss) ≡ true → is_result (recs ss) ≡ true → is_value (status_of s (rec fs)) ≡ true
-record_status is_failed fs ss h i =
+record_status s fs ss h i =
     let changed = is_flag (slot_at (codes "changed") ss) in
     let failed = is_flag (slot_at (codes "failed") ss) in
     let skipped = may_be_flag (slot_at (codes "skipped") ss) in
-    flag_has (field_value (codes "failed") fs) (slot_at (codes "failed") ss) ((record_models fs ss h).at (codes "failed")) (and-left failed skipped (and-right changed (failed && skipped) i))
-record_status is_changed fs ss h i =
-    let changed = is_flag (slot_at (codes "changed") ss) in
-    let failed = is_flag (slot_at (codes "failed") ss) in
-    let skipped = may_be_flag (slot_at (codes "skipped") ss) in
-    flag_has (field_value (codes "changed") fs) (slot_at (codes "changed") ss) ((record_models fs ss h).at (codes "changed")) (and-left changed (failed && skipped) i)
-record_status is_skipped fs ss h i = refl
+    let models = record_models fs ss h in
+    let has_changed = flag_has (field_value (codes "changed") fs) (slot_at (codes "changed") ss) (models.at (codes "changed")) (and-left changed (failed && skipped) i) in
+    let has_failed = flag_has (field_value (codes "failed") fs) (slot_at (codes "failed") ss) (models.at (codes "failed")) (and-left failed skipped (and-right changed (failed && skipped) i)) in
+    let has_skipped = may_flag (field_value (codes "skipped") fs) (slot_at (codes "skipped") ss) (models.at (codes "skipped")) (and-right failed skipped (and-right changed (failed && skipped) i)) in
+    asked_has (has_statuses fs) (flag_is true (field_value (status_name s) fs))
+    (and-both (is_truth (field_value (codes "changed") fs)) (is_truth (field_value (codes "failed") fs) && may_be_truth (field_value (codes "skipped") fs)) has_changed
+    (and-both (is_truth (field_value (codes "failed") fs)) (may_be_truth (field_value (codes "skipped") fs)) has_failed has_skipped))
 
 status_has : (s : Status) (d : Data) (k : KindData) → Well k → keeps d k ≡ true → is_result k ≡ true → is_value (status_of s d) ≡ true
 status_has s d never w h i = untrue (nothing_keeps_never d h)

@@ -1,7 +1,7 @@
 -- A Give of a fit task is not stuck, and what it writes is known.
 use Rattle.std.proofs.Common.{◌≡◌, ◌≤◌, ℕ, List, [], ◌∷◌, Bool, true, false, not, ◌&&◌, ◌||◌, ⊎_elim, cond, nat_le, Option, Some, None, is_some, length, codes, refl, sym, ap, subst, ◌∙◌, true≢false, arith}
-use Rattle.pb_semantics.specs.Data.{Data, Fields, boolean, rec, field_value, count_of}
-use Rattle.pb_semantics.specs.Kind.{KindData, Slots, Cases, recs, no_cases, spot, slot_at}
+use Rattle.pb_semantics.specs.Data.{Data, Fields, boolean, rec, list, field_value, count_of}
+use Rattle.pb_semantics.specs.Kind.{KindData, Slots, Cases, recs, anything, no_cases, spot, slot_at}
 use Rattle.pb_semantics.specs.Keeps.{keeps, all_items, cases_kept, Models}
 use Rattle.pb_semantics.specs.Below.{below}
 use Rattle.pb_semantics.specs.Well.{Well}
@@ -12,7 +12,7 @@ use Rattle.pb_language.specs.Scope.{view_of, spot_kind}
 use Rattle.pb_language.specs.Kinds.{kind_of}
 use Rattle.pb_language.specs.Narrow.{results_of, cases_with}
 use Rattle.pb_language.specs.Task.{Task}
-use Rattle.pb_language.specs.Cases.{all_results, going_cases, failing_cases, looped_kind, length_bound, registered_kind, Sets, no_sets, sets, append_sets, is_conditional, with_sets, with_register}
+use Rattle.pb_language.specs.Cases.{all_results, going_cases, failing_cases, looped_kind, listed_kind, length_bound, registered_kind, Sets, no_sets, sets, append_sets, is_conditional, with_sets, with_register}
 use Rattle.pb_language.specs.Setting.{Setting, start_scope, loop_kind, action_scope}
 use Rattle.pb_language.specs.Judgement.{has_case, has_going, task_kind, task_sets, going_slots, failing_slots, register_writes, task_writes, loop_length}
 use Rattle.pb_language.specs.Start.{Pass}
@@ -98,10 +98,14 @@ module _ (st : Setting) (t : Task) (env : Slots) (v : Well (recs env)) (wells : 
   all_items_kept [] h = refl
   all_items_kept (e ∷ es) h = and-both (cases_kept e.fields (all_results t)) (all_items (λ d. keeps d (results_of (all_results t))) (result_items es)) h.0.kept (all_items_kept es h.1)
 
-  looped_kept : (es : List Ended) (n : ℕ) → AllEnded st t env es → length es ≤ n → keeps (rec (looped_fields es)) (looped_kind t n) ≡ true
-  looped_kept es n h l =
-      let x = and-both (nat_le (count_of (result_items es)) n) (all_items (λ d. keeps d (results_of (all_results t))) (result_items es)) (rw (count_results es) (le_from (length es) n l)) (all_items_kept es h) in
-      rw x refl
+  listed_kept : (es : List Ended) (k : KindData) → AllEnded st t env es → length es ≤ length_bound k → keeps (list (result_items es)) (listed_kind (results_of (all_results t)) k) ≡ true
+  listed_kept es anything h l = refl
+  listed_kept es k h l =
+      let n = length_bound k in
+      and-both (nat_le (count_of (result_items es)) n) (all_items (λ d. keeps d (results_of (all_results t))) (result_items es)) (rw (count_results es) (le_from (length es) n l)) (all_items_kept es h)
+
+  looped_kept : (es : List Ended) (k : KindData) → AllEnded st t env es → length es ≤ length_bound k → keeps (rec (looped_fields es)) (looped_kind (listed_kind (results_of (all_results t)) k)) ≡ true
+  looped_kept es k h l = rw (listed_kept es k h l) refl
 
   -- what is registered is of its kind, and there is such a case
   any_going : (f q : Bool) → (f || false) && not q ≡ false → f && not q ≡ false
@@ -119,14 +123,14 @@ module _ (st : Setting) (t : Task) (env : Slots) (v : Well (recs env)) (wells : 
       let x = going_kept t.ignores e.failed e.fields (all_results t) (any_going e.failed t.ignores g) h.0.status h.0.kept in
       (x, kept_has e.fields (going_cases t) x)
   going_registered None (e ∷ f ∷ es) s h n g = untrue s
-  going_registered (Some l) es s h n g = (looped_kept es (length_bound (kind_of (start_scope st t env) l)) h n, refl)
+  going_registered (Some l) es s h n g = (looped_kept es (kind_of (start_scope st t env) l) h n, refl)
 
   failing_registered : (l : Option Expression) (es : List Ended) → SingleEnded l es → AllEnded st t env es → length es ≤ loop_length st t env l → any_failed es && not t.ignores ≡ true
       → keeps (rec (registered_fields l es)) (registered_kind t (loop_kind (start_scope st t env) l) (failing_cases t)) ≡ true
   failing_registered None [] s h n g = untrue s
   failing_registered None (e ∷ []) s h n g = failing_kept t.ignores e.failed e.fields (all_results t) (any_failing e.failed t.ignores g) h.0.status h.0.kept
   failing_registered None (e ∷ f ∷ es) s h n g = untrue s
-  failing_registered (Some l) es s h n g = looped_kept es (length_bound (kind_of (start_scope st t env) l)) h n
+  failing_registered (Some l) es s h n g = looped_kept es (kind_of (start_scope st t env) l) h n
 
   fails_at : (f : Bool) (e : Ended) (es : List Ended) → e.failed ≡ f → EndedFine st t env e → (any_failed es && not t.ignores ≡ true → has_case (failing_cases t) ≡ true) → (f || any_failed es) && not t.ignores ≡ true → has_case (failing_cases t) ≡ true
   fails_at true e es i h later g = kept_has e.fields (failing_cases t) (failing_kept t.ignores true e.fields (all_results t) g (h.status ∙ ap (λ b. Some (boolean b)) i) h.kept)

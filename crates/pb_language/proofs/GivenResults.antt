@@ -6,7 +6,7 @@ use Rattle.pb_semantics.specs.Keeps.{keeps, cases_kept, flag_is, spot_ok, Models
 use Rattle.pb_semantics.specs.Admission.{failed_of, changed_fields, ended, judged, admission}
 use Rattle.pb_semantics.specs.Project.{projected}
 use Rattle.pb_semantics.specs.Signature.{ModuleData, is_certain_boolean}
-use Rattle.pb_semantics.specs.Well.{Well, WellCases}
+use Rattle.pb_semantics.specs.Well.{Well}
 use Rattle.pb_semantics.proofs.Bools.{untrue, and-left, and-right, and-both, or-left}
 use Rattle.pb_semantics.proofs.Names.{own_flag}
 use Rattle.pb_semantics.proofs.Projected.{projected_keeps}
@@ -26,12 +26,12 @@ use Rattle.pb_language.specs.Setting.{Setting, named_slots, scope_at, start_scop
 use Rattle.pb_language.specs.Judgement.{conditions_fault, keyword_fault, loop_fault, arguments_fault, is_lawful, action_fault, task_fault, task_sets}
 use Rattle.pb_language.specs.Start.{Changes, no_changes, Entry, skips, calls, acts, Pass}
 use Rattle.pb_language.specs.Give.{Answer, object, unreachable, Own, Admitted, admitted, breached, unreached, with_own, facts_of, set_by_answer, own_of, admit_answer, is_failure, acted, skipped_own, admit_entry, admit_passes, Ended, Results, results_are, no_results, ended_with, keyword_of, with_own_field, own_world, with_status, with_ended, end_own, end_all}
-use Rattle.pb_language.proofs.WithSlot.{at_with, models_written, record_models, well_with}
-use Rattle.pb_language.proofs.WellKinds.{well_slot, well_results}
+use Rattle.pb_language.proofs.WithSlot.{at_with, models_written, record_models}
+use Rattle.pb_language.proofs.WellKinds.{well_slot}
 use Rattle.pb_language.proofs.Fits.{fit_has_value, no_first, no_second, not_asked}
 use Rattle.pb_language.proofs.Tests.{test_teaches}
 use Rattle.pb_language.proofs.Claims.{Around, Follows, IsCall, ItemFine, EntryFine, AllPasses}
-use Rattle.pb_language.proofs.After.{well_scope, shape_well, well_answered_cases, well_own_item}
+use Rattle.pb_language.proofs.After.{well_scope, shape_well, well_answered_cases, well_own_result, well_own_item}
 use Rattle.pb_language.proofs.GivenFields.{kept_put_with, ended_fields, failed_field, Ends, ends_kind, EndsEach, ends_either, ends_own, kept_left, kept_right}
 use Rattle.pb_language.proofs.GivenSets.{Uncertain, uncertain_run, uncertain_going, gathered_follows}
 
@@ -103,6 +103,7 @@ knows_at w st laters place own r v m =
       groups = r.groups;
       own = m;
       views = r.views;
+      table = r.views;
       learned = λ n e k d h i. absurd (cc);
       present = λ p ns h. untrue h;
       active = λ g h. untrue h;
@@ -114,10 +115,6 @@ knows_at w st laters place own r v m =
 own_models : (r : Option Name) (fs vars : Fields) (cs : Cases) (env : Slots) → Models vars env → cases_kept fs cs ≡ true → Models (with_own_field r (rec fs) vars) (with_own_result r cs env)
 own_models None fs vars cs env m h = m
 own_models (Some n) fs vars cs env m h = models_written n (rec fs) vars true (results_of cs) env m h
-
-well_own_result : (r : Option Name) (cs : Cases) (env : Slots) → WellCases cs → Well (recs env) → Well (recs (with_own_result r cs env))
-well_own_result None cs env w v = v
-well_own_result (Some n) cs env w v = well_with n true (results_of cs) env (well_results cs w) v
 
 -- the result of an item as it was admitted, of this action with these sets
 pub record ResultFine (a : Action) (s : Sets) (o : Own) : Type 0 where

@@ -11,13 +11,13 @@ use Rattle.pb_language.specs.Expression.{Name, Status, Expression, negation, con
 use Rattle.pb_language.specs.Same.{same_expression, same_root}
 use Rattle.pb_language.specs.World.{World, variables_of, member_of}
 use Rattle.pb_language.specs.Evaluation.{Outcome, value, stuck, Look, there, absent, failing, or_stuck, no_field, value_below, is_value, is_there, undefined, found, readable, name_in, member_named, look_there, is_text_among, member_among, is_active, eval, look}
-use Rattle.pb_language.specs.Scope.{Scope, Present, begins_with, is_present_path, resolved, both_present, Later, spot_kind, with_spot, view_of, later_of, is_later, learned_kind, host_spot, other_spot, both_scopes}
+use Rattle.pb_language.specs.Scope.{Scope, Present, begins_with, is_present_path, resolved, both_present, Later, spot_kind, is_certain, with_slot, with_spot, view_of, later_of, is_later, learned_kind, host_spot, other_spot, both_scopes}
 use Rattle.pb_language.specs.Kinds.{root_spot}
 use Rattle.pb_language.specs.Narrow.{cases_with, answers, on_results, changed_spot, changed_at, there_spot, defined_at, teach_host, teach_member, teach, teach_present, active_member, teach_active, any_teaches, narrow, narrow_each, narrow_some}
 use Rattle.pb_language.specs.Knows.{WellScope, Knows}
 use Rattle.pb_language.specs.Wells.{WellSpot}
 use Rattle.pb_language.proofs.Same.{equal_expression, equal_root}
-use Rattle.pb_language.proofs.WithSlot.{at_with, models_with}
+use Rattle.pb_language.proofs.WithSlot.{at_with, models_with, well_with}
 use Rattle.pb_language.proofs.WellKinds.{well_slot, well_host, well_other, well_root}
 use Rattle.pb_language.proofs.Paths.{keeps_first, keeps_second, meets_first, meets_second}
 use Rattle.pb_language.proofs.Values.{host_ok, other_ok, resolved_look, root_ok}
@@ -38,6 +38,7 @@ well_teach_host c f x g u w =
     record {
       own = w.own;
       views = λ h. put_view_at (λ ts. Well (recs ts)) g h ss c.views (w.views h) (λ e. well_with_spot x (f (host_spot c false x g)) (view_of g c.views) (u (host_spot c false x g) (well_host c false x g w)) (w.views g));
+      table = w.table;
       learned = w.learned;
       item_slots = w.item_slots;
     }
@@ -48,30 +49,31 @@ well_teach_member c f x (Some g) u w = well_teach_host c f x g u w
 
 pub well_teach : (c : Scope) (f : Spot → Spot) (r : Root) → WellsSpot f → WellScope c → WellScope (teach c f r)
 well_teach c f (variable n) u w =
-    record { own = well_with_spot n (f (slot_at n c.own)) c.own (u (slot_at n c.own) (well_slot n c.own w.own.1)) w.own; views = w.views; learned = w.learned; item_slots = w.item_slots }
+    record { own = well_with_spot n (f (slot_at n c.own)) c.own (u (slot_at n c.own) (well_slot n c.own w.own.1)) w.own; views = w.views; table = w.table; learned = w.learned; item_slots = w.item_slots }
 well_teach c f (alias n e) u w =
     let s = root_spot c (alias n e) in
     record {
       own = w.own;
       views = w.views;
+      table = w.table;
       learned = λ m g k h. well_learned (bytes_eq m n && same_expression g e) (spot_kind (f s)) k (learned_kind m g c.learned) (u s (well_root c w (alias n e))) (w.learned m g k) h;
       item_slots = w.item_slots;
     }
 well_teach c f (other (named_host g) x) u w = well_teach_host c f x g u w
 well_teach c f (other this_host x) u w = well_teach_host c f x c.this u w
 well_teach c f (other item_host x) u w =
-    record { own = w.own; views = w.views; learned = w.learned; item_slots = well_with_spot x (f (other_spot c item_host x)) c.item_slots (u (other_spot c item_host x) (well_other c item_host x w)) w.item_slots }
+    record { own = w.own; views = w.views; table = w.table; learned = w.learned; item_slots = well_with x (is_certain (f (other_spot c item_host x))) (spot_kind (f (other_spot c item_host x))) c.item_slots (u (other_spot c item_host x) (well_other c item_host x w)) w.item_slots }
 well_teach c f (other (group_member g n) x) u w = well_teach_member c f x (member_of g n c.groups) u w
 well_teach c f (member g n) u w = w
 
 well_active_member : (c : Scope) (o : Option Name) → WellScope c → WellScope (active_member c o)
 well_active_member c None w = w
-well_active_member c (Some g) w = record { own = w.own; views = w.views; learned = w.learned; item_slots = w.item_slots }
+well_active_member c (Some g) w = record { own = w.own; views = w.views; table = w.table; learned = w.learned; item_slots = w.item_slots }
 
-well_active : (c : Scope) (t : Term) → WellScope c → WellScope (teach_active c t)
-well_active c (named_host n) w = record { own = w.own; views = w.views; learned = w.learned; item_slots = w.item_slots }
-well_active c this_host w = record { own = w.own; views = w.views; learned = w.learned; item_slots = w.item_slots }
-well_active c item_host w = record { own = w.own; views = w.views; learned = w.learned; item_slots = w.item_slots }
+pub well_active : (c : Scope) (t : Term) → WellScope c → WellScope (teach_active c t)
+well_active c (named_host n) w = record { own = w.own; views = w.views; table = w.table; learned = w.learned; item_slots = w.item_slots }
+well_active c this_host w = record { own = w.own; views = w.views; table = w.table; learned = w.learned; item_slots = w.item_slots }
+well_active c item_host w = record { own = w.own; views = w.views; table = w.table; learned = w.learned; item_slots = w.item_slots }
 well_active c (group_member g n) w = well_active_member c (member_of g n c.groups) w
 
 pub defined_wells : (ns : List Name) → WellsSpot (there_spot (defined_at ns))
@@ -80,10 +82,10 @@ defined_wells ns s w = well_there_spot (defined_at ns) s (λ k v. well_defined_a
 pub answered_wells : (ns : List Name) (s : Status) (b : Bool) → WellsSpot (changed_spot (changed_at ns (on_results (cases_with (answers s b)))))
 answered_wells ns s b t w = well_changed_spot (changed_at ns (on_results (cases_with (answers s b)))) t (λ k v. well_answered ns s b k v) w
 
-well_present : (c : Scope) (r : Root) (ns : List Name) → WellScope c → WellScope (teach_present c r ns)
+pub well_present : (c : Scope) (r : Root) (ns : List Name) → WellScope c → WellScope (teach_present c r ns)
 well_present c r ns w =
     let v = well_teach c (there_spot (defined_at ns)) r (defined_wells ns) w in
-    record { own = v.own; views = v.views; learned = v.learned; item_slots = v.item_slots }
+    record { own = v.own; views = v.views; table = v.table; learned = v.learned; item_slots = v.item_slots }
 
 mutual
   pub well_narrow : (e : Expression) (c : Scope) (b : Bool) → WellScope c → WellScope (narrow c e b)
@@ -97,7 +99,7 @@ mutual
   well_narrow (path_status s r ns) c b w = well_teach c (changed_spot (changed_at ns (on_results (cases_with (answers s b))))) r (answered_wells ns s b) w
   well_narrow e c b w = w
 
-  well_narrow_each : (es : Expressions) (c : Scope) (b : Bool) → WellScope c → WellScope (narrow_each c es b)
+  pub well_narrow_each : (es : Expressions) (c : Scope) (b : Bool) → WellScope c → WellScope (narrow_each c es b)
   well_narrow_each no_expressions c b w = w
   well_narrow_each (expression e es) c b w = well_narrow_each es (narrow c e b) b (well_narrow e c b w)
 
@@ -170,6 +172,7 @@ knows_first w c d v m =
       own = (meet_models w.mine c.own d.own m.well.own v.own).0 m.own;
       views = λ g. both_view_at (λ ss. Models (variables_of g w.hosts) ss) g c.views d.views
           (λ h. (meet_models (variables_of g w.hosts) (view_of g c.views) (view_of g d.views) (m.well.views g) (v.views g)).0 (m.views g)) (λ h. rw (no_view g c.views h) at (m.views g));
+      table = m.table;
       learned = λ n e k x i j.
           let both = both_learned_at n e c.learned d.learned k i in
           rw both.4 (keeps_first x both.0 both.1 (m.well.learned n e both.0 both.2) (v.learned n e both.1 both.3) (m.learned n e both.0 x both.2 j));
@@ -193,6 +196,7 @@ knows_second w c d v s m =
       own = (meet_models w.mine c.own d.own v.own m.well.own).1 m.own;
       views = λ g. both_view_at (λ ss. Models (variables_of g w.hosts) ss) g c.views d.views
           (λ h. (meet_models (variables_of g w.hosts) (view_of g c.views) (view_of g d.views) (v.views g) (m.well.views g)).1 (m.views g)) (λ h. rw (no_view g d.views (sym (s.views g) ∙ h)) at (m.views g));
+      table = λ g. rw s.table (m.table g);
       learned = λ n e k x i j.
           let both = both_learned_at n e c.learned d.learned k i in
           rw both.4 (keeps_second x both.0 both.1 (v.learned n e both.0 both.2) (m.well.learned n e both.1 both.3) (m.learned n e both.1 x both.3 j));
@@ -211,11 +215,12 @@ active_step g h hs bs f i x = ⊎_elim (λ y. rw (same_name g h y) i) (λ z. f z
 knows_active_host : (w : World) (c : Scope) (h : Name) → Knows w c → is_among h w.batch ≡ true → Knows w (record c { active = h ∷ c.active })
 knows_active_host w c h m i =
     record {
-      well = record { own = m.well.own; views = m.well.views; learned = m.well.learned; item_slots = m.well.item_slots };
+      well = record { own = m.well.own; views = m.well.views; table = m.well.table; learned = m.well.learned; item_slots = m.well.item_slots };
       this = m.this;
       groups = m.groups;
       own = m.own;
       views = m.views;
+      table = m.table;
       learned = m.learned;
       present = m.present;
       active = λ g x. active_step g h c.active w.batch (m.active g) i x;
@@ -236,11 +241,12 @@ knows_active w c (named_host n) m h = let x : is_among n w.batch ≡ true = cc i
 knows_active w c this_host m h = let x : is_among w.this w.batch ≡ true = cc in knows_active_host w c c.this m (rw (ap (λ g. is_among g w.batch) m.this) at x)
 knows_active w c item_host m h =
     record {
-      well = record { own = m.well.own; views = m.well.views; learned = m.well.learned; item_slots = m.well.item_slots };
+      well = record { own = m.well.own; views = m.well.views; table = m.well.table; learned = m.well.learned; item_slots = m.well.item_slots };
       this = m.this;
       groups = m.groups;
       own = m.own;
       views = m.views;
+      table = m.table;
       learned = m.learned;
       present = m.present;
       active = m.active;
@@ -279,6 +285,7 @@ knows_host w c f x g d m u t e =
       groups = m.groups;
       own = m.own;
       views = λ h. put_view_at (λ ss. Models (variables_of h w.hosts) ss) g h (with_spot x (f s) (view_of g c.views)) c.views (m.views h) (λ i. rw i taught);
+      table = m.table;
       learned = m.learned;
       present = m.present;
       active = m.active;
@@ -309,6 +316,15 @@ item_step (spot b j) x y ss vars a k o f h = item_cond (bytes_eq y x) refl (sym 
   item_cond true e i = rw (← i, same_name y x e) o
   item_cond false e i = f a k i
 
+certain_ok : (o : Option Data) (s : Spot) → spot_ok o s ≡ true → spot_ok o (spot (is_certain s) (spot_kind s)) ≡ true
+certain_ok None nowhere h = refl
+certain_ok (Some d) nowhere h = untrue h
+certain_ok o (spot a k) h = h
+
+item_kept : (s : Spot) (x y : Name) (ss : Slots) (vars : Fields) (a : Bool) (k : KindData) → spot_ok (field_value x vars) s ≡ true
+    → ((b : Bool) (j : KindData) → slot_at y ss ≡ spot b j → spot_ok (field_value y vars) (spot b j) ≡ true) → slot_at y (with_slot x (is_certain s) (spot_kind s) ss) ≡ spot a k → spot_ok (field_value y vars) (spot a k) ≡ true
+item_kept s x y ss vars a k o f h = item_step (spot (is_certain s) (spot_kind s)) x y ss vars a k (certain_ok (field_value x vars) s o) f h
+
 pub knows_teach : (w : World) (c : Scope) (f : Spot → Spot) (r : Root) (d : Data) → Knows w c → WellsSpot f → Teaches d f → look w r ≡ there d → Knows w (teach c f r)
 knows_teach w c f (variable n) d m u t e =
     let s = slot_at n c.own in
@@ -319,6 +335,7 @@ knows_teach w c f (variable n) d m u t e =
       groups = m.groups;
       own = models_with n w.mine c.own (f s) m.own (rw x (t s (well_slot n c.own m.well.own.1) (rw x at (m.own.at n))));
       views = m.views;
+      table = m.table;
       learned = m.learned;
       present = m.present;
       active = m.active;
@@ -337,6 +354,7 @@ knows_teach w c f (alias n g) d m u t e =
       groups = m.groups;
       own = m.own;
       views = m.views;
+      table = m.table;
       learned = λ p q k y i j. learned_step (bytes_eq p n && same_expression q g) w n p g q (spot_kind (f s)) k (learned_kind p q c.learned) d y refl x kept (λ z. m.learned p q k y z j) i j;
       present = m.present;
       active = m.active;
@@ -357,13 +375,14 @@ knows_teach w c f (other item_host x) d m u t e =
       groups = m.groups;
       own = m.own;
       views = m.views;
+      table = m.table;
       learned = m.learned;
       present = m.present;
       active = m.active;
       item_slots = λ g i y a k h.
           let there_now : look_there w x (name_in (Some (text g))) ≡ there d = rw i at e in
           let has : field_value x (variables_of g w.hosts) ≡ Some d = found_there (field_value x (variables_of g w.hosts)) d there_now in
-          item_step (f s) x y c.item_slots (variables_of g w.hosts) a k (rw has taught) (λ b j z. m.item_slots g i y b j z) h;
+          item_kept (f s) x y c.item_slots (variables_of g w.hosts) a k (rw has taught) (λ b j z. m.item_slots g i y b j z) h;
       item_active = m.item_active;
       later = m.later;
     }
@@ -383,6 +402,7 @@ knows_present w c r ns d m t e h =
       groups = k.groups;
       own = k.own;
       views = k.views;
+      table = k.table;
       learned = k.learned;
       present = λ q ms i. ⊎_elim (λ x. one_there w q (resolved c r) ms ns x shown) (λ y. m.present q ms y) (or-cases (same_root q (resolved c r) && begins_with ms ns) (is_present_path q ms c.present) i);
       active = k.active;

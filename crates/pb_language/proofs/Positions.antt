@@ -6,7 +6,7 @@ use Rattle.pb_semantics.specs.Keeps.{is_among, spot_ok, Models}
 use Rattle.pb_semantics.proofs.Bools.{untrue, and-left, and-right, or-cases, true-false}
 use Rattle.pb_semantics.proofs.Names.{same_name}
 use Rattle.pb_language.specs.Expression.{Name}
-use Rattle.pb_language.specs.Scope.{is_certain, View, view_of, Since, no_since, since, every_name, Later, later_of, is_later}
+use Rattle.pb_language.specs.Scope.{is_certain, View, view_of, Since, no_since, since, every_name, Later, later_of, is_later, may_last}
 use Rattle.pb_language.specs.Task.{Task, Handlers, no_handlers, handler, Row, end, task, flush, block}
 use Rattle.pb_language.specs.Rest.{Rest, done, left, next, ask, rescue, hold, release, flush_rest, rest_of}
 use Rattle.pb_language.specs.Setting.{Setting}
@@ -53,8 +53,8 @@ since_there (since n r l) p q vars env e m h x i =
     rw (same_name x n (and-left (bytes_eq x n) (nat_le r p) y)) (certain_there (field_value n vars) (slot_at n env) (m.at n) c))
     (λ y. since_there l p q vars env e m (and-right here (has_since q l env) h) x y) (or-cases (bytes_eq x n && nat_le r p) (is_later l p x) i)
 since_there (every_name r l) p q vars env e m h x i =
-    ⊎_elim (λ y. untrue (not-true-here (nat_le r q) (and-left (not (nat_le r q)) (has_since q l env) h) (le_through r p q y e)))
-    (λ y. since_there l p q vars env e m (and-right (not (nat_le r q)) (has_since q l env) h) x y) (or-cases (nat_le r p) (is_later l p x) i)
+    ⊎_elim (λ y. untrue (not-true-here (nat_le r q) (and-left (not (nat_le r q)) (has_since q l env) h) (le_through r p q (and-left (nat_le r p) (may_last x) y) e)))
+    (λ y. since_there l p q vars env e m (and-right (not (nat_le r q)) (has_since q l env) h) x y) (or-cases (nat_le r p && may_last x) (is_later l p x) i)
 
 -- and so has the one at the play's end
 pub all_there : (l : Since) (p : ℕ) (vars : Fields) (env : Slots) → Models vars env → has_all l env ≡ true → (x : Name) → is_later l p x ≡ true → is_some (field_value x vars) ≡ true

@@ -23,13 +23,13 @@ use Rattle.pb_language.specs.Walk.{Visit, Walked, meet, visits_at, going_from, f
 use Rattle.pb_language.specs.Program.{Inventory, Play, Program, setting_of}
 use Rattle.pb_language.specs.Tables.{PlayWalk, first_laters, other_laters, plays_walked, hosts_walked, written_spot, with_writes, with_visits, with_plays, next_views, known_views, views_after}
 use Rattle.pb_language.specs.Theorem.{host_names, are_distinct}
-use Rattle.pb_language.specs.Wells.{WellSets, WellSpot}
+use Rattle.pb_language.specs.Wells.{WellSets, WellSpot, WellExit}
 use Rattle.pb_language.proofs.Claims.{AfterClaim}
 use Rattle.pb_language.proofs.WithSlot.{models_with, record_models}
 use Rattle.pb_language.proofs.WellKinds.{well_slot, well_known_slots}
 use Rattle.pb_language.proofs.Taught.{well_with_spot}
 use Rattle.pb_language.proofs.Values.{kept_known_value}
-use Rattle.pb_language.proofs.Ways.{WellEnv, WellExit, meet_well, AllVisits}
+use Rattle.pb_language.proofs.Ways.{WellEnv, meet_well, AllVisits}
 use Rattle.pb_language.proofs.Seen.{apart_names}
 
 -- each environment of a walk is well formed
@@ -54,18 +54,18 @@ module _ (after_claim : AfterClaim) where
     live_well true env w = w
     live_well false env w = tt
 
-    going_well : (t : Task) (e : Exit) → WellExit e → WellExit (going_from st t e)
+    pub going_well : (t : Task) (e : Exit) → WellExit e → WellExit (going_from st t e)
     going_well t dead w = tt
     going_well t (live env) w = live_well (has_going t t.loop) (going_slots st t env) (after_claim st wells t env w).0
 
-    failing_well : (t : Task) (e : Exit) → WellExit e → WellExit (failing_from st t e)
+    pub failing_well : (t : Task) (e : Exit) → WellExit e → WellExit (failing_from st t e)
     failing_well t dead w = tt
     failing_well t (live env) w = live_well (has_case (failing_cases t)) (failing_slots st t env) (after_claim st wells t env w).1
 
     abbrev pub WellWalk : Walked → Type 0
     WellWalk w = AllVisits WellVisit w.visits × WellExit w.well × WellExit w.hurt
 
-    flush_well : (hs : Handlers) (e : Exit) → WellExit e → WellWalk (flush_walk st hs e)
+    pub flush_well : (hs : Handlers) (e : Exit) → WellExit e → WellWalk (flush_walk st hs e)
     flush_well no_handlers e w = (tt, w, tt)
     flush_well (handler n t hs) e w =
         let k = flush_walk st hs (meet e (going_from st t e)) in
@@ -127,7 +127,7 @@ module _ (after_claim : AfterClaim) where
     plays_well (p ∷ ps) n e ls w =
         plays_step (is_among n p.hosts) n p (first_laters ls) e (λ x. plays_walked inventory views n x ps (other_laters ls)) (plays_walked inventory views n e ps (other_laters ls)) w (λ x v. plays_well ps n x (other_laters ls) v) (plays_well ps n e (other_laters ls) w)
 
-written_well : (s : Spot) (k : KindData) → WellSpot s → Well k → WellSpot (written_spot s k)
+pub written_well : (s : Spot) (k : KindData) → WellSpot s → Well k → WellSpot (written_spot s k)
 written_well nowhere k w v = v
 written_well (spot a j) k w v = joins_well j k w v
 

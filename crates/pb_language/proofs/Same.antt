@@ -8,7 +8,7 @@ use Rattle.pb_semantics.proofs.Names.{same_name, same_flag}
 use Rattle.pb_language.specs.Expression.{Name, Comparison, equal, less, at_most, more, at_least, Status, is_failed, is_changed, is_skipped, Term, named_host, this_host, item_host, group_member, Expression, literal, path, hostvars_alone, negation, conjunction, disjunction, comparison, membership, in_batch, defined, undefinable, path_status, value_status, path_or, value_or, length_of, joined_by, concatenation, list_of, record_of, Root, variable, alias, other, member, Expressions, no_expressions, expression, Parts, no_parts, part}
 use Rattle.pb_language.specs.Same.{same_names, same_comparison, same_status, same_term, same_option, same_expression, same_root, same_expressions, same_parts}
 
-same_number : (n m : ℕ) → nat_eq n m ≡ true → n ≡ m
+pub same_number : (n m : ℕ) → nat_eq n m ≡ true → n ≡ m
 same_number n m h = grind (arith, nat_tests)
 
 mutual

@@ -1,11 +1,11 @@
 -- What narrowing keeps of a scope, and two scopes of which one is so.
-use Rattle.std.proofs.Common.{◌≡◌, List, [], ◌∷◌, Bool, true, false, not, ◌&&◌, ◌||◌, cond, bytes_eq, Option, Some, None, ⊎_elim, refl, sym, ap, ◌∙◌}
+use Rattle.std.proofs.Common.{◌≡◌, List, [], ◌∷◌, Bool, true, false, not, ◌&&◌, ◌||◌, cond, bytes_eq, Option, Some, None, ⊎_elim, refl, sym, ap, subst, ◌∙◌}
 use Rattle.pb_semantics.specs.Kind.{KindData, Slots, Spot, recs, no_slots, slot, nowhere, spot, slot_at, is_listed}
 use Rattle.pb_semantics.specs.Keeps.{is_among}
 use Rattle.pb_semantics.specs.Join.{join, join_slots}
 use Rattle.pb_semantics.specs.Well.{Well, are_once}
-use Rattle.pb_semantics.proofs.Bools.{untrue, and-left, and-right, or-left, or-right, or-cases}
-use Rattle.pb_semantics.proofs.Names.{same_name}
+use Rattle.pb_semantics.proofs.Bools.{untrue, and-left, and-right, or-left, or-right, or-cases, true-false}
+use Rattle.pb_semantics.proofs.Names.{same_name, own_name}
 use Rattle.pb_semantics.proofs.JoinWell.{joins_well}
 use Rattle.pb_language.specs.Expression.{Name, Expression, negation, conjunction, disjunction, in_batch, defined, path_status, Root, variable, alias, other, member, Expressions, no_expressions, expression, Term, named_host, this_host, item_host, group_member}
 use Rattle.pb_language.specs.Same.{same_expression}
@@ -14,37 +14,55 @@ use Rattle.pb_language.specs.Scope.{Scope, View, Learned, nothing, taught, with_
 use Rattle.pb_language.specs.Narrow.{cases_with, answers, on_results, changed_spot, changed_at, there_spot, defined_at, teach_host, teach_member, teach, teach_present, active_member, teach_active, any_teaches, where_taught, narrow, narrow_each, narrow_some}
 use Rattle.pb_language.specs.Knows.{WellScope}
 use Rattle.pb_language.specs.Wells.{WellSpot}
+use Rattle.pb_language.specs.Ordered.{has_view}
 use Rattle.pb_language.proofs.Same.{equal_expression}
 use Rattle.pb_language.proofs.WithSlot.{at_with, well_with}
 use Rattle.pb_language.proofs.WellKinds.{well_slot}
 
 -- the views of hosts
-abbrev pub has_view : Name → List View → Bool
-has_view g [] = false
-has_view g (v ∷ vs) = bytes_eq g v.host || has_view g vs
+put_step : (p q r b : Bool) (g h : Name) (x : Name) (ss vs us u : Slots) → bytes_eq g x ≡ p → bytes_eq h x ≡ q → bytes_eq h g ≡ r → u ≡ cond (r && b) ss us
+    → cond p (cond q ss us) (cond q vs u) ≡ cond (r && (p || b)) ss (cond q vs us)
+put_step true true true b g h x ss vs us u e i j f = refl
+put_step true true false b g h x ss vs us u e i j f = true-false (bytes_eq h g) (rw (same_name h x i, same_name g x e) (own_name x)) j
+put_step true false true b g h x ss vs us u e i j f = true-false (bytes_eq h x) (rw (same_name h g j) e) i
+put_step true false false b g h x ss vs us u e i j f = refl
+put_step false true true b g h x ss vs us u e i j f = true-false (bytes_eq g x) (rw (← same_name h g j) i) e
+put_step false true false b g h x ss vs us u e i j f = refl
+put_step false false r b g h x ss vs us u e i j f = f
 
-put_view_step : (p q : Bool) (Q : Slots → Type 0) (g h : Name) (v : View) (ss : Slots) (vs us : List View) → bytes_eq g v.host ≡ p → bytes_eq h v.host ≡ q → Q (cond q v.slots (view_of h vs)) → (h ≡ g → Q ss)
-    → (Q (view_of h vs) → Q (view_of h us)) → Q (view_of h (cond p (record { host = v.host; slots = ss } ∷ vs) (v ∷ us)))
-put_view_step true true Q g h v ss vs us e i x f later = rw i (f (same_name h v.host i ∙ sym (same_name g v.host e)))
-put_view_step true false Q g h v ss vs us e i x f later = rw i x
-put_view_step false true Q g h v ss vs us e i x f later = rw i x
-put_view_step false false Q g h v ss vs us e i x f later = rw i (later x)
+view_cond : (p : Bool) (h : Name) (v : View) (ss : Slots) (vs us : List View) → view_of h (cond p (record { host = v.host; slots = ss } ∷ vs) (v ∷ us)) ≡ cond p (cond (bytes_eq h v.host) ss (view_of h vs)) (cond (bytes_eq h v.host) v.slots (view_of h us))
+view_cond true h v ss vs us = refl
+view_cond false h v ss vs us = refl
+
+never_view : (r : Bool) (ss : Slots) → no_slots ≡ cond (r && false) ss no_slots
+never_view true ss = refl
+never_view false ss = refl
+
+pub view_put : (g h : Name) (ss : Slots) (vs : List View) → view_of h (put_view g ss vs) ≡ cond (bytes_eq h g && has_view g vs) ss (view_of h vs)
+view_put g h ss [] = never_view (bytes_eq h g) ss
+view_put g h ss (v ∷ vs) =
+    view_cond (bytes_eq g v.host) h v ss vs (put_view g ss vs)
+    ∙ put_step (bytes_eq g v.host) (bytes_eq h v.host) (bytes_eq h g) (has_view g vs) g h v.host ss v.slots (view_of h vs) (view_of h (put_view g ss vs)) refl refl refl (view_put g h ss vs)
+
+either_slots : (q : Bool) (Q : Slots → Type 0) (ss ts : Slots) → (q ≡ true → Q ss) → Q ts → Q (cond q ss ts)
+either_slots true Q ss ts f x = f refl
+either_slots false Q ss ts f x = x
 
 -- what holds of a view holds of it where another is put
 pub put_view_at : (Q : Slots → Type 0) (g h : Name) (ss : Slots) (vs : List View) → Q (view_of h vs) → (h ≡ g → Q ss) → Q (view_of h (put_view g ss vs))
-put_view_at Q g h ss [] x f = x
-put_view_at Q g h ss (v ∷ vs) x f = put_view_step (bytes_eq g v.host) (bytes_eq h v.host) Q g h v ss vs (put_view g ss vs) refl refl x f (λ y. put_view_at Q g h ss vs y f)
+put_view_at Q g h ss vs x f =
+    subst Q (sym (view_put g h ss vs)) (either_slots (bytes_eq h g && has_view g vs) Q ss (view_of h vs) (λ e. f (same_name h g (and-left (bytes_eq h g) (has_view g vs) e))) x)
 
 has_put_step : (p : Bool) (g h : Name) (v : View) (ss : Slots) (vs us : List View) → has_view h us ≡ has_view h vs
     → has_view h (cond p (record { host = v.host; slots = ss } ∷ vs) (v ∷ us)) ≡ bytes_eq h v.host || has_view h vs
 has_put_step true g h v ss vs us e = refl
 has_put_step false g h v ss vs us e = ap (λ b. bytes_eq h v.host || b) e
 
-has_put : (g h : Name) (ss : Slots) (vs : List View) → has_view h (put_view g ss vs) ≡ has_view h vs
+pub has_put : (g h : Name) (ss : Slots) (vs : List View) → has_view h (put_view g ss vs) ≡ has_view h vs
 has_put g h ss [] = refl
 has_put g h ss (v ∷ vs) = has_put_step (bytes_eq g v.host) g h v ss vs (put_view g ss vs) (has_put g h ss vs)
 
-has_both : (h : Name) (vs ws : List View) → has_view h (both_views vs ws) ≡ has_view h vs
+pub has_both : (h : Name) (vs ws : List View) → has_view h (both_views vs ws) ≡ has_view h vs
 has_both h [] ws = refl
 has_both h (v ∷ vs) ws = ap (λ b. bytes_eq h v.host || b) (has_both h vs ws)
 
@@ -73,48 +91,49 @@ pub record SameGround (c d : Scope) : Type 0 where
   pub laters : c.laters ≡ d.laters
   pub place : c.place ≡ d.place
   pub views : (g : Name) → has_view g c.views ≡ has_view g d.views
+  pub table : c.table ≡ d.table
 
 pub own_ground : (c : Scope) → SameGround c c
-own_ground c = record { this = refl; groups = refl; laters = refl; place = refl; views = λ g. refl }
+own_ground c = record { this = refl; groups = refl; laters = refl; place = refl; views = λ g. refl; table = refl }
 
 pub turned_ground : (c d : Scope) → SameGround c d → SameGround d c
-turned_ground c d m = record { this = sym m.this; groups = sym m.groups; laters = sym m.laters; place = sym m.place; views = λ g. sym (m.views g) }
+turned_ground c d m = record { this = sym m.this; groups = sym m.groups; laters = sym m.laters; place = sym m.place; views = λ g. sym (m.views g); table = sym m.table }
 
 pub ground_through : (c d e : Scope) → SameGround c d → SameGround d e → SameGround c e
-ground_through c d e m n = record { this = m.this ∙ n.this; groups = m.groups ∙ n.groups; laters = m.laters ∙ n.laters; place = m.place ∙ n.place; views = λ g. m.views g ∙ n.views g }
+ground_through c d e m n = record { this = m.this ∙ n.this; groups = m.groups ∙ n.groups; laters = m.laters ∙ n.laters; place = m.place ∙ n.place; views = λ g. m.views g ∙ n.views g; table = m.table ∙ n.table }
 
 ground_both : (c d : Scope) → SameGround c (both_scopes c d)
-ground_both c d = record { this = refl; groups = refl; laters = refl; place = refl; views = λ g. sym (has_both g c.views d.views) }
+ground_both c d = record { this = refl; groups = refl; laters = refl; place = refl; views = λ g. sym (has_both g c.views d.views); table = refl }
 
 ground_host : (c : Scope) (f : Spot → Spot) (x g : Name) → SameGround c (teach_host c f x g)
-ground_host c f x g = record { this = refl; groups = refl; laters = refl; place = refl; views = λ h. sym (has_put g h (with_spot x (f (host_spot c false x g)) (view_of g c.views)) c.views) }
+ground_host c f x g = record { this = refl; groups = refl; laters = refl; place = refl; views = λ h. sym (has_put g h (with_spot x (f (host_spot c false x g)) (view_of g c.views)) c.views); table = refl }
 
 ground_member : (c : Scope) (f : Spot → Spot) (x : Name) (o : Option Name) → SameGround c (teach_member c f x o)
 ground_member c f x None = own_ground c
 ground_member c f x (Some g) = ground_host c f x g
 
 ground_teach : (c : Scope) (f : Spot → Spot) (r : Root) → SameGround c (teach c f r)
-ground_teach c f (variable n) = record { this = refl; groups = refl; laters = refl; place = refl; views = λ g. refl }
-ground_teach c f (alias n e) = record { this = refl; groups = refl; laters = refl; place = refl; views = λ g. refl }
+ground_teach c f (variable n) = record { this = refl; groups = refl; laters = refl; place = refl; views = λ g. refl; table = refl }
+ground_teach c f (alias n e) = record { this = refl; groups = refl; laters = refl; place = refl; views = λ g. refl; table = refl }
 ground_teach c f (other (named_host g) x) = ground_host c f x g
 ground_teach c f (other this_host x) = ground_host c f x c.this
-ground_teach c f (other item_host x) = record { this = refl; groups = refl; laters = refl; place = refl; views = λ g. refl }
+ground_teach c f (other item_host x) = record { this = refl; groups = refl; laters = refl; place = refl; views = λ g. refl; table = refl }
 ground_teach c f (other (group_member g n) x) = ground_member c f x (member_of g n c.groups)
 ground_teach c f (member g n) = own_ground c
 
 ground_present : (c : Scope) (r : Root) (ns : List Name) → SameGround c (teach_present c r ns)
 ground_present c r ns =
     let m = ground_teach c (there_spot (defined_at ns)) r in
-    record { this = m.this; groups = m.groups; laters = m.laters; place = m.place; views = m.views }
+    record { this = m.this; groups = m.groups; laters = m.laters; place = m.place; views = m.views; table = m.table }
 
 ground_active_member : (c : Scope) (o : Option Name) → SameGround c (active_member c o)
 ground_active_member c None = own_ground c
-ground_active_member c (Some g) = record { this = refl; groups = refl; laters = refl; place = refl; views = λ h. refl }
+ground_active_member c (Some g) = record { this = refl; groups = refl; laters = refl; place = refl; views = λ h. refl; table = refl }
 
 ground_active : (c : Scope) (t : Term) → SameGround c (teach_active c t)
-ground_active c (named_host n) = record { this = refl; groups = refl; laters = refl; place = refl; views = λ g. refl }
-ground_active c this_host = record { this = refl; groups = refl; laters = refl; place = refl; views = λ g. refl }
-ground_active c item_host = record { this = refl; groups = refl; laters = refl; place = refl; views = λ g. refl }
+ground_active c (named_host n) = record { this = refl; groups = refl; laters = refl; place = refl; views = λ g. refl; table = refl }
+ground_active c this_host = record { this = refl; groups = refl; laters = refl; place = refl; views = λ g. refl; table = refl }
+ground_active c item_host = record { this = refl; groups = refl; laters = refl; place = refl; views = λ g. refl; table = refl }
 ground_active c (group_member g n) = ground_active_member c (member_of g n c.groups)
 
 -- of two scopes of which one is taken
@@ -145,31 +164,44 @@ mutual
       ground_through c (narrow c e b) (both_scopes (narrow c e b) (narrow_some (narrow c e (not b)) (expression f es) b)) (ground_narrow e c b) (ground_both (narrow c e b) (narrow_some (narrow c e (not b)) (expression f es) b))
 
 -- what both teach
+abbrev pub both_kind : Option KindData → Option KindData → Option KindData
+both_kind None p = None
+both_kind (Some i) None = None
+both_kind (Some i) (Some j) = Some (join i j)
+
+none_of : (o : Option KindData) → both_kind o None ≡ None
+none_of None = refl
+none_of (Some i) = refl
+
+learned_step : (q : Bool) (n m : Name) (e f : Expression) (i : KindData) (o p : Option KindData) (u t : Learned) → bytes_eq n m && same_expression e f ≡ q → p ≡ learned_kind m f t
+    → learned_kind n e u ≡ both_kind o (learned_kind n e t) → learned_kind n e (with_both_kinds m f i p u) ≡ both_kind (cond q (Some i) o) (learned_kind n e t)
+learned_step true n m e f i o None u t h y later =
+    let a : n ≡ m = same_name n m (and-left (bytes_eq n m) (same_expression e f) h) in
+    let b : e ≡ f = equal_expression e f (and-right (bytes_eq n m) (same_expression e f) h) in
+    let z : learned_kind n e t ≡ None = rw (a, b) (sym y) in
+    later ∙ ap (both_kind o) z ∙ none_of o ∙ sym (ap (both_kind (Some i)) z)
+learned_step false n m e f i o None u t h y later = later
+learned_step true n m e f i o (Some j) u t h y later =
+    let a : n ≡ m = same_name n m (and-left (bytes_eq n m) (same_expression e f) h) in
+    let b : e ≡ f = equal_expression e f (and-right (bytes_eq n m) (same_expression e f) h) in
+    let z : learned_kind n e t ≡ Some j = rw (a, b) (sym y) in
+    ap (λ q. cond q (Some (join i j)) (learned_kind n e u)) h ∙ sym (ap (both_kind (Some i)) z)
+learned_step false n m e f i o (Some j) u t h y later = ap (λ q. cond q (Some (join i j)) (learned_kind n e u)) h ∙ later
+
+pub learned_both : (n : Name) (e : Expression) (l t : Learned) → learned_kind n e (both_learned l t) ≡ both_kind (learned_kind n e l) (learned_kind n e t)
+learned_both n e nothing t = refl
+learned_both n e (taught m f i l) t = learned_step (bytes_eq n m && same_expression e f) n m e f i (learned_kind n e l) (learned_kind m f t) (both_learned l t) t refl refl (learned_both n e l t)
+
 abbrev pub BothLearned : Name → Expression → Option KindData → Option KindData → KindData → Type 0
 BothLearned n e o p k = (i : KindData) × (j : KindData) × (o ≡ Some i) × (p ≡ Some j) × (k ≡ join i j)
 
-with_both_step : (q : Bool) (n m : Name) (e f : Expression) (i k : KindData) (o p : Option KindData) (u : Learned) (t : Learned) → bytes_eq n m && same_expression e f ≡ q → p ≡ learned_kind m f t
-    → (learned_kind n e u ≡ Some k → BothLearned n e o (learned_kind n e t) k) → learned_kind n e (with_both_kinds m f i p u) ≡ Some k → BothLearned n e (cond q (Some i) o) (learned_kind n e t) k
-with_both_step true n m e f i k o None u t h y later x =
-    let a : n ≡ m = same_name n m (and-left (bytes_eq n m) (same_expression e f) h) in
-    let b : e ≡ f = equal_expression e f (and-right (bytes_eq n m) (same_expression e f) h) in
-    let found = later x in
-    let z : learned_kind n e t ≡ None = rw (a, b) (sym y) in
-    let v : None ≡ Some found.1 = sym z ∙ found.3 in
-    absurd (cc)
-with_both_step false n m e f i k o None u t h y later x = later x
-with_both_step true n m e f i k o (Some j) u t h y later x =
-    let a : n ≡ m = same_name n m (and-left (bytes_eq n m) (same_expression e f) h) in
-    let b : e ≡ f = equal_expression e f (and-right (bytes_eq n m) (same_expression e f) h) in
-    let z : Some (join i j) ≡ Some k = rw h at x in
-    let v : join i j ≡ k = cc in
-    (i, j, refl, rw (a, b) (sym y), sym v)
-with_both_step false n m e f i k o (Some j) u t h y later x = later (rw h at x)
+both_known : (n : Name) (e : Expression) (o p : Option KindData) (k : KindData) → both_kind o p ≡ Some k → BothLearned n e o p k
+both_known n e None p k x = let z : None ≡ Some k = x in absurd (cc)
+both_known n e (Some i) None k x = let z : None ≡ Some k = x in absurd (cc)
+both_known n e (Some i) (Some j) k x = let z : join i j ≡ k = cc in (i, j, refl, refl, sym z)
 
 pub both_learned_at : (n : Name) (e : Expression) (l t : Learned) (k : KindData) → learned_kind n e (both_learned l t) ≡ Some k → BothLearned n e (learned_kind n e l) (learned_kind n e t) k
-both_learned_at n e nothing t k x = let z : None ≡ Some k = x in absurd (cc)
-both_learned_at n e (taught m f i l) t k x =
-    with_both_step (bytes_eq n m && same_expression e f) n m e f i k (learned_kind n e l) (learned_kind m f t) (both_learned l t) t refl refl (λ y. both_learned_at n e l t k y) x
+both_learned_at n e l t k x = both_known n e (learned_kind n e l) (learned_kind n e t) k (sym (learned_both n e l t) ∙ x)
 
 abbrev pub both_spot : Spot → Spot → Spot
 both_spot nowhere t = nowhere
@@ -223,6 +255,7 @@ well_both c d w v =
     record {
       own = joins_well (recs c.own) (recs d.own) w.own v.own;
       views = λ g. both_view_at (λ ss. Well (recs ss)) g c.views d.views (λ h. joins_well (recs (view_of g c.views)) (recs (view_of g d.views)) (w.views g) (v.views g)) (λ h. (refl, tt));
+      table = w.table;
       learned = λ n e k i.
           let both = both_learned_at n e c.learned d.learned k i in
           rw both.4 (joins_well both.0 both.1 (w.learned n e both.0 both.2) (v.learned n e both.1 both.3));

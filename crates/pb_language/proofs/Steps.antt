@@ -14,8 +14,9 @@ use Rattle.pb_language.specs.Tables.{first_laters, other_laters, plays_walked, p
 use Rattle.pb_language.specs.Theorem.{host_names}
 use Rattle.pb_language.specs.Give.{Answer}
 use Rattle.pb_language.specs.Machine.{Event, start, give, turn, stop, over, gone, begins, Stage, waits, runs, Host, State, still_active, host_at, is_out, can_start, is_idle, all_idle, of_host, is_possible, enabled, on_start, on_give, any_names, with_batches, on_host, happened, step, run_from}
+use Rattle.pb_language.specs.Wells.{WellExit}
 use Rattle.pb_language.proofs.Claims.{StartClaim, GiveClaim, AfterClaim}
-use Rattle.pb_language.proofs.Ways.{WellExit, walk_well}
+use Rattle.pb_language.proofs.Ways.{walk_well}
 use Rattle.pb_language.proofs.Seen.{at_among, total}
 use Rattle.pb_language.proofs.Positions.{ExitModels, in_any, walked, after_play, future, whole, StageFine, owes}
 use Rattle.pb_language.proofs.Runs.{Fixed, Kept, BatchFine, HostsFine, start_fine, give_fine}

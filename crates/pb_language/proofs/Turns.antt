@@ -15,8 +15,9 @@ use Rattle.pb_language.specs.Tables.{first_laters, other_laters, place_length}
 use Rattle.pb_language.specs.Verdict.{exit_has}
 use Rattle.pb_language.specs.Theorem.{host_names}
 use Rattle.pb_language.specs.Machine.{over, gone, begins, Stage, waits, runs, Host, State, settled, is_on, is_on_stage, host_at, begun, all_begun}
+use Rattle.pb_language.specs.Wells.{WellExit}
 use Rattle.pb_language.proofs.Claims.{StartClaim, GiveClaim, AfterClaim}
-use Rattle.pb_language.proofs.Ways.{above_itself, WellExit, WellAfter, VisitFine, AllVisits, typed_row}
+use Rattle.pb_language.proofs.Ways.{above_itself, WellAfter, VisitFine, AllVisits, typed_row}
 use Rattle.pb_language.proofs.Seen.{names_of, total}
 use Rattle.pb_language.proofs.Positions.{ExitModels, in_any, walked, bound, later, after_play, future, whole, EndsAt, TypedAt, Over, StageFine, owes, settled_fine, settled_owes, most_row}
 use Rattle.pb_language.proofs.Runs.{settled_name, settled_variables, Fixed, Kept, HostsFine}

@@ -3,21 +3,21 @@ use Rattle.std.proofs.Common.{◌≡◌, ℕ, ℤ, suc, List, [], ◌∷◌, ◌
 use Rattle.std.proofs.lemmas.Bool.Decides.{nat_tests}
 use Rattle.pb_semantics.specs.Data.{Data, Items, Fields, null, boolean, int, text, list, rec, opaque, no_items, item, no_fields, field, field_value, count_of}
 use Rattle.pb_semantics.specs.Kind.{KindData, Slots, Spot, booleans, ints, texts, hosts, lists, recs, anything, nowhere, spot, slot_at}
-use Rattle.pb_semantics.specs.Keeps.{is_among, all_items, keeps, spot_ok}
+use Rattle.pb_semantics.specs.Keeps.{flag_is, is_among, all_items, keeps, spot_ok}
 use Rattle.pb_semantics.specs.Equal.{data_eq, is_item}
 use Rattle.pb_semantics.specs.Join.{join, join_spot}
 use Rattle.pb_semantics.specs.Render.{is_plain, rendered}
 use Rattle.pb_semantics.specs.Well.{Well}
 use Rattle.pb_semantics.proofs.Bools.{untrue, and-left, and-right, and-both, or-left, or-cases}
 use Rattle.pb_semantics.proofs.Names.{same_name, own_name}
-use Rattle.pb_language.specs.Expression.{Name, Comparison, equal, less, at_most, more, at_least, Status, is_failed, is_changed, is_skipped, Term, named_host, this_host, item_host, group_member, Expression, literal, path, hostvars_alone, negation, conjunction, disjunction, comparison, membership, in_batch, defined, undefinable, path_status, value_status, path_or, value_or, length_of, joined_by, concatenation, list_of, record_of, Root, variable, alias, other, member, Expressions, no_expressions, expression, Parts, no_parts, part}
+use Rattle.pb_language.specs.Expression.{Name, Comparison, equal, less, at_most, more, at_least, Status, Term, named_host, this_host, item_host, group_member, Expression, literal, path, hostvars_alone, negation, conjunction, disjunction, comparison, membership, in_batch, defined, undefinable, path_status, value_status, path_or, value_or, length_of, joined_by, concatenation, list_of, record_of, Root, variable, alias, other, member, Expressions, no_expressions, expression, Parts, no_parts, part}
 use Rattle.pb_language.specs.World.{World, variables_of, member_of}
-use Rattle.pb_language.specs.Evaluation.{Stuck, undefined, wrong_sort, Outcome, value, stuck, Look, there, absent, failing, host_named, then_go, or_stuck, found, readable, name_in, member_named, member_text, host_of, look_there, read, is_there, only_boolean, negated, and_then, or_then, holds_opaque, any_item_opaque, ordered, compared, found_in, is_text_among, member_among, is_active, flag_of, status_of, counted, plain_text, with_text, joined_items, joined, put_item, put_part, given, eval, look, eval_all, eval_any, eval_text, eval_items, eval_parts}
-use Rattle.pb_language.specs.Scope.{Scope, with_slot, named_term, resolved, is_present, is_certain, below_spot, sure, view_of, later_of, is_later, learned_kind, hosts_at, hosts_of, only, host_spot, each_spot, spot_among, taught_spot, other_spot}
+use Rattle.pb_language.specs.Evaluation.{Stuck, undefined, wrong_sort, Outcome, value, stuck, Look, there, absent, failing, host_named, then_go, or_stuck, found, readable, name_in, member_named, member_text, host_of, look_there, read, is_there, only_boolean, negated, and_then, or_then, holds_opaque, any_item_opaque, ordered, compared, found_in, is_text_among, member_among, is_active, has_statuses, status_name, status_of, counted, plain_text, with_text, joined_items, joined, put_item, put_part, given, eval, look, eval_all, eval_any, eval_text, eval_items, eval_parts}
+use Rattle.pb_language.specs.Scope.{Scope, with_slot, named_term, resolved, is_present, is_certain, below_spot, unnamed, sure, view_of, later_of, is_later, learned_kind, hosts_at, hosts_of, only, host_spot, each_spot, spot_among, taught_spot, other_spot}
 use Rattle.pb_language.specs.Kinds.{known_kind, known_items, known_slots, member_spot, kind_of, root_spot, items_kind, parts_slots, count}
 use Rattle.pb_language.specs.Knows.{WellScope, Knows, ValueKeepsKind}
 use Rattle.pb_language.proofs.WithSlot.{kept_written}
-use Rattle.pb_language.proofs.WellKinds.{well_path, well_known, well_known_items, well_known_slots, well_host, well_each_host, well_kind, well_root, well_items, well_parts}
+use Rattle.pb_language.proofs.WellKinds.{well_unnamed, well_path, well_known, well_known_items, well_known_slots, well_host, well_each_host, well_kind, well_root, well_items, well_parts}
 use Rattle.pb_language.proofs.Paths.{not-second, keeps_first, keeps_second, meets_first, meets_second, look_ok, found_ok, kept_if, kept_read, kept_shown}
 
 -- an item more
@@ -114,15 +114,31 @@ missing_below nowhere (spot b k) h = refl
 missing_below (spot true j) (spot b k) h = untrue h
 missing_below (spot false j) (spot b k) h = refl
 
+knows_unnamed : (w : World) (c : Scope) → Knows w c → Knows w (unnamed c)
+knows_unnamed w c m = record {
+  well = well_unnamed c m.well;
+  this = m.this;
+  groups = m.groups;
+  own = m.own;
+  views = m.table;
+  table = m.table;
+  learned = m.learned;
+  present = m.present;
+  active = λ g h. untrue h;
+  item_slots = m.item_slots;
+  item_active = m.item_active;
+  later = m.later;
+}
+
 item_ok : (w : World) (c : Scope) (x : Name) (o : Option Data) → Knows w c → field_value (codes "item") w.mine ≡ o → look_ok (look_there w x (name_in o)) (other_spot c item_host x) ≡ true
 item_ok w c x None m e =
     let s = slot_at (codes "item") c.own in
-    missing_below s (taught_spot (slot_at x c.item_slots) (spot_among c c.item_active x (hosts_of c item_host))) (rw e at (m.own.at (codes "item")))
+    missing_below s (taught_spot (slot_at x c.item_slots) (spot_among (unnamed c) c.item_active x (hosts_of c item_host))) (rw e at (m.own.at (codes "item")))
 item_ok w c x (Some (text g)) m e =
     let there = field_value x (variables_of g w.hosts) in
-    let among = among_ok c c.item_active x g (slot_at (codes "item") c.own) there m.well (rw e at (m.own.at (codes "item"))) (host_ok w c c.item_active x g m (λ y. m.item_active y g e)) in
-    let taught = taught_ok there (slot_at x c.item_slots) (spot_among c c.item_active x (hosts_of c item_host)) (λ a k i. m.item_slots g e x a k i) among in
-    found_ok there (other_spot c item_host x) (below_ok there (is_certain (slot_at (codes "item") c.own)) (taught_spot (slot_at x c.item_slots) (spot_among c c.item_active x (hosts_of c item_host))) taught)
+    let among = among_ok (unnamed c) c.item_active x g (slot_at (codes "item") c.own) there (well_unnamed c m.well) (rw e at (m.own.at (codes "item"))) (host_ok w (unnamed c) c.item_active x g (knows_unnamed w c m) (λ y. m.item_active y g e)) in
+    let taught = taught_ok there (slot_at x c.item_slots) (spot_among (unnamed c) c.item_active x (hosts_of c item_host)) (λ a k i. m.item_slots g e x a k i) among in
+    found_ok there (other_spot c item_host x) (below_ok there (is_certain (slot_at (codes "item") c.own)) (taught_spot (slot_at x c.item_slots) (spot_among (unnamed c) c.item_active x (hosts_of c item_host))) taught)
 item_ok w c x (Some d) m e = refl
 
 pub other_ok : (w : World) (c : Scope) (t : Term) (x : Name) → Knows w c → look_ok (look_there w x (host_of w t)) (other_spot c t x) ≡ true
@@ -208,14 +224,12 @@ there_kept ns (there d) = refl
 there_kept ns absent = refl
 there_kept ns (failing y) = refl
 
-flag_kept : (o : Option Data) → kept_if (flag_of o) booleans ≡ true
-flag_kept (Some (boolean b)) = refl
-flag_kept o = refl
+asked_kept : (q b : Bool) → kept_if (cond q (value (boolean b)) (stuck wrong_sort)) booleans ≡ true
+asked_kept true b = refl
+asked_kept false b = refl
 
 status_kept : (s : Status) (d : Data) → kept_if (status_of s d) booleans ≡ true
-status_kept is_failed (rec fs) = flag_kept (field_value (codes "failed") fs)
-status_kept is_changed (rec fs) = flag_kept (field_value (codes "changed") fs)
-status_kept is_skipped (rec fs) = refl
+status_kept s (rec fs) = asked_kept (has_statuses fs) (flag_is true (field_value (status_name s) fs))
 status_kept s d = refl
 
 counted_kept : (d : Data) → kept_if (counted d) ints ≡ true

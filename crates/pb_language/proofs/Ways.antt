@@ -15,6 +15,7 @@ use Rattle.pb_language.specs.Setting.{Setting}
 use Rattle.pb_language.specs.Judgement.{Exit, dead, live, task_fault, live_if, has_going, has_case, going_slots, failing_slots, going_exit, failing_exit, task_writes, loop_length}
 use Rattle.pb_language.specs.Walk.{Visit, meet, visits_at, going_from, failing_from, flush_walk, walk}
 use Rattle.pb_language.specs.Tables.{writes_below, has_since, has_all}
+use Rattle.pb_language.specs.Wells.{WellExit}
 
 -- each world that models the first models the second
 pub record Above (low high : Slots) : Type 0 where
@@ -28,10 +29,6 @@ above_through a b c u v = record { up = λ vars m. v.up vars (u.up vars m) }
 
 abbrev pub WellEnv : Slots → Type 0
 WellEnv env = Well (recs env)
-
-abbrev pub WellExit : Exit → Type 0
-WellExit dead = Unit {0}
-WellExit (live env) = WellEnv env
 
 pub meet_well : (e f : Exit) → WellExit e → WellExit f → WellExit (meet e f)
 meet_well dead f w v = v

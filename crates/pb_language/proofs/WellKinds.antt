@@ -13,7 +13,7 @@ use Rattle.pb_semantics.proofs.JoinLeast.{joins_least}
 use Rattle.pb_semantics.proofs.JoinWell.{joins_well}
 use Rattle.pb_language.specs.Expression.{Name, Expression, literal, path, path_or, value_or, list_of, record_of, Root, variable, alias, other, member, Expressions, no_expressions, expression, Parts, no_parts, part, Term, named_host, this_host, item_host, group_member}
 use Rattle.pb_language.specs.World.{member_of}
-use Rattle.pb_language.specs.Scope.{Scope, Hosts, these, any_host, no_hosts, nobody, is_present, is_certain, below_spot, sure, view_of, later_of, is_later, learned_kind, hosts_of, host_spot, each_spot, spot_among, taught_spot, other_spot}
+use Rattle.pb_language.specs.Scope.{Scope, Hosts, these, any_host, no_hosts, nobody, is_present, is_certain, below_spot, unnamed, sure, view_of, later_of, is_later, learned_kind, hosts_of, host_spot, each_spot, spot_among, taught_spot, other_spot}
 use Rattle.pb_language.specs.Kinds.{known_kind, known_items, known_slots, step_spot, path_spot, member_spot, shown_spot, default_kind, kind_of, root_spot, items_kind, parts_slots}
 use Rattle.pb_language.specs.Narrow.{least_record, results_of}
 use Rattle.pb_language.specs.Knows.{WellScope}
@@ -100,7 +100,7 @@ mutual
   well_known_slots no_fields = (refl, tt)
   well_known_slots (field n d fs) = well_with n true (known_kind d) (known_slots fs) (well_known d) (well_known_slots fs)
 
-well_member : (o : Option Name) → WellSpot (member_spot o)
+pub well_member : (o : Option Name) → WellSpot (member_spot o)
 well_member None = tt
 well_member (Some h) = tt
 
@@ -138,13 +138,16 @@ well_taught : (s t : Spot) → WellSpot s → WellSpot t → WellSpot (taught_sp
 well_taught nowhere t w v = v
 well_taught (spot a k) t w v = w
 
+pub well_unnamed : (c : Scope) → WellScope c → WellScope (unnamed c)
+well_unnamed c w = record { own = w.own; views = w.table; table = w.table; learned = w.learned; item_slots = w.item_slots }
+
 pub well_other : (c : Scope) (t : Term) (x : Name) → WellScope c → WellSpot (other_spot c t x)
 well_other c (named_host n) x w = well_among c false x (hosts_of c (named_host n)) w
 well_other c this_host x w = well_among c false x (hosts_of c this_host) w
 well_other c item_host x w =
     let s = slot_at x c.item_slots in
-    let t = spot_among c c.item_active x (hosts_of c item_host) in
-    well_below (is_certain (slot_at (codes "item") c.own)) (taught_spot s t) (well_taught s t (well_slot x c.item_slots w.item_slots.1) (well_among c c.item_active x (hosts_of c item_host) w))
+    let t = spot_among (unnamed c) c.item_active x (hosts_of c item_host) in
+    well_below (is_certain (slot_at (codes "item") c.own)) (taught_spot s t) (well_taught s t (well_slot x c.item_slots w.item_slots.1) (well_among (unnamed c) c.item_active x (hosts_of c item_host) (well_unnamed c w)))
 well_other c (group_member g n) x w = well_among c false x (hosts_of c (group_member g n)) w
 
 well_alias : (o : Option KindData) (m : KindData) → ((k : KindData) → o ≡ Some k → Well k) → Well m → Well (unwrap_or o m)

@@ -112,10 +112,10 @@ abbrev pub failing_cases : Task → Cases
 failing_cases t = cond t.ignores no_cases (cases_with (λ sh fl k. fl) (all_results t))
 
 -- what a task with a `loop` registers
-abbrev pub looped_kind : Task → ℕ → KindData
-looped_kind t n = recs (slot (codes "changed") true booleans
+abbrev pub looped_kind : KindData → KindData
+looped_kind k = recs (slot (codes "changed") true booleans
     (slot (codes "failed") true booleans
-    (slot (codes "results") true (lists (results_of (all_results t)) n)
+    (slot (codes "results") true k
     (slot (codes "skipped") true booleans no_slots))))
 
 -- the kind of the items, and the greatest number of them
@@ -128,10 +128,15 @@ abbrev pub length_bound : KindData → ℕ
 length_bound (lists k n) = n
 length_bound k = 0
 
+-- the kind of the list of results, given that of one and of the loop
+abbrev pub listed_kind : KindData → KindData → KindData
+listed_kind r anything = anything
+listed_kind r k = lists r (length_bound k)
+
 -- the kind of the result, given the kind of the loop
 abbrev pub registered_kind : Task → Option KindData → Cases → KindData
 registered_kind t None cs = results_of cs
-registered_kind t (Some l) cs = looped_kind t (length_bound l)
+registered_kind t (Some l) cs = looped_kind (listed_kind (results_of (all_results t)) l)
 
 -- names that are set, for certain or not, each with a kind
 pub data Sets : Type 0 where

@@ -190,15 +190,29 @@ is_active w item_host =
     or_stuck undefined (λ d. is_text_among d w.batch) (field_value (codes "item") w.mine)
 is_active w (group_member g n) = member_among (member_of g n w.groups) w.batch
 
-abbrev pub flag_of : Option Data → Outcome
-flag_of (Some (boolean b)) = value (boolean b)
-flag_of o = stuck wrong_sort
+abbrev pub is_truth : Option Data → Bool
+is_truth (Some (boolean b)) = true
+is_truth o = false
 
--- `skipped` counts where it is there and true
+abbrev pub may_be_truth : Option Data → Bool
+may_be_truth None = true
+may_be_truth o = is_truth o
+
+-- a result has `changed` and `failed`, and perhaps `skipped`, each a truth value
+abbrev pub has_statuses : Fields → Bool
+has_statuses fs = is_truth (field_value (codes "changed") fs)
+    && (is_truth (field_value (codes "failed") fs)
+    && may_be_truth (field_value (codes "skipped") fs))
+
+abbrev pub status_name : Status → Name
+status_name is_failed = codes "failed"
+status_name is_changed = codes "changed"
+status_name is_skipped = codes "skipped"
+
+-- the field of that name is there and true
 abbrev pub status_of : Status → Data → Outcome
-status_of is_failed (rec fs) = flag_of (field_value (codes "failed") fs)
-status_of is_changed (rec fs) = flag_of (field_value (codes "changed") fs)
-status_of is_skipped (rec fs) = value (boolean (flag_is true (field_value (codes "skipped") fs)))
+status_of s (rec fs) = cond (has_statuses fs)
+    (value (boolean (flag_is true (field_value (status_name s) fs)))) (stuck wrong_sort)
 status_of s d = stuck wrong_sort
 
 abbrev pub field_count : Fields → ℕ

@@ -17,6 +17,7 @@ use Rattle.pb_language.specs.Fit.{fault}
 pub record WellScope (c : Scope) : Type 0 where
   pub own : Well (recs c.own)
   pub views : (g : Name) → Well (recs (view_of g c.views))
+  pub table : (g : Name) → Well (recs (view_of g c.table))
   pub learned : (n : Name) (e : Expression) (k : KindData) → learned_kind n e c.learned ≡ Some k
       → Well k
   pub item_slots : Well (recs c.item_slots)
@@ -28,6 +29,7 @@ pub record Knows (w : World) (c : Scope) : Type 0 where
   -- the host's own names, and the variables of each host, are those that are known
   pub own : Models w.mine c.own
   pub views : (g : Name) → Models (variables_of g w.hosts) (view_of g c.views)
+  pub table : (g : Name) → Models (variables_of g w.hosts) (view_of g c.table)
   -- what tests taught is so
   pub learned : (n : Name) (e : Expression) (k : KindData) (d : Data)
       → learned_kind n e c.learned ≡ Some k → eval w e ≡ value d → keeps d k ≡ true

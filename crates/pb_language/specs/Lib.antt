@@ -32,8 +32,17 @@ pub mod Builtins
 pub mod Theorem
 pub mod Simple
 pub mod Wells
+pub mod Ordered
+pub mod SameBelow
+pub mod Nodes
+pub mod Links
 pub mod plain
 pub mod Tokens
 pub mod Grammar
 pub mod Derivations
+pub mod Evaluates
+pub mod StartRules
+pub mod GiveRules
+pub mod OwnReads
+pub mod FlushOrder
 pub mod Words

@@ -12,8 +12,8 @@ use Rattle.pb_language.specs.Expression.{negation, conjunction, disjunction, in_
 use Rattle.pb_language.specs.Expression.{path_status, Root, variable, alias, other, member}
 use Rattle.pb_language.specs.Expression.{Expressions, no_expressions, expression}
 use Rattle.pb_language.specs.World.{member_of}
-use Rattle.pb_language.specs.Scope.{Scope, resolved, spot_kind, with_spot, taught, view_of}
-use Rattle.pb_language.specs.Scope.{put_view, host_spot, other_spot, both_scopes}
+use Rattle.pb_language.specs.Scope.{Scope, resolved, spot_kind, is_certain, with_slot, with_spot}
+use Rattle.pb_language.specs.Scope.{taught, view_of, put_view, host_spot, other_spot, both_scopes}
 use Rattle.pb_language.specs.Kinds.{root_spot}
 
 -- the least record above the cases
@@ -50,11 +50,21 @@ abbrev pub changed_spot : (KindData → KindData) → Spot → Spot
 changed_spot f nowhere = nowhere
 changed_spot f (spot a k) = spot a (f k)
 
--- the kind with that change at the end of a path through records
+-- a record with that change of a field
+abbrev pub with_change : Name → (KindData → KindData) → KindData → KindData
+with_change n f (recs ss) = recs (with_spot n (changed_spot f (slot_at n ss)) ss)
+with_change n f k = k
+
+abbrev pub cases_changed : (KindData → KindData) → Cases → Cases
+cases_changed f no_cases = no_cases
+cases_changed f (one m sh fl k cs) = one m sh fl (f k) (cases_changed f cs)
+
+-- the kind with that change at the end of a path through records and results
 abbrev pub changed_at : List Name → (KindData → KindData) → KindData → KindData
 changed_at [] f k = f k
-changed_at (n ∷ ns) f (recs ss) =
-    recs (with_spot n (changed_spot (changed_at ns f) (slot_at n ss)) ss)
+changed_at (n ∷ ns) f (recs ss) = with_change n (changed_at ns f) (recs ss)
+changed_at (n ∷ ns) f (results cs r) =
+    results_of (cases_changed (with_change n (changed_at ns f)) cs)
 changed_at (n ∷ ns) f k = k
 
 -- whether a value of the kind may have the steps
@@ -65,8 +75,7 @@ may_step f (spot a k) = f k
 abbrev pub can_have : List Name → KindData → Bool
 can_have [] k = true
 can_have (n ∷ ns) (recs ss) = may_step (can_have ns) (slot_at n ss)
-can_have (n ∷ ns) never = true
-can_have (n ∷ ns) (results cs r) = true
+can_have (n ∷ ns) (results cs (recs ss)) = may_step (can_have ns) (slot_at n ss)
 can_have (n ∷ ns) anything = true
 can_have (n ∷ ns) k = false
 
@@ -109,8 +118,11 @@ teach c f (alias n e) =
     record c { learned = taught n e (spot_kind (f (root_spot c (alias n e)))) c.learned }
 teach c f (other (named_host g) x) = teach_host c f x g
 teach c f (other this_host x) = teach_host c f x c.this
-teach c f (other item_host x) =
-    record c { item_slots = with_spot x (f (other_spot c item_host x)) c.item_slots }
+teach c f (other item_host x) = record c {
+  item_slots = with_slot x
+      (is_certain (f (other_spot c item_host x))) (spot_kind (f (other_spot c item_host x)))
+      c.item_slots;
+}
 teach c f (other (group_member g n) x) = teach_member c f x (member_of g n c.groups)
 teach c f (member g n) = c
 

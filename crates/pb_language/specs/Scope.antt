@@ -1,7 +1,7 @@
 -- What is known at a Start: of the host's own variables, of those of each host, and what tests have
 -- taught (this project's own).
 use Rattle.std.specs.Prelude.{ℕ, List, [], ◌∷◌, Bool, true, false, ◌&&◌, ◌||◌, cond, nat_le, Option}
-use Rattle.std.specs.Prelude.{Some, None, codes}
+use Rattle.std.specs.Prelude.{Some, None, codes, not}
 use Rattle.std.specs.Str.{bytes_eq}
 use Rattle.pb_semantics.specs.Kind.{KindData, Slots, Spot, never, texts, hosts, anything, no_slots}
 use Rattle.pb_semantics.specs.Kind.{slot, nowhere, spot, slot_at, put_slot}
@@ -39,16 +39,20 @@ sure nowhere = spot true never
 sure (spot a k) = spot true k
 
 -- names that a host certainly has, each at its places from one on, and the place from which on it
--- has every name
+-- has every name that may last
 pub data Since : Type 0 where
   no_since : Since
   since : Name → ℕ → Since → Since
   every_name : ℕ → Since → Since
 
+-- a failure's text may be gone again at the next place
+abbrev pub may_last : Name → Bool
+may_last x = not (bytes_eq x (codes "ansible_failed_result"))
+
 abbrev pub is_later : Since → ℕ → Name → Bool
 is_later no_since p x = false
 is_later (since n q l) p x = (bytes_eq x n && nat_le q p) || is_later l p x
-is_later (every_name q l) p x = nat_le q p || is_later l p x
+is_later (every_name q l) p x = (nat_le q p && may_last x) || is_later l p x
 
 -- what is known of each host's variables
 pub record View : Type 0 where
@@ -105,6 +109,8 @@ pub record Scope : Type 0 where
   -- the paths that were tested to be there
   pub present : List Present
   pub views : List View
+  -- the same before any test, which is what is known of the host that the item names
+  pub table : List View
   -- the hosts that are known to be active in the batch
   pub active : List Name
   -- what tests taught of the variables of the host that the item names, and that it is active
@@ -189,12 +195,18 @@ abbrev pub below_spot : Bool → Spot → Spot
 below_spot a nowhere = nowhere
 below_spot a (spot b k) = spot (a && b) k
 
--- a variable of the item's host is certain only where the item is
+-- without what tests taught of hosts by their names
+abbrev pub unnamed : Scope → Scope
+unnamed c = record c { views = c.table; active = [] }
+
+-- a variable of the item's host is certain only where the item is; what a test taught of a host by
+-- its name isn't said of the item, whichever host that is
 abbrev pub other_spot : Scope → Term → Name → Spot
 other_spot c (named_host n) x = spot_among c false x (hosts_of c (named_host n))
 other_spot c this_host x = spot_among c false x (hosts_of c this_host)
 other_spot c item_host x = below_spot (is_certain (slot_at (codes "item") c.own))
-    (taught_spot (slot_at x c.item_slots) (spot_among c c.item_active x (hosts_of c item_host)))
+    (taught_spot (slot_at x c.item_slots)
+    (spot_among (unnamed c) c.item_active x (hosts_of c item_host)))
 other_spot c (group_member g n) x = spot_among c false x (hosts_of c (group_member g n))
 
 abbrev pub with_both_kinds : Name → Expression → KindData → Option KindData → Learned → Learned

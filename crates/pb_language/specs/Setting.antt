@@ -54,6 +54,7 @@ scope_at st laters place own = record {
   learned = nothing;
   present = [];
   views = st.views;
+  table = st.views;
   active = [];
   item_slots = no_slots;
   item_active = false;

@@ -1,6 +1,15 @@
 // The laws of the definitions, each on a function that does nothing.
 ghost use Rattle.pb_language.specs.Derivations.{DerivedAreTrees, TreesAreDerived};
+ghost use Rattle.pb_language.specs.Evaluates.{DerivedAreOutcomes, OutcomesAreDerived};
+ghost use Rattle.pb_language.specs.FlushOrder.{AskingRepeats, FlushAsks, HandlersAreNumbered};
+ghost use Rattle.pb_language.specs.FlushOrder.{OrderNotifiesLater, RepeatingAsks};
+ghost use Rattle.pb_language.specs.GiveRules.{DerivedAreNotified, DerivedAreResults, GiveSettles};
+ghost use Rattle.pb_language.specs.GiveRules.{NotifiedAreDerived, ResultsAreDerived};
+ghost use Rattle.pb_language.specs.GiveRules.{StuckGiveMarks};
 ghost use Rattle.pb_language.specs.Knows.{FitHasValue, KindsAreWell, TestTeaches, ValueKeepsKind};
+ghost use Rattle.pb_language.specs.OwnReads.{SameAtGive, SameOutcomes, SameResults};
+ghost use Rattle.pb_language.specs.StartRules.{DerivedArePlans, PlansAreDerived, StartHandsOut};
+ghost use Rattle.pb_language.specs.StartRules.{StuckStartMarks};
 ghost use Rattle.pb_language.specs.Theorem.{LatersHold, NeverStuck, Progress, ShortHistory};
 ghost use Rattle.pb_language.specs.Theorem.{WithinBudget};
 ghost use Rattle.pb_language.specs.Unwinding.{UnwindingWalks};
@@ -65,4 +74,49 @@ pub fn laters_hold()
 pub fn derivations_are_read()
     ensures derived { TreesAreDerived }
     ensures read { DerivedAreTrees }
+{}
+
+/// An expression has a value, or is stuck and why, exactly as the rules of the forms say.
+pub fn evaluation_is_derived()
+    ensures derived { OutcomesAreDerived }
+    ensures read { DerivedAreOutcomes }
+{}
+
+/// What a Start evaluates comes to calls, or is stuck and why, exactly as the rules say. The
+/// machine's step hands out these calls, or marks the state and changes nothing else.
+pub fn start_is_derived()
+    ensures derived { PlansAreDerived }
+    ensures read { DerivedArePlans }
+    ensures stuck { StuckStartMarks }
+    ensures fine { StartHandsOut }
+{}
+
+/// What a Give comes to is results and notified handlers, or it is stuck and why, exactly as the
+/// rules say. The step of the machine ends the task with these, or marks the state and changes
+/// nothing else.
+pub fn give_is_derived()
+    ensures derived { ResultsAreDerived }
+    ensures read { DerivedAreResults }
+    ensures handlers_derived { NotifiedAreDerived }
+    ensures handlers_read { DerivedAreNotified }
+    ensures stuck { StuckGiveMarks }
+    ensures fine { GiveSettles }
+{}
+
+/// What reads no other host and not who is active, as V09 asks it of `changed_when` and
+/// `failed_when`, comes to the same at the Give as at the Start.
+pub fn give_reads_its_start()
+    ensures outcomes { SameOutcomes }
+    ensures results { SameResults }
+    ensures worlds { SameAtGive }
+{}
+
+/// A flush asks its handlers one after the other, each once. Where none notifies itself or an
+/// earlier one, as V12 asks it, this is the first notified handler, then the same flush.
+pub fn flush_is_repeated()
+    ensures machine { FlushAsks }
+    ensures numbered { HandlersAreNumbered }
+    ensures later { OrderNotifiesLater }
+    ensures asks { AskingRepeats }
+    ensures repeats { RepeatingAsks }
 {}

@@ -9,8 +9,9 @@ use Rattle.pb_language.specs.Give.{Answer, object}
 use Rattle.pb_language.specs.Judged.{judged}
 use Rattle.pb_language.specs.Machine.{start, give, turn, stop, State, history, opening, run_from}
 use Rattle.pb_language.specs.Plays.{batches_for, program_of}
-use Rattle.pb_language.specs.Program.{Inventory}
+use Rattle.pb_language.specs.Program.{Inventory, all_batches}
 use Rattle.pb_language.specs.Sites.{steps_of}
+use Rattle.pb_language.specs.Theorem.{occurrences}
 use Rattle.pb_language.specs.Verdict.{accepted}
 
 abbrev five : List (List ℕ)
@@ -115,3 +116,17 @@ one_ping = play (task_step (ping 2) no_steps) ∷ []
 -- the run ends with the Turn of its last batch
 ends : history (opening (program_of builtins one_host one_ping) one_host 1) (start 0 ∷ give 0 (pinged ∷ []) ∷ turn ∷ turn ∷ stop ∷ []) ≡ start 0 ∷ give 0 (pinged ∷ []) ∷ turn ∷ []
 ends = refl
+
+-- an occurrence is a host of a batch and a place of its play, whatever its modes
+two_places_of_two_hosts : occurrences (all_batches (program_of builtins two pings)) ≡ 4
+two_places_of_two_hosts = refl
+
+two_places_of_one_host : occurrences (all_batches (program_of builtins one_host (play (nested 12 (task_step (ping 14) (task_step (ping 15) no_steps))) ∷ []))) ≡ 2
+two_places_of_one_host = refl
+
+-- as many events as there can be: two for each occurrence, and one for each batch, where a Stop can stand in place of the last Turn
+as_many_as_can_be : length (history (opened 2) (start 0 ∷ start 1 ∷ give 0 (pinged ∷ []) ∷ give 1 (pinged ∷ []) ∷ start 1 ∷ start 0 ∷ give 0 (pinged ∷ []) ∷ give 1 (pinged ∷ []) ∷ turn ∷ stop ∷ [])) ≡ 9
+as_many_as_can_be = refl
+
+with_a_stop : length (history (opened 2) (start 0 ∷ start 1 ∷ give 0 (pinged ∷ []) ∷ give 1 (pinged ∷ []) ∷ start 1 ∷ start 0 ∷ give 0 (pinged ∷ []) ∷ give 1 (pinged ∷ []) ∷ stop ∷ turn ∷ [])) ≡ 9
+with_a_stop = refl

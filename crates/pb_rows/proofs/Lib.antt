@@ -28,6 +28,7 @@ pub mod Row04
 pub mod Row05
 pub mod Row06
 pub mod Row07
+pub mod Row08
 pub mod Rules01
 pub mod Rules02
 pub mod Rules03
@@ -42,6 +43,13 @@ pub mod Steps01
 pub mod Template01
 pub mod Template02
 pub mod Large
+pub mod Outcomes01
+pub mod Outcomes02
+pub mod Outcomes03
+pub mod Stuck01
+pub mod Stuck02
+pub mod Stuck03
+pub mod Stuck04
 mod Texts
 pub mod Trees01
 pub mod Trees02

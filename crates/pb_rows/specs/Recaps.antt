@@ -1,9 +1,9 @@
 -- What the hosts of a book's run come to.
-use Rattle.std.specs.Prelude.{ℕ, List, [], ◌∷◌}
+use Rattle.std.specs.Prelude.{ℕ, List, [], ◌∷◌, Bool}
 use Rattle.pb_language.specs.Book.{Book, Registry}
 use Rattle.pb_language.specs.Drive.{drive}
 use Rattle.pb_language.specs.Give.{Answer}
-use Rattle.pb_language.specs.Machine.{Recap, Host, opening}
+use Rattle.pb_language.specs.Machine.{Recap, Host, State, is_out, opening}
 use Rattle.pb_language.specs.Plays.{program_of}
 use Rattle.pb_language.specs.Program.{Inventory}
 
@@ -11,9 +11,35 @@ abbrev pub all_recaps : List Host → List Recap
 all_recaps [] = []
 all_recaps (h ∷ hs) = h.recap ∷ all_recaps hs
 
+-- the state after so many steps
+abbrev pub driven : ℕ → Registry → Inventory → Book → ℕ → List (List Answer) → State
+driven n ms inventory b forks answers = (drive n (record {
+  state = opening (program_of ms inventory b) inventory forks;
+  answers = answers;
+})).state
+
 abbrev pub recaps_of : Registry → Inventory → Book → ℕ → List (List Answer) → List Recap
-recaps_of ms inventory b forks answers = all_recaps
-    (drive 400 (record {
-      state = opening (program_of ms inventory b) inventory forks;
-      answers = answers;
-    })).state.hosts
+recaps_of ms inventory b forks answers = all_recaps (driven 400 ms inventory b forks answers).hosts
+
+abbrev pub jobs_out : List Host → List Bool
+jobs_out [] = []
+jobs_out (h ∷ hs) = is_out h.stage ∷ jobs_out hs
+
+-- what a run that may be stuck comes to
+pub record After : Type 0 where
+  pub is_stuck : Bool
+  pub handed : ℕ
+  -- of each host, whether its job is out
+  pub out : List Bool
+  pub recaps : List Recap
+
+abbrev pub after_of : State → After
+after_of s = record {
+  is_stuck = s.is_stuck;
+  handed = s.handed;
+  out = jobs_out s.hosts;
+  recaps = all_recaps s.hosts;
+}
+
+abbrev pub run_after : Registry → Inventory → Book → ℕ → List (List Answer) → After
+run_after ms inventory b forks answers = after_of (driven 20 ms inventory b forks answers)

@@ -11,12 +11,8 @@ use Rattle.pb_language.specs.Plays.{Surroundings, handlers_at}
 use Rattle.pb_language.specs.Rules.{any_up_to, any_notifies_up_to}
 use Rattle.pb_language.specs.Task.{Task, Handlers, no_handlers, handler}
 use Rattle.pb_language.proofs.Accepted.{same_place}
-use Rattle.pb_language.proofs.OwnReads.{neither-left, neither-right}
+use Rattle.pb_language.proofs.Opaque.{neither-left, neither-right, neither-both}
 use Rattle.pb_language.proofs.Same.{same_number}
-
-neither-both : (a b : Bool) → a ≡ false → b ≡ false → a || b ≡ false
-neither-both true b h i = h
-neither-both false b h i = i
 
 turned : (a : Bool) → not a ≡ true → a ≡ false
 turned true h = untrue h

@@ -19,7 +19,7 @@ pub neither-right : (a b : Bool) → a || b ≡ false → b ≡ false
 neither-right true b h = untrue (sym h)
 neither-right false b h = h
 
-neither-both : (a b : Bool) → a ≡ false → b ≡ false → a || b ≡ false
+pub neither-both : (a b : Bool) → a ≡ false → b ≡ false → a || b ≡ false
 neither-both true b h i = h
 neither-both false b h i = i
 

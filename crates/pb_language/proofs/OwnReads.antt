@@ -13,14 +13,7 @@ use Rattle.pb_language.specs.Program.{Inventory, Batch, setting_of}
 use Rattle.pb_language.specs.Rules.{reads_others, root_reads_others, any_reads_others, part_reads_others}
 use Rattle.pb_language.specs.Setting.{named_fields, with_local}
 use Rattle.pb_language.specs.Task.{Task}
-
-pub neither-left : (a b : Bool) → a || b ≡ false → a ≡ false
-neither-left true b h = h
-neither-left false b h = refl
-
-pub neither-right : (a b : Bool) → a || b ≡ false → b ≡ false
-neither-right true b h = untrue (sym h)
-neither-right false b h = h
+use Rattle.pb_language.proofs.Opaque.{neither-left, neither-right}
 
 module _ (w v : World) (m : SameAlone w v) where
   mutual

@@ -1,5 +1,5 @@
 -- Where handlers notify later ones alone, asking each once is the first notified one, then the same flush.
-use Rattle.std.proofs.Common.{◌≡◌, ◌<◌, ◌≤◌, ℕ, suc, nat_eq, nat_le, List, [], ◌∷◌, ◌++◌, Bool, true, false, not, ◌||◌, cond, Some, None, refl, sym, ap, subst, ◌∙◌, arith}
+use Rattle.std.proofs.Common.{◌≡◌, ◌<◌, ◌≤◌, ℕ, suc, nat_eq, nat_le, List, [], ◌∷◌, ◌++◌, Bool, true, false, not, cond, Some, None, refl, sym, ap, subst, ◌∙◌, arith}
 use Rattle.std.proofs.lemmas.Bool.{leb-false, leb-true, ne_eqb}
 use Rattle.std.proofs.lemmas.Option.{none-some}
 use Rattle.pb_semantics.proofs.Bools.{untrue, and-left, and-right, and-both}
@@ -131,7 +131,7 @@ pub repeating_asks : RepeatingAsks
 repeating_asks hs ms ks rs numbered later r = repeats_ask hs hs 0 ms ks rs whole numbered (nothing_below ms) later r
 
 -- the numbers of a play's handlers, and what V12 says of them
-numbered_from : (s : Surroundings) (i p : ℕ) (hs : List HandlerData) → are_numbered i (handlers_at s i p hs) ≡ true
+pub numbered_from : (s : Surroundings) (i p : ℕ) (hs : List HandlerData) → are_numbered i (handlers_at s i p hs) ≡ true
 numbered_from s i p [] = refl
 numbered_from s i p (h ∷ hs) = and-both (nat_eq i i) (are_numbered (suc i) (handlers_at s (suc i) (suc p) hs)) (same_place i) (numbered_from s (suc i) (suc p) hs)
 

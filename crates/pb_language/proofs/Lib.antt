@@ -48,8 +48,11 @@ pub mod Evaluated
 pub mod Determined
 pub mod Planned
 pub mod Ended
+pub mod Ruled
 pub mod OwnReads
 pub mod FlushOrder
+pub mod FlushesRepeat
+pub mod StartReads
 pub mod PlainTables
 pub mod Spots
 pub mod KindsUp

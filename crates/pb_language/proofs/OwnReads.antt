@@ -1,5 +1,5 @@
 -- What reads no other host and not who is active comes to the same, whatever others have.
-use Rattle.std.proofs.Common.{◌≡◌, ℕ, List, [], ◌∷◌, Bool, true, false, ◌||◌, cond, Option, Some, None, codes, bytes_eq, refl, sym, ap, ◌∙◌}
+use Rattle.std.proofs.Common.{◌≡◌, ℕ, List, [], ◌∷◌, Bool, true, false, cond, Option, Some, None, codes, bytes_eq, refl, sym, ap, ◌∙◌}
 use Rattle.pb_semantics.specs.Data.{Data, Fields, rec, field, field_value}
 use Rattle.pb_semantics.specs.Keeps.{flag_is}
 use Rattle.pb_semantics.proofs.Bools.{untrue}

@@ -1,5 +1,6 @@
 -- Hosts in a list, and what a world sees of them.
-use Rattle.std.proofs.Common.{◌≡◌, ◌≤◌, ◌+◌, ◌⊎◌, inl, inr, ⊎_elim, ℕ, zero, suc, List, [], ◌∷◌, Bool, true, false, not, ◌&&◌, ◌||◌, cond, Some, length, refl, sym, ap, subst, ◌∙◌, arith, true≢false, bytes_eq}
+use Rattle.std.proofs.Common.{◌≡◌, ◌≤◌, ◌+◌, ◌⊎◌, inl, inr, ⊎_elim, ℕ, zero, suc, nat_eq, List, [], ◌∷◌, Bool, true, false, not, ◌&&◌, ◌||◌, cond, Some, length, refl, sym, ap, subst, ◌∙◌, arith, true≢false, bytes_eq}
+use Rattle.std.proofs.lemmas.Bool.Decides.{nat_tests}
 use Rattle.pb_semantics.specs.Data.{no_fields}
 use Rattle.pb_semantics.specs.Keeps.{is_among}
 use Rattle.pb_semantics.specs.Below.{are_among}
@@ -8,7 +9,8 @@ use Rattle.pb_semantics.proofs.Names.{same_name, own_name}
 use Rattle.pb_language.specs.Expression.{Name}
 use Rattle.pb_language.specs.World.{variables_of}
 use Rattle.pb_language.specs.Theorem.{are_distinct}
-use Rattle.pb_language.specs.Machine.{Stage, Host, is_on, is_active_host, still_active, variables_seen, host_at, put_host, stands_at, all_stand}
+use Rattle.pb_language.specs.Program.{Batch}
+use Rattle.pb_language.specs.Machine.{Stage, Host, is_on, is_active_host, still_active, variables_seen, host_at, put_host, stands_at, all_stand, is_idle, all_idle, begun, all_begun}
 
 abbrev pub names_of : List Host → List Name
 names_of [] = []
@@ -26,6 +28,32 @@ put_at zero zero x (h ∷ hs) y e = let i : x ≡ y = cc in inl (refl, i)
 put_at zero (suc k) x (h ∷ hs) y e = inr e
 put_at (suc j) zero x (h ∷ hs) y e = inr e
 put_at (suc j) (suc k) x (h ∷ hs) y e = ⊎_elim (λ p. inl (ap suc p.0, p.1)) (λ p. inr p) (put_at j k x hs y e)
+
+pub put_here : (k : ℕ) (x : Host) (hs : List Host) (h : Host) → host_at k hs ≡ Some h → host_at k (put_host k x hs) ≡ Some x
+put_here k x [] h e = absurd (true≢false (cc))
+put_here zero x (y ∷ hs) h e = refl
+put_here (suc k) x (y ∷ hs) h e = put_here k x hs h e
+
+unlike_below : (j k : ℕ) → nat_eq (suc j) (suc k) ≡ false → nat_eq j k ≡ false
+unlike_below j k e = grind (arith, nat_tests)
+
+pub put_apart : (j k : ℕ) (x : Host) (hs : List Host) → nat_eq j k ≡ false → host_at k (put_host j x hs) ≡ host_at k hs
+put_apart j k x [] e = refl
+put_apart zero zero x (h ∷ hs) e = absurd (true≢false (cc))
+put_apart zero (suc k) x (h ∷ hs) e = refl
+put_apart (suc j) zero x (h ∷ hs) e = refl
+put_apart (suc j) (suc k) x (h ∷ hs) e = put_apart j k x hs (unlike_below j k e)
+
+-- and one of a batch that begins
+pub host_begun : (b : Batch) (k : ℕ) (hs : List Host) (y : Host) → host_at k (all_begun b hs) ≡ Some y → (h : Host) × (host_at k hs ≡ Some h) × (begun b h ≡ y)
+host_begun b k [] y e = absurd (true≢false (cc))
+host_begun b zero (h ∷ hs) y e = let i : begun b h ≡ y = cc in (h, refl, i)
+host_begun b (suc k) (h ∷ hs) y e = host_begun b k hs y e
+
+pub idle_at : (k : ℕ) (hs : List Host) (h : Host) → all_idle hs ≡ true → host_at k hs ≡ Some h → is_idle h.stage ≡ true
+idle_at k [] h i e = absurd (true≢false (cc))
+idle_at zero (x ∷ hs) h i e = let j : x ≡ h = cc in subst (λ z. is_idle z.stage ≡ true) j (and-left (is_idle x.stage) (all_idle hs) i)
+idle_at (suc k) (x ∷ hs) h i e = idle_at k hs h (and-right (is_idle x.stage) (all_idle hs) i) e
 
 pub at_among : (k : ℕ) (hs : List Host) (h : Host) → host_at k hs ≡ Some h → is_among h.name (names_of hs) ≡ true
 at_among k [] h e = absurd (true≢false (cc))

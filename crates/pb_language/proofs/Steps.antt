@@ -1,9 +1,9 @@
 -- Every step of a run keeps what is known of it.
-use Rattle.std.proofs.Common.{◌≡◌, ◌≤◌, ◌+◌, ◌⊎◌, inl, inr, ⊎_elim, ℕ, zero, suc, List, [], ◌∷◌, ◌++◌, Bool, true, false, not, cond, Option, Some, None, refl, sym, ap, subst, ◌∙◌, arith, true≢false}
+use Rattle.std.proofs.Common.{◌≡◌, ◌≤◌, ◌+◌, ◌⊎◌, inl, inr, ⊎_elim, ℕ, List, [], ◌∷◌, ◌++◌, Bool, true, false, not, cond, Option, Some, None, refl, sym, ap, subst, ◌∙◌, arith, true≢false}
 use Rattle.pb_semantics.specs.Data.{Fields}
 use Rattle.pb_semantics.specs.Keeps.{is_among}
 use Rattle.pb_semantics.specs.Below.{are_among}
-use Rattle.pb_semantics.proofs.Bools.{untrue, and-left, and-right}
+use Rattle.pb_semantics.proofs.Bools.{untrue, and-right}
 use Rattle.pb_semantics.proofs.Hosts.{among_up}
 use Rattle.pb_language.specs.Expression.{Name}
 use Rattle.pb_language.specs.Scope.{View, view_of, Later, later_of}
@@ -17,7 +17,7 @@ use Rattle.pb_language.specs.Machine.{Event, start, give, turn, stop, over, gone
 use Rattle.pb_language.specs.Wells.{WellExit}
 use Rattle.pb_language.proofs.Claims.{StartClaim, GiveClaim, AfterClaim}
 use Rattle.pb_language.proofs.Ways.{walk_well}
-use Rattle.pb_language.proofs.Seen.{at_among, total}
+use Rattle.pb_language.proofs.Seen.{idle_at, at_among, total}
 use Rattle.pb_language.proofs.Positions.{ExitModels, in_any, walked, after_play, future, whole, StageFine, owes}
 use Rattle.pb_language.proofs.Runs.{Fixed, Kept, BatchFine, HostsFine, start_fine, give_fine}
 use Rattle.pb_language.proofs.Turns.{If, AllApart, AllWithin, CutFine, PlansFine, after_fine, PlayGood, Good, Ahead, Idle, idle_owes, Member, batch_begun}
@@ -194,11 +194,6 @@ module _ (inventory : Inventory) (views : List View) (fixed : Fixed inventory vi
   plays_begun [] ls exits s plans kept ahead resting within = ended s kept (omega (arith, within))
   plays_begun (p ∷ ps) ls exits s plans kept ahead resting within =
       play_begun p ps ls exits s p.batches refl plans.0 plans.1 plans.2 kept (record { well = ahead.well; good = ahead.good }) resting within (λ exits' a r w. plays_begun ps (other_laters ls) exits' s plans.2 kept a r w)
-
-  idle_at : (k : ℕ) (hs : List Host) (h : Host) → all_idle hs ≡ true → host_at k hs ≡ Some h → is_idle h.stage ≡ true
-  idle_at k [] h i e = absurd (true≢false (cc))
-  idle_at zero (x ∷ hs) h i e = let j : x ≡ h = cc in subst (λ z. is_idle z.stage ≡ true) j (and-left (is_idle x.stage) (all_idle hs) i)
-  idle_at (suc k) (x ∷ hs) h i e = idle_at k hs h (and-right (is_idle x.stage) (all_idle hs) i) e
 
   stage_idle : (p : Play) (l : List Later) (exits : Name → Exit) (ps : Program) (ls : List (List Later)) (b : List Name) (bs : List (List Name)) (n : Name) (vars : Fields) (z : Stage) → is_idle z ≡ true → StageFine views inventory p l exits ps ls b bs n vars z
       → Idle inventory views fixed start_claim give_claim after_claim limit p l exits ps ls bs n vars z

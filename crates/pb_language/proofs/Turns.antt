@@ -1,5 +1,5 @@
 -- What a Turn to the next batch keeps.
-use Rattle.std.proofs.Common.{◌≡◌, ◌≤◌, ◌+◌, ℕ, zero, suc, List, [], ◌∷◌, Bool, true, false, ◌&&◌, ◌||◌, cond, Some, length, refl, sym, ap, subst, ◌∙◌, arith, true≢false}
+use Rattle.std.proofs.Common.{◌≡◌, ◌≤◌, ◌+◌, ℕ, suc, List, [], ◌∷◌, Bool, true, false, ◌&&◌, ◌||◌, cond, Some, length, refl, sym, ap, subst, ◌∙◌, arith, true≢false}
 use Rattle.pb_semantics.specs.Data.{Fields}
 use Rattle.pb_semantics.specs.Kind.{Slots}
 use Rattle.pb_semantics.specs.Keeps.{is_among, Models}
@@ -18,7 +18,7 @@ use Rattle.pb_language.specs.Machine.{over, gone, begins, Stage, waits, runs, Ho
 use Rattle.pb_language.specs.Wells.{WellExit}
 use Rattle.pb_language.proofs.Claims.{StartClaim, GiveClaim, AfterClaim}
 use Rattle.pb_language.proofs.Ways.{above_itself, WellAfter, VisitFine, AllVisits, typed_row}
-use Rattle.pb_language.proofs.Seen.{names_of, total}
+use Rattle.pb_language.proofs.Seen.{host_begun, names_of, total}
 use Rattle.pb_language.proofs.Positions.{ExitModels, in_any, walked, bound, later, after_play, future, whole, EndsAt, TypedAt, Over, StageFine, owes, settled_fine, settled_owes, most_row}
 use Rattle.pb_language.proofs.Runs.{settled_name, settled_variables, Fixed, Kept, HostsFine}
 
@@ -199,11 +199,6 @@ module _ (inventory : Inventory) (views : List View) (fixed : Fixed inventory vi
       names_begun [] = refl
       names_begun (h ∷ hs) = rw (begun_name h, names_begun hs) refl
 
-      host_begun : (k : ℕ) (hs : List Host) (y : Host) → host_at k (all_begun begin_batch hs) ≡ Some y → (h : Host) × (host_at k hs ≡ Some h) × (begun begin_batch h ≡ y)
-      host_begun k [] y e = absurd (true≢false (cc))
-      host_begun zero (h ∷ hs) y e = let i : begun begin_batch h ≡ y = cc in (h, refl, i)
-      host_begun (suc k) (h ∷ hs) y e = host_begun k hs y e
-
       total_begun : (hs : List Host) → ((k : ℕ) (h : Host) → host_at k hs ≡ Some h → BegunFine h.name (begun begin_batch h) h.stage) → total (owes views inventory p l exits ps ls b bs) (all_begun begin_batch hs) ≤ total (idle_owes (b ∷ bs)) hs
       total_begun [] f = omega arith
       total_begun (h ∷ hs) f = let i = (f 0 h refl).1 in let j = total_begun hs (λ k x e. f (suc k) x e) in omega (arith, i, j)
@@ -218,10 +213,10 @@ module _ (inventory : Inventory) (views : List View) (fixed : Fixed inventory vi
               same = kept.same;
               names = names_begun s.hosts ∙ kept.names;
               fresh = kept.fresh;
-              models = λ k y e. let z = host_begun k s.hosts y e in subst (λ x. Models x.variables (view_of x.name views)) z.2 (rw (begun_name z.0, begun_variables z.0) (kept.models k z.0 z.1));
+              models = λ k y e. let z = host_begun begin_batch k s.hosts y e in subst (λ x. Models x.variables (view_of x.name views)) z.2 (rw (begun_name z.0, begun_variables z.0) (kept.models k z.0 z.1));
             },
             record {
-              stands = λ k y e. let z = host_begun k s.hosts y e in subst (λ x. StageFine views inventory p l exits ps ls b bs x.name x.variables x.stage) z.2 (each k z.0 z.1).0;
+              stands = λ k y e. let z = host_begun begin_batch k s.hosts y e in subst (λ x. StageFine views inventory p l exits ps ls b bs x.name x.variables x.stage) z.2 (each k z.0 z.1).0;
               within = let t = total_begun s.hosts each in omega (arith, t, within);
             },
           )

@@ -3,14 +3,18 @@
 -- (Ansible's page on handlers).
 use Rattle.std.specs.Prelude.{◌≡◌, ℕ, suc, nat_eq, List, [], ◌∷◌, ◌++◌, Bool, true, false}
 use Rattle.std.specs.Prelude.{not, ◌&&◌, cond, Option, Some, None}
-use Rattle.pb_language.specs.Book.{HandlerData}
+use Rattle.pb_language.specs.Book.{HandlerData, Book, Registry}
 use Rattle.pb_language.specs.Expression.{Name}
-use Rattle.pb_language.specs.Machine.{Host, begins, waits, is_marked, unmarked, settled}
+use Rattle.pb_language.specs.Judged.{judged}
+use Rattle.pb_language.specs.Machine.{Host, begins, waits, is_marked, unmarked, settled, notified_by}
 use Rattle.pb_language.specs.Notify.{HandlerNames, handlers_are, all_notified}
-use Rattle.pb_language.specs.Plays.{Surroundings, handlers_at}
+use Rattle.pb_language.specs.Plays.{Surroundings, handlers_at, program_of}
+use Rattle.pb_language.specs.Program.{Inventory, Play, Program}
 use Rattle.pb_language.specs.Rest.{Rest, flush_rest}
 use Rattle.pb_language.specs.Rules.{any_up_to, any_notifies_up_to}
-use Rattle.pb_language.specs.Task.{Task, Handlers, no_handlers, handler}
+use Rattle.pb_language.specs.Task.{Task, Handlers, no_handlers, handler, Row, end, task, flush}
+use Rattle.pb_language.specs.Task.{block}
+use Rattle.pb_language.specs.Verdict.{accepted}
 
 -- a handler that ran, and the numbers of those that it notified
 pub record Ran : Type 0 where
@@ -77,3 +81,41 @@ FlushAsks = (h : Host) (n : ℕ) (t : Task) (hs : Handlers) (well hurt : Rest)
       stage = waits (begins t (flush_rest hs well hurt) hurt);
     })
     (settled h (flush_rest hs well hurt))
+
+-- what can run at a flush of a play: each a handler of it, which notifies what its task notifies,
+-- or nothing where it isn't changed
+abbrev pub handler_numbered : ℕ → Handlers → Option Task
+handler_numbered k no_handlers = None
+handler_numbered k (handler n t hs) = cond (nat_eq n k) (Some t) (handler_numbered k hs)
+
+pub data CanRun (p : Play) (hs : Handlers) : List Ran → Type 0 where
+  none_ran : CanRun p hs []
+  ran_then : {n : ℕ} {xs : List ℕ} {rs : List Ran} (t : Task) (changed : Bool)
+      → handler_numbered n hs ≡ Some t → notified_by p t changed ≡ handlers_are xs
+      → CanRun p hs rs → CanRun p hs (record { number = n; notifies = xs } ∷ rs)
+
+-- whoever is notified and whatever runs, the questions are the first notified handler, then the
+-- same flush
+pub record FlushRepeats (p : Play) (hs : Handlers) : Type 0 where
+  pub repeats : (ms ks : List ℕ) (rs : List Ran) → CanRun p hs rs → Asks hs ms rs ks
+      → Repeats hs ms rs ks
+  pub asks : (ms ks : List ℕ) (rs : List Ran) → CanRun p hs rs → Repeats hs ms rs ks
+      → Asks hs ms rs ks
+
+-- so it is at every flush
+abbrev pub FlushesRepeat : Play → Row → Type 0
+FlushesRepeat p end = Unit {0}
+FlushesRepeat p (task t row) = FlushesRepeat p row
+FlushesRepeat p (flush hs row) = FlushRepeats p hs × FlushesRepeat p row
+FlushesRepeat p (block d body saves rescued always row) =
+    FlushesRepeat p body × (FlushesRepeat p rescued
+    × (FlushesRepeat p always × FlushesRepeat p row))
+
+abbrev pub ProgramRepeats : Program → Type 0
+ProgramRepeats [] = Unit {0}
+ProgramRepeats (p ∷ ps) = FlushesRepeat p p.row × ProgramRepeats ps
+
+-- of an accepted book
+abbrev pub AcceptedRepeats : Type 0
+AcceptedRepeats = (ms : Registry) (inventory : Inventory) (book : Book) (n : ℕ)
+    → judged ms inventory book ≡ accepted n → ProgramRepeats (program_of ms inventory book)

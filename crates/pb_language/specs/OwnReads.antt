@@ -1,17 +1,26 @@
 -- What V09 is for: `changed_when` and `failed_when` that read no other host and not who is active
 -- come to the same at the Give as at the Start, whatever happened to others in between (this
 -- project's own).
-use Rattle.std.specs.Prelude.{◌≡◌, List, Bool, false, Option, Some, None, codes}
+use Rattle.std.specs.Prelude.{◌≡◌, ℕ, nat_eq, List, [], ◌∷◌, Bool, true, false, not, ◌&&◌, Option}
+use Rattle.std.specs.Prelude.{Some, None, codes}
 use Rattle.std.specs.Str.{bytes_eq}
 use Rattle.pb_semantics.specs.Data.{field_value}
 use Rattle.pb_language.specs.Expression.{Name, Expression, Expressions}
 use Rattle.pb_language.specs.World.{World}
 use Rattle.pb_language.specs.Evaluation.{eval}
+use Rattle.pb_language.specs.Start.{Pass, planned}
+use Rattle.pb_language.specs.StartRules.{Starts, CanStart}
 use Rattle.pb_language.specs.Give.{Own, end_all}
-use Rattle.pb_language.specs.Machine.{Host, State, world_of}
-use Rattle.pb_language.specs.Program.{Batch}
+use Rattle.pb_language.specs.Book.{Book, Registry}
+use Rattle.pb_language.specs.Judged.{judged}
+use Rattle.pb_language.specs.Machine.{Event, start, give, runs, Host, State, world_of, host_at}
+use Rattle.pb_language.specs.Machine.{run_from}
+use Rattle.pb_language.specs.Program.{Inventory, Batch}
+use Rattle.pb_language.specs.Rest.{Rest}
 use Rattle.pb_language.specs.Rules.{reads_others, any_reads_others}
 use Rattle.pb_language.specs.Task.{Task}
+use Rattle.pb_language.specs.Theorem.{run_of}
+use Rattle.pb_language.specs.Verdict.{accepted}
 
 -- two worlds of one host that differ at most in what others have and in who is active
 pub record SameAlone (w v : World) : Type 0 where
@@ -40,3 +49,30 @@ abbrev pub SameAtGive : Type 0
 SameAtGive = (s z : State) (b : Batch) (h g : Host) (t : Task) → s.inventory ≡ z.inventory
     → h.name ≡ g.name → h.variables ≡ g.variables → h.rescues ≡ g.rescues
     → SameAlone (world_of s b h t) (world_of z b g t)
+
+-- no Give of the host stands among these
+abbrev pub gives_none : ℕ → List Event → Bool
+gives_none k [] = true
+gives_none k (give j xs ∷ es) = not (nat_eq j k) && gives_none k es
+gives_none k (e ∷ es) = gives_none k es
+
+-- the host whose job is out
+abbrev pub with_job : Host → Task → List Pass → Rest → Rest → Host
+with_job h t ps going failing = record h { stage = runs t ps going failing }
+
+-- the job of a Start at `s` is out at `z`, and any answers come to what they came to at `s`
+pub record AsAtStart (s z : State) (b : Batch) (bs : List Batch) (k : ℕ) (h : Host) (t : Task)
+    (ps : List Pass) (going failing : Rest) : Type 0 where
+  pub batch : z.batches ≡ b ∷ bs
+  pub host : host_at k z.hosts ≡ Some (with_job h t ps going failing)
+  pub results : (os : List Own) → end_all (world_of z b (with_job h t ps going failing) t) t os
+      ≡ end_all (world_of s b h t) t os
+
+-- in a run of an accepted book, whatever happens between a Start and its Give
+abbrev pub GivesReadTheirStart : Type 0
+GivesReadTheirStart = (ms : Registry) (inventory : Inventory) (book : Book) (n forks : ℕ)
+    (es fs : List Event) (s : State) (b : Batch) (bs : List Batch) (k : ℕ) (h : Host) (t : Task)
+    (going failing : Rest) (ps : List Pass) → judged ms inventory book ≡ accepted n
+    → s ≡ run_of ms inventory book forks es → CanStart s b bs k h t going failing
+    → Starts (world_of s b h t) t t.loop (planned ps) → gives_none k fs ≡ true
+    → AsAtStart s (run_from s (start k ∷ fs)) b bs k h t ps going failing

@@ -1,13 +1,15 @@
 // The laws of the definitions, each on a function that does nothing.
 ghost use Rattle.pb_language.specs.Derivations.{DerivedAreTrees, TreesAreDerived};
 ghost use Rattle.pb_language.specs.Evaluates.{DerivedAreOutcomes, OutcomesAreDerived};
-ghost use Rattle.pb_language.specs.FlushOrder.{AskingRepeats, FlushAsks, HandlersAreNumbered};
-ghost use Rattle.pb_language.specs.FlushOrder.{OrderNotifiesLater, RepeatingAsks};
+ghost use Rattle.pb_language.specs.FlushOrder.{AcceptedRepeats, AskingRepeats, FlushAsks};
+ghost use Rattle.pb_language.specs.FlushOrder.{HandlersAreNumbered, OrderNotifiesLater};
+ghost use Rattle.pb_language.specs.FlushOrder.{RepeatingAsks};
 ghost use Rattle.pb_language.specs.GiveRules.{DerivedAreNotified, DerivedAreResults, GiveSettles};
 ghost use Rattle.pb_language.specs.GiveRules.{NotifiedAreDerived, ResultsAreDerived};
 ghost use Rattle.pb_language.specs.GiveRules.{StuckGiveMarks};
 ghost use Rattle.pb_language.specs.Knows.{FitHasValue, KindsAreWell, TestTeaches, ValueKeepsKind};
-ghost use Rattle.pb_language.specs.OwnReads.{SameAtGive, SameOutcomes, SameResults};
+ghost use Rattle.pb_language.specs.OwnReads.{GivesReadTheirStart, SameAtGive, SameOutcomes};
+ghost use Rattle.pb_language.specs.OwnReads.{SameResults};
 ghost use Rattle.pb_language.specs.StartRules.{DerivedArePlans, PlansAreDerived, StartHandsOut};
 ghost use Rattle.pb_language.specs.StartRules.{StuckStartMarks};
 ghost use Rattle.pb_language.specs.Theorem.{LatersHold, NeverStuck, Progress, ShortHistory};
@@ -104,19 +106,23 @@ pub fn give_is_derived()
 {}
 
 /// What reads no other host and not who is active, as V09 asks it of `changed_when` and
-/// `failed_when`, comes to the same at the Give as at the Start.
+/// `failed_when`, comes to the same at the Give as at the Start. So it is in every run of an
+/// accepted book, whatever happens to other hosts in between.
 pub fn give_reads_its_start()
     ensures outcomes { SameOutcomes }
     ensures results { SameResults }
     ensures worlds { SameAtGive }
+    ensures accepted { GivesReadTheirStart }
 {}
 
 /// A flush asks its handlers one after the other, each once. Where none notifies itself or an
-/// earlier one, as V12 asks it, this is the first notified handler, then the same flush.
+/// earlier one, as V12 asks it, this is the first notified handler, then the same flush. So it is
+/// at every flush of an accepted book.
 pub fn flush_is_repeated()
     ensures machine { FlushAsks }
     ensures numbered { HandlersAreNumbered }
     ensures later { OrderNotifiesLater }
     ensures asks { AskingRepeats }
     ensures repeats { RepeatingAsks }
+    ensures accepted { AcceptedRepeats }
 {}

@@ -1,3 +1,4 @@
+use Rattle.pb_language.proofs.FlushesRepeat.{accepted_repeats}
 use Rattle.pb_language.proofs.FlushOrder.{flush_asks, handlers_are_numbered, order_notifies_later, asking_repeats, repeating_asks}
 use Rattle.pb_language.proofs.laws.flush_is_repeated.Goals as goal
 
@@ -15,3 +16,6 @@ returns-clause-asks c = asking_repeats
 
 pub returns-clause-repeats : goal.returns-clause-repeats
 returns-clause-repeats c = repeating_asks
+
+pub returns-clause-accepted : goal.returns-clause-accepted
+returns-clause-accepted c = accepted_repeats

@@ -14,9 +14,8 @@ ghost use Rattle.pb_book.specs.Reading.{some_item_holds, text_fits, value_of, wi
 
 use crate::book::Argument;
 use crate::fault::FormFault;
-use pb_expr::expr::Expr;
-use pb_expr::parse::parse_template;
-use pb_value::value::{Fields, Value};
+use pb_expr::{Expr, parse_template};
+use pb_value::{Fields, Value};
 use std::alloc::Global;
 use std::collections::BTreeMap;
 use std::sync::Arc;

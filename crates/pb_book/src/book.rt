@@ -3,7 +3,7 @@ ghost use Rattle.std.specs.Prelude.{◌≡◌, true};
 ghost use Rattle.pb_book.specs.Lines.{are_ordered_plays, is_numbered};
 ghost use Rattle.pb_book.specs.Meaning.{are_plain_plays};
 
-use pb_expr::expr::Expr;
+use pb_expr::Expr;
 use std::sync::Arc;
 
 /// An argument of a module or an action.

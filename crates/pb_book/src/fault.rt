@@ -2,8 +2,8 @@
 ghost use Rattle.std.specs.Prelude.{◌≡◌};
 ghost use Rattle.pb_book.specs.Faults.{from_expr, from_form, from_json};
 
-use pb_expr::fault::ExprFault;
-use pb_value::read::JsonFault;
+use pb_expr::ExprFault;
+use pb_value::JsonFault;
 use std::alloc::{AllocError, AllocFailed};
 use thiserror::Error;
 

@@ -18,9 +18,8 @@ ghost use Rattle.pb_book.specs.Reading.{names_all, play_of};
 use crate::book::{Book, Play, Task};
 use crate::fault::{BookFault, FormFault};
 use crate::task::{is_named, tasks_of};
-use pb_sig::registry::Registry;
-use pb_value::read::read_json;
-use pb_value::value::{Fields, Value, field_of, own_fields, own_items};
+use pb_sig::Registry;
+use pb_value::{Fields, Value, field_of, own_fields, own_items, read_json};
 use std::alloc::Global;
 
 /// The most bytes of a playbook.

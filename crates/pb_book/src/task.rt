@@ -20,11 +20,9 @@ ghost use Rattle.pb_book.specs.Reading.{work_of as work_in, work_with, works_of}
 use crate::argument::{MOST_EXPRESSION_BYTES, MOST_TEXT_BYTES, arguments_of, lone_argument};
 use crate::book::{Argument, Task, Work};
 use crate::fault::FormFault;
-use pb_expr::expr::Expr;
-use pb_expr::parse::parse_expr;
-use pb_sig::registry::Registry;
-use pb_sig::signature::Module;
-use pb_value::value::{Fields, Value, field_of};
+use pb_expr::{Expr, parse_expr};
+use pb_sig::{Module, Registry};
+use pb_value::{Fields, Value, field_of};
 use std::alloc::Global;
 use std::sync::Arc;
 

@@ -5,15 +5,12 @@ ghost use Rattle.pb_inventory.specs.Words.{inventory_view};
 ghost use Rattle.pb_book.specs.Words.{book_of};
 ghost use Rattle.pb_cli.specs.FileVerdicts.{Judges, book_verdict, inventory_verdict, refused};
 
-use pb_book::book::Book;
-use pb_book::fault::BookFault;
-use pb_inventory::inventory::Inventory;
-use pb_inventory::read::InventoryFault;
-use pb_sig::registry::Registry;
-use pb_strategy::script::ScriptFault;
-use pb_verify::checked::Checked;
-use pb_verify::refusal::{Code, Refusal};
-use pb_verify::verify::{VerifyFault, verify};
+use pb_book::{Book, BookFault};
+use pb_inventory::{Inventory, InventoryFault};
+use pb_sig::Registry;
+use pb_strategy::ScriptFault;
+use pb_verify::verify::verify;
+use pb_verify::{Checked, Code, Refusal, VerifyFault};
 use std::alloc::{AllocError, Global};
 
 /// Why there is no verdict that accepts.

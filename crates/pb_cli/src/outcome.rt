@@ -11,10 +11,9 @@ ghost use Rattle.pb_cli.specs.Texts.{not_built_line};
 use crate::judge::{Fault, judge};
 use crate::texts::{recap_text, refusal_text, status_of, verdict_text};
 use crate::words::{LineFault, Options, Source};
-use pb_strategy::drive::{Runner, drive};
-use pb_strategy::run::Run;
-use pb_strategy::script::ScriptRunner;
-use pb_verify::checked::Checked;
+use pb_strategy::drive::drive;
+use pb_strategy::{Run, Runner, ScriptRunner};
+use pb_verify::Checked;
 use std::alloc::{AllocError, Global};
 use std::mem;
 

@@ -4,10 +4,8 @@ ghost use Rattle.pb_cli.specs.Texts.{ended_text, host_text, reached_text, recap_
 ghost use Rattle.pb_cli.specs.Texts.{run_lines, status_for, verdict_line};
 
 use crate::judge::Fault;
-use pb_strategy::recap::Recap;
-use pb_strategy::run::Run;
-use pb_verify::checked::Checked;
-use pb_verify::refusal::Refusal;
+use pb_strategy::{Recap, Run};
+use pb_verify::{Checked, Refusal};
 use std::alloc::{AllocError, Global};
 
 /// The line of a verdict with its line feed; nothing for want of memory.

@@ -1,13 +1,13 @@
 -- The value of a form beside the values of its operands.
 use Rattle.std.proofs.Common.{◌≡◌, ℕ, List, [], ◌∷◌, ◌++◌, Bool, true, false, ◌||◌, Some, None, refl, sym, ap, ◌∙◌}
 use Rattle.pb_semantics.specs.Data.{Data, Items, Fields, null, boolean, int, text, list, rec, opaque, no_items, item, no_fields, field}
+use Rattle.pb_language.specs.Evaluates.{is_unreadable}
 use Rattle.pb_language.specs.Expression.{Expressions, no_expressions, expression}
 use Rattle.pb_language.specs.World.{World}
 use Rattle.pb_language.specs.Evaluation.{Outcome, Stuck, value, stuck, wrong_sort, then_go, only_boolean, negated, and_then, or_then, holds_opaque, equal_values, found_in, put_item, put_part, eval, eval_all, eval_any}
 use Rattle.pb_value.specs.Append.{append_fields}
 use Rattle.pb_value.specs.View.{view, items_view, truth}
 use Rattle.pb_value.specs.declared.value.Value.{Value}
-use Rattle.pb_expr.specs.ExprView.{is_unreadable}
 use Rattle.pb_expr.specs.OwnWorld.{shown}
 
 or_right : (b : Bool) → (b || true) ≡ true

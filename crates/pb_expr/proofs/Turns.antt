@@ -3,13 +3,14 @@ use Rattle.std.proofs.Common.{◌≡◌, ℕ, suc, ◌+◌, ◌<◌, ◌≤◌, 
 use Rattle.std.proofs.Math.Seq.{drop-cons}
 use Rattle.std.proofs.lemmas.List.{drop_all}
 use Rattle.pb_semantics.specs.Data.{Data, Fields, boolean, list, rec, opaque, no_fields, field}
+use Rattle.pb_language.specs.Evaluates.{is_unreadable}
 use Rattle.pb_language.specs.Expression.{Name}
 use Rattle.pb_language.specs.World.{World}
 use Rattle.pb_language.specs.Evaluation.{no_field, or_stuck, value_below, eval, eval_all, eval_any, eval_items, eval_parts}
 use Rattle.pb_value.specs.Append.{append_fields}
 use Rattle.pb_value.specs.View.{view, items_view, fields_of, truth}
 use Rattle.pb_value.specs.declared.value.Value.{Value}
-use Rattle.pb_expr.specs.ExprView.{expr_view, exprs_view, parts_view, names_of, field_in, is_unreadable}
+use Rattle.pb_expr.specs.ExprView.{expr_view, exprs_view, parts_view, names_of, field_in}
 use Rattle.pb_expr.specs.OwnWorld.{shown}
 use Rattle.pb_expr.specs.declared.expr.Expr.{Expr}
 use Rattle.pb_expr.proofs.Outcomes.{and-true, and-false, and-spoilt, or-true, or-false, or-spoilt, after_items, items-spoilt, items-step, items-end, after_fields, fields-spoilt, fields-step}

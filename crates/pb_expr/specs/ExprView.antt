@@ -48,7 +48,3 @@ parts_view ms = parts_of (map (λ m. (m.0, expr_view m.1)) ms)
 abbrev pub field_in : List ℕ → Data → Option Data
 field_in n (rec fs) = field_value n fs
 field_in n d = None
-
-abbrev pub is_unreadable : Data → Bool
-is_unreadable opaque = true
-is_unreadable d = false

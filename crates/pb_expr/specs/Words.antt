@@ -1,4 +1,4 @@
 -- The words of this crate that the contracts of others cite, from one place.
-pub use Rattle.pb_expr.specs.ExprView.{expr_view, exprs_view, is_unreadable, parts_view}
+pub use Rattle.pb_expr.specs.ExprView.{expr_view, exprs_view, parts_view}
 pub use Rattle.pb_expr.specs.FitView.{fault_found, fault_view, own_scope}
 pub use Rattle.pb_expr.specs.OwnWorld.{own_world, shown}

@@ -6,7 +6,7 @@ ghost use Rattle.pb_language.specs.Words.{any_field_opaque, any_item_opaque};
 ghost use Rattle.pb_language.specs.Words.{holds_opaque as has_opaque};
 ghost use Rattle.pb_value.specs.Words.{fields_view, items_view, view};
 
-use pb_value::value::{Fields, Value};
+use pb_value::{Fields, Value};
 
 /// Whether two values are equal in structure; values of different sorts aren't.
 #[cycle(equal)]

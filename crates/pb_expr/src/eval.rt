@@ -3,17 +3,17 @@ ghost use Rattle.std.specs.Prelude.{◌≡◌, IfOk, MatchOption, false, is_some
 ghost use Rattle.std.specs.Prelude.{string_bytes, true};
 ghost use Rattle.pb_semantics.specs.Words.{boolean, field_value, is_part, list};
 ghost use Rattle.pb_language.specs.Words.{equal_values, eval as outcome_of, eval_all, eval_any};
-ghost use Rattle.pb_language.specs.Words.{eval_items, eval_parts, found, found_in, negated, read};
-ghost use Rattle.pb_language.specs.Words.{stuck, value, value_below, wrong_sort};
+ghost use Rattle.pb_language.specs.Words.{eval_items, eval_parts, found, found_in, is_unreadable};
+ghost use Rattle.pb_language.specs.Words.{negated, read, stuck, value, value_below, wrong_sort};
 ghost use Rattle.pb_value.specs.Words.{fields_view, items_view, view};
-ghost use Rattle.pb_expr.specs.ExprView.{expr_view, exprs_view, field_in, is_unreadable, names_of};
+ghost use Rattle.pb_expr.specs.ExprView.{expr_view, exprs_view, field_in, names_of};
 ghost use Rattle.pb_expr.specs.ExprView.{parts_view};
 ghost use Rattle.pb_expr.specs.OwnWorld.{shown};
 
 use crate::equal::{equal, has_item, holds_opaque, items_hold_opaque};
 use crate::expr::{Expr, Path};
 use crate::vars::Vars;
-use pb_value::value::{Fields, Value, field_of, put_field};
+use pb_value::{Fields, Value, field_of, put_field};
 use std::alloc::{AllocError, Global};
 use std::collections::BTreeMap;
 

@@ -1,5 +1,5 @@
 // The tree of an expression or a template.
-use pb_value::value::Value;
+use pb_value::Value;
 use std::collections::BTreeMap;
 
 /// A name, and the fields that are read below it.

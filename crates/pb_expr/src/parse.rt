@@ -21,7 +21,7 @@ ghost use Rattle.pb_expr.specs.Forms.{first_literal, opening_at, with_bytes};
 use crate::expr::{Expr, Path};
 use crate::fault::ExprFault;
 use crate::lexer::{Sort, Token, is_step, meaning_of, name_of, token_at};
-use pb_value::value::Value;
+use pb_value::Value;
 use std::alloc::{AllocError, Global};
 
 /// How deep parentheses and `not` may nest.

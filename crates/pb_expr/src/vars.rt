@@ -5,7 +5,7 @@ ghost use Rattle.pb_language.specs.Words.{World};
 ghost use Rattle.pb_value.specs.Words.{fields_view, view};
 ghost use Rattle.pb_expr.specs.OwnWorld.{own_world};
 
-use pb_value::value::{Fields, Value};
+use pb_value::{Fields, Value};
 
 /// What the names in an expression hold.
 pub trait Vars {

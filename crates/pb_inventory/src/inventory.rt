@@ -10,7 +10,7 @@ ghost use Rattle.pb_inventory.specs.Hosts.{is_lone, one_host};
 ghost use Rattle.pb_inventory.specs.Views.{group_view, host_view};
 
 use indexmap::IndexMap;
-use pb_value::value::Fields;
+use pb_value::Fields;
 use std::alloc::{AllocError, Global};
 use std::sync::Arc;
 

@@ -12,4 +12,4 @@ pub mod inventory;
 pub mod read;
 
 pub use inventory::Inventory;
-pub use read::InventoryFault;
+pub use read::{INVENTORY_LIMIT, InventoryFault};

@@ -9,8 +9,7 @@ ghost use Rattle.pb_inventory.specs.Hosts.{only_field, only_text, text_in};
 ghost use Rattle.pb_inventory.specs.Inventory.{inventory_view};
 
 use crate::inventory::Inventory;
-use pb_value::read::{JsonFault, read_json};
-use pb_value::value::{Value, field_of};
+use pb_value::{JsonFault, Value, field_of, read_json};
 use std::alloc::{AllocError, Global};
 use thiserror::Error;
 

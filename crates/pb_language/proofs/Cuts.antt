@@ -2,7 +2,7 @@
 use Rattle.std.proofs.Common.{◌≡◌, ◌≤◌, ◌-◌, ⊎_elim, ℕ, zero, suc, List, [], ◌∷◌, ◌++◌, Bool, true, false, not, ◌||◌, cond, length, refl, sym, ap, ◌∙◌, arith, true≢false, bytes_eq, unwrap_or}
 use Rattle.pb_semantics.specs.Keeps.{is_among}
 use Rattle.pb_semantics.specs.Below.{are_among}
-use Rattle.pb_semantics.proofs.Bools.{untrue, and-left, and-right, and-both, or-cases, not-true}
+use Rattle.pb_semantics.proofs.Bools.{untrue, and-left, and-right, and-both, or-cases, not-true, neither-left, neither-right, neither-both}
 use Rattle.pb_semantics.proofs.Names.{same_name, own_name}
 use Rattle.pb_semantics.proofs.Hosts.{own_among}
 use Rattle.pb_language.specs.Expression.{Name}
@@ -32,10 +32,6 @@ distinct_first h hs d = not-true (is_among h hs) (and-left (not (is_among h hs))
 distinct_rest : (h : Name) (hs : List Name) → are_distinct (h ∷ hs) ≡ true → are_distinct hs ≡ true
 distinct_rest h hs d = and-right (not (is_among h hs)) (are_distinct hs) d
 
-false_parts : (a b : Bool) → a || b ≡ false → (a ≡ false) × (b ≡ false)
-false_parts true b e = absurd (true≢false e)
-false_parts false b e = (refl, e)
-
 other_distinct : (k : ℕ) (hs : List Name) → are_distinct hs ≡ true → are_distinct (other_hosts k hs) ≡ true
 other_distinct zero hs d = d
 other_distinct (suc k) [] d = d
@@ -44,7 +40,7 @@ other_distinct (suc k) (h ∷ hs) d = other_distinct k hs (distinct_rest h hs d)
 -- of distinct hosts none is both among the first and among the others
 apart_step : (x h : Name) (k : ℕ) (hs : List Name) → is_among h hs ≡ false → (is_among x (first_hosts k hs) ≡ true → is_among x (other_hosts k hs) ≡ false) → bytes_eq x h || is_among x (first_hosts k hs) ≡ true → is_among x (other_hosts k hs) ≡ false
 apart_step x h k hs away f i =
-    ⊎_elim (λ e. rw (same_name x h e) (false_parts (is_among h (first_hosts k hs)) (is_among h (other_hosts k hs)) (sym (first_or_other h k hs) ∙ away)).1) (λ e. f e) (or-cases (bytes_eq x h) (is_among x (first_hosts k hs)) i)
+    ⊎_elim (λ e. rw (same_name x h e) (neither-right (is_among h (first_hosts k hs)) (is_among h (other_hosts k hs)) (sym (first_or_other h k hs) ∙ away))) (λ e. f e) (or-cases (bytes_eq x h) (is_among x (first_hosts k hs)) i)
 
 apart_hosts : (x : Name) (k : ℕ) (hs : List Name) → are_distinct hs ≡ true → is_among x (first_hosts k hs) ≡ true → is_among x (other_hosts k hs) ≡ false
 apart_hosts x zero hs d i = untrue i
@@ -123,10 +119,6 @@ last_among x (n ∷ ns) m = ap (λ q. bytes_eq x n || q) (last_among x ns m) ∙
     or_deep true b c = refl
     or_deep false b c = refl
 
-both_false : (a b : Bool) → a ≡ false → b ≡ false → a || b ≡ false
-both_false true b e i = absurd (true≢false e)
-both_false false b e i = i
-
 unlike : (q : Bool) (n m : Name) → bytes_eq n m ≡ q → bytes_eq m n ≡ false → q ≡ false
 unlike true n m e i = absurd (true≢false (sym (own_name n) ∙ (ap (λ z. bytes_eq z n) (same_name n m e) ∙ i)))
 unlike false n m e i = refl
@@ -134,9 +126,8 @@ unlike false n m e i = refl
 last_distinct : (ns : List Name) (m : Name) → are_distinct ns ≡ true → is_among m ns ≡ false → are_distinct (ns ++ m ∷ []) ≡ true
 last_distinct [] m d i = refl
 last_distinct (n ∷ ns) m d i =
-    let e = false_parts (bytes_eq m n) (is_among m ns) i in
-    and-both (not (is_among n (ns ++ m ∷ []))) (are_distinct (ns ++ m ∷ [])) (not-of (is_among n (ns ++ m ∷ [])) (last_among n ns m ∙ both_false (is_among n ns) (bytes_eq n m) (distinct_first n ns d) (unlike (bytes_eq n m) n m refl e.0)))
-    (last_distinct ns m (distinct_rest n ns d) e.1)
+    and-both (not (is_among n (ns ++ m ∷ []))) (are_distinct (ns ++ m ∷ [])) (not-of (is_among n (ns ++ m ∷ [])) (last_among n ns m ∙ neither-both (is_among n ns) (bytes_eq n m) (distinct_first n ns d) (unlike (bytes_eq n m) n m refl (neither-left (bytes_eq m n) (is_among m ns) i))))
+    (last_distinct ns m (distinct_rest n ns d) (neither-right (bytes_eq m n) (is_among m ns) i))
 
 added_distinct : (q : Bool) (ns : List Name) (m : Name) → is_among m ns ≡ q → are_distinct ns ≡ true → are_distinct (cond q ns (ns ++ m ∷ [])) ≡ true
 added_distinct true ns m e d = d

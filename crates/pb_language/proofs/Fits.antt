@@ -7,7 +7,7 @@ use Rattle.pb_semantics.specs.Equal.{data_eq, is_item}
 use Rattle.pb_semantics.specs.Fit.{holds_any}
 use Rattle.pb_semantics.specs.Render.{is_plain, rendered}
 use Rattle.pb_semantics.specs.Well.{Well}
-use Rattle.pb_semantics.proofs.Bools.{and-both, untrue, and-left, and-right, not-true}
+use Rattle.pb_semantics.proofs.Bools.{and-both, untrue, and-left, and-right, not-true, neither-both}
 use Rattle.pb_semantics.proofs.Kept.{nothing_keeps_never}
 use Rattle.pb_language.specs.Expression.{Name, Comparison, equal, less, at_most, more, at_least, Status, Term, named_host, this_host, item_host, group_member, Expression, literal, path, hostvars_alone, negation, conjunction, disjunction, comparison, membership, in_batch, defined, undefinable, path_status, value_status, path_or, value_or, length_of, joined_by, concatenation, list_of, record_of, Root, variable, alias, other, member, Expressions, no_expressions, expression, Parts, no_parts, part}
 use Rattle.pb_language.specs.World.{World, variables_of, member_of}
@@ -120,10 +120,6 @@ test_has : (q b : Bool) → q ≡ false → is_value (cond q (stuck wrong_sort) 
 test_has true b h = sym h
 test_has false b h = refl
 
-neither_opaque : (a b : Bool) → a ≡ false → b ≡ false → a || b ≡ false
-neither_opaque true b h i = h
-neither_opaque false b h i = i
-
 ordered_has : (f : ℤ → ℤ → Bool) (d e : Data) → keeps d ints ≡ true → keeps e ints ≡ true → is_value (ordered f d e) ≡ true
 ordered_has f (int y) (int z) h i = refl
 ordered_has f (int y) e h i = untrue i
@@ -135,7 +131,7 @@ ints_has f d e k m h i a = ordered_has f d e (an_int d k h (and-left (is_int k) 
 compared_has : (x : Comparison) (d e : Data) (k m : KindData) → keeps d k ≡ true → keeps e m ≡ true → can_compare x k m ≡ true → is_value (compared x d e) ≡ true
 compared_has equal d e k m h i a =
     test_has (holds_opaque d || holds_opaque e) (data_eq d e)
-    (neither_opaque (holds_opaque d) (holds_opaque e) (nothing_opaque d k h (neither_first (holds_any k) (holds_any m) a)) (nothing_opaque e m i (neither_second (holds_any k) (holds_any m) a)))
+    (neither-both (holds_opaque d) (holds_opaque e) (nothing_opaque d k h (neither_first (holds_any k) (holds_any m) a)) (nothing_opaque e m i (neither_second (holds_any k) (holds_any m) a)))
 compared_has less d e k m h i a = ints_has (λ y z. int_lt y z) d e k m h i a
 compared_has at_most d e k m h i a = ints_has (λ y z. int_le y z) d e k m h i a
 compared_has more d e k m h i a = ints_has (λ y z. int_lt z y) d e k m h i a
@@ -144,7 +140,7 @@ compared_has at_least d e k m h i a = ints_has (λ y z. int_le z y) d e k m h i 
 in_list : (d : Data) (es : Items) (k j : KindData) (n : ℕ) → keeps d k ≡ true → keeps (list es) (lists j n) ≡ true → not (holds_any k || holds_any j) ≡ true → is_value (found_in d (list es)) ≡ true
 in_list d es k j n h i a =
     test_has (holds_opaque d || any_item_opaque es) (is_item d es)
-    (neither_opaque (holds_opaque d) (any_item_opaque es) (nothing_opaque d k h (neither_first (holds_any k) (holds_any j) a)) (nothing_opaque (list es) (lists j n) i (neither_second (holds_any k) (holds_any j) a)))
+    (neither-both (holds_opaque d) (any_item_opaque es) (nothing_opaque d k h (neither_first (holds_any k) (holds_any j) a)) (nothing_opaque (list es) (lists j n) i (neither_second (holds_any k) (holds_any j) a)))
 
 in_text : (d e : Data) → keeps d texts ≡ true → keeps e texts ≡ true → is_value (found_in d e) ≡ true
 in_text (text s) (text t) h i = refl

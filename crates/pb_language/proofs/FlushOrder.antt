@@ -2,7 +2,7 @@
 use Rattle.std.proofs.Common.{◌≡◌, ◌<◌, ◌≤◌, ℕ, suc, nat_eq, nat_le, List, [], ◌∷◌, ◌++◌, Bool, true, false, not, cond, Some, None, refl, sym, ap, subst, ◌∙◌, arith}
 use Rattle.std.proofs.lemmas.Bool.{leb-false, leb-true, ne_eqb}
 use Rattle.std.proofs.lemmas.Option.{none-some}
-use Rattle.pb_semantics.proofs.Bools.{untrue, and-left, and-right, and-both}
+use Rattle.pb_semantics.proofs.Bools.{untrue, and-left, and-right, and-both, neither-left, neither-right, neither-both}
 use Rattle.pb_language.specs.Book.{HandlerData}
 use Rattle.pb_language.specs.FlushOrder.{Ran, Asks, all_asked, not_notified, it_runs, first_marked, Repeats, nobody_notified, first_runs, notify_later, are_numbered, AskingRepeats, RepeatingAsks, HandlersAreNumbered, OrderNotifiesLater, FlushAsks}
 use Rattle.pb_language.specs.Machine.{is_marked, unmarked}
@@ -11,7 +11,6 @@ use Rattle.pb_language.specs.Plays.{Surroundings, handlers_at}
 use Rattle.pb_language.specs.Rules.{any_up_to, any_notifies_up_to}
 use Rattle.pb_language.specs.Task.{Task, Handlers, no_handlers, handler}
 use Rattle.pb_language.proofs.Accepted.{same_place}
-use Rattle.pb_language.proofs.Opaque.{neither-left, neither-right, neither-both}
 use Rattle.pb_language.proofs.Same.{same_number}
 
 turned : (a : Bool) → not a ≡ true → a ≡ false

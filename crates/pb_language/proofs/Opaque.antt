@@ -1,27 +1,15 @@
 -- A value of a kind that holds nothing of every kind may be read throughout.
-use Rattle.std.proofs.Common.{◌≡◌, List, [], ◌∷◌, Bool, true, false, not, ◌&&◌, ◌||◌, cond, nat_le, bytes_eq, Option, Some, ⊎_elim, refl, sym, ◌∙◌}
+use Rattle.std.proofs.Common.{◌≡◌, List, [], ◌∷◌, Bool, true, false, not, ◌&&◌, cond, nat_le, bytes_eq, Option, Some, ⊎_elim, refl, sym, ◌∙◌}
 use Rattle.pb_semantics.specs.Data.{Data, Items, Fields, null, boolean, int, text, list, rec, no_items, item, no_fields, field, field_value, count_of}
 use Rattle.pb_semantics.specs.Kind.{KindData, Slots, Cases, Spot, lists, recs, results, anything, no_slots, slot, no_cases, one, nowhere, spot, slot_at}
 use Rattle.pb_semantics.specs.Keeps.{is_among, all_items, keeps, cases_kept, has_status, spot_ok}
 use Rattle.pb_semantics.specs.Fit.{holds_any, any_slot_holds, any_case_holds}
-use Rattle.pb_semantics.proofs.Bools.{untrue, and-left, and-right, or-cases}
+use Rattle.pb_semantics.proofs.Bools.{untrue, and-left, and-right, or-cases, neither-left, neither-right, neither-both}
 use Rattle.pb_semantics.proofs.Names.{own_name}
 use Rattle.pb_semantics.proofs.Slots.{Each, each_at}
 use Rattle.pb_language.specs.Expression.{Name}
 use Rattle.pb_language.specs.Evaluation.{holds_opaque, any_item_opaque, any_field_opaque}
 use Rattle.pb_language.proofs.WithSlot.{record_models}
-
-pub neither-left : (a b : Bool) → a || b ≡ false → a ≡ false
-neither-left true b h = h
-neither-left false b h = refl
-
-pub neither-right : (a b : Bool) → a || b ≡ false → b ≡ false
-neither-right true b h = untrue (sym h)
-neither-right false b h = h
-
-pub neither-both : (a b : Bool) → a ≡ false → b ≡ false → a || b ≡ false
-neither-both true b h i = h
-neither-both false b h i = i
 
 items_free : (f : Data → Bool) (ds : Items) → ((d : Data) → f d ≡ true → holds_opaque d ≡ false) → all_items f ds ≡ true → any_item_opaque ds ≡ false
 items_free f no_items g h = refl

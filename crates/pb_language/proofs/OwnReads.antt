@@ -2,7 +2,7 @@
 use Rattle.std.proofs.Common.{◌≡◌, ℕ, List, [], ◌∷◌, Bool, true, false, cond, Option, Some, None, codes, bytes_eq, refl, sym, ap, ◌∙◌}
 use Rattle.pb_semantics.specs.Data.{Data, Fields, rec, field, field_value}
 use Rattle.pb_semantics.specs.Keeps.{flag_is}
-use Rattle.pb_semantics.proofs.Bools.{untrue}
+use Rattle.pb_semantics.proofs.Bools.{untrue, neither-left, neither-right}
 use Rattle.pb_language.specs.Expression.{Name, Expression, literal, path, hostvars_alone, negation, conjunction, disjunction, comparison, membership, in_batch, defined, undefinable, path_status, value_status, path_or, value_or, length_of, joined_by, concatenation, list_of, record_of, Root, variable, alias, other, member, Expressions, no_expressions, expression, Parts, no_parts, part}
 use Rattle.pb_language.specs.World.{World, member_of}
 use Rattle.pb_language.specs.Evaluation.{stuck, wrong_sort, then_go, found, readable, member_text, read, is_there, or_else, negated, and_then, or_then, compared, found_in, status_of, counted, plain_text, with_text, joined, put_item, put_part, given, eval, look, eval_all, eval_any, eval_text, eval_items, eval_parts}
@@ -13,7 +13,6 @@ use Rattle.pb_language.specs.Program.{Inventory, Batch, setting_of}
 use Rattle.pb_language.specs.Rules.{reads_others, root_reads_others, any_reads_others, part_reads_others}
 use Rattle.pb_language.specs.Setting.{named_fields, with_local}
 use Rattle.pb_language.specs.Task.{Task}
-use Rattle.pb_language.proofs.Opaque.{neither-left, neither-right}
 
 module _ (w v : World) (m : SameAlone w v) where
   mutual

@@ -3,7 +3,7 @@ use Rattle.std.proofs.Common.{◌≡◌, ◌+◌, ◌++◌, ℕ, suc, List, [], 
 use Rattle.std.proofs.lemmas.Bool.Decides.{nat_tests}
 use Rattle.std.proofs.lemmas.List.{append-nil}
 use Rattle.pb_semantics.specs.Keeps.{is_among}
-use Rattle.pb_semantics.proofs.Bools.{untrue, and-left, and-right, and-both, not-true}
+use Rattle.pb_semantics.proofs.Bools.{untrue, and-left, and-right, and-both, not-true, neither-left}
 use Rattle.pb_language.specs.Expression.{Name, equal, Expression, literal, path, negation, conjunction, disjunction, comparison, membership, list_of, record_of, variable, Expressions, no_expressions, expression, Parts, no_parts, part}
 use Rattle.pb_language.specs.Expansion.{expanded, trees}
 use Rattle.pb_language.specs.Simple.{shared_names, is_simple, are_simple, parts_simple}
@@ -20,10 +20,7 @@ use Rattle.pb_language.proofs.PlainRows.{simple_expanded}
 
 -- a simple expression names no host and no group
 is_no_group : (n : Name) → is_among n shared_names ≡ false → bytes_eq n (codes "groups") ≡ false
-is_no_group n i = first_false (bytes_eq n (codes "groups")) _ i where
-  first_false : (a b : Bool) → a || b ≡ false → a ≡ false
-  first_false true b h = h
-  first_false false b h = refl
+is_no_group n i = neither-left (bytes_eq n (codes "groups")) _ i
 
 mutual
   simple_known : (v : Inventory) (e : Expression) → is_simple e ≡ true → names_known v e ≡ true

@@ -1,6 +1,6 @@
 -- What the rules that need no flow say of the rows of an accepted book.
 use Rattle.std.proofs.Common.{◌≡◌, ◌+◌, ℕ, suc, List, [], ◌∷◌, ◌++◌, Bool, true, false, not, ◌&&◌, ◌||◌, cond, Option, Some, None, length, refl, ap, ◌∙◌, true≢false}
-use Rattle.pb_semantics.proofs.Bools.{and-both}
+use Rattle.pb_semantics.proofs.Bools.{and-both, neither-left, neither-right, neither-both}
 use Rattle.pb_language.specs.Expression.{Name, Expression, Expressions, no_expressions, expression}
 use Rattle.pb_language.specs.Expansion.{expanded, all_expanded, trees}
 use Rattle.pb_language.specs.Notify.{HandlerNames}
@@ -16,7 +16,6 @@ use Rattle.pb_language.specs.OwnReads.{keyword_reads_others}
 use Rattle.pb_language.specs.FlushOrder.{are_numbered}
 use Rattle.pb_language.proofs.Accepted.{earlier_none}
 use Rattle.pb_language.proofs.FlushOrder.{numbered_from}
-use Rattle.pb_language.proofs.Opaque.{neither-left, neither-right, neither-both}
 
 -- no line breaks a rule
 abbrev AllSites : (Site → Type 0) → List Site → Type 0

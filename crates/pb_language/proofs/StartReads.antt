@@ -1,7 +1,7 @@
 -- In a run of an accepted book what a Give evaluates is the same in the world of the Start.
 use Rattle.std.proofs.Common.{◌≡◌, ⊎_elim, ℕ, zero, suc, nat_eq, List, [], ◌∷◌, ◌++◌, Bool, true, false, not, ◌&&◌, ◌||◌, cond, Option, Some, None, refl, sym, ap, subst, ◌∙◌, true≢false}
 use Rattle.pb_semantics.specs.Keeps.{is_among}
-use Rattle.pb_semantics.proofs.Bools.{untrue, and-left, and-right, and-both, not-true}
+use Rattle.pb_semantics.proofs.Bools.{untrue, and-left, and-right, and-both, not-true, neither-left, neither-right}
 use Rattle.pb_language.specs.Expression.{Name}
 use Rattle.pb_language.specs.World.{HostVariables}
 use Rattle.pb_language.specs.Task.{Task, Handlers, no_handlers, handler, Row, end, task, flush, block}
@@ -13,7 +13,6 @@ use Rattle.pb_language.specs.Plays.{program_of}
 use Rattle.pb_language.specs.Program.{Inventory, Play, Program, Batch, batches_of, all_batches}
 use Rattle.pb_language.specs.OwnReads.{keyword_reads_others, gives_none, with_job, GivesReadTheirStart}
 use Rattle.pb_language.specs.Machine.{Event, start, give, turn, stop, over, gone, begins, Stage, waits, runs, Host, State, is_marked, unmarked, outermost, innermost, settled, is_on, world_of, host_at, put_host, can_start, is_idle, of_host, is_possible, enabled, stuck_state, on_plan, on_start, notified_by, after_task, way_on, on_notified, on_results, on_admitted, on_give, any_names, still_active, with_batches, on_host, happened, step, empty_recap, opening_hosts, opening, run_from}
-use Rattle.pb_language.proofs.Opaque.{neither-left, neither-right}
 use Rattle.pb_language.proofs.OwnReads.{same_results, same_at_give}
 use Rattle.pb_language.proofs.Planned.{start_hands_out}
 use Rattle.pb_language.proofs.Ruled.{row_has, program_has, handlers_have, reads_alone, program_alone}

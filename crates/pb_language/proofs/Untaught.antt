@@ -1,9 +1,9 @@
 -- What is known stays as it is after an expression that teaches nothing.
 use Rattle.std.proofs.Common.{◌≡◌, Bool, true, false, not, refl, ap, ◌∙◌}
+use Rattle.pb_semantics.proofs.Bools.{neither-left, neither-right}
 use Rattle.pb_language.specs.Expression.{Expression, negation, conjunction, disjunction, in_batch, defined, path_status, Expressions, no_expressions, expression}
 use Rattle.pb_language.specs.Scope.{Scope}
 use Rattle.pb_language.specs.Narrow.{teaches, any_teaches, where_taught, narrow, narrow_each, narrow_some}
-use Rattle.pb_language.proofs.Opaque.{neither-left, neither-right}
 
 where_untaught : (q : Bool) (c d : Scope) → q ≡ false → where_taught q d c ≡ c
 where_untaught true c d h = absurd (cc h)

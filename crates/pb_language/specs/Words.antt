@@ -3,6 +3,7 @@ pub use Rattle.pb_language.specs.Book.{Registry, set_fact_work}
 pub use Rattle.pb_language.specs.Builtins.{command, ping}
 pub use Rattle.pb_language.specs.Cases.{changed_slots, ended_kind, failure_case, is_conditional}
 pub use Rattle.pb_language.specs.Cases.{parts_set, set_spot, skipped_slots}
+pub use Rattle.pb_language.specs.Evaluates.{is_unreadable}
 pub use Rattle.pb_language.specs.Evaluation.{any_field_opaque, any_item_opaque, equal_values, eval}
 pub use Rattle.pb_language.specs.Evaluation.{eval_all, eval_any, eval_items, eval_parts, found}
 pub use Rattle.pb_language.specs.Evaluation.{found_in, holds_opaque, negated, read, stuck, value}

@@ -28,6 +28,18 @@ pub or-cases : (a b : Bool) → a || b ≡ true → (a ≡ true) ⊎ (b ≡ true
 or-cases true b h = inl refl
 or-cases false b h = inr h
 
+pub neither-left : (a b : Bool) → a || b ≡ false → a ≡ false
+neither-left true b h = h
+neither-left false b h = refl
+
+pub neither-right : (a b : Bool) → a || b ≡ false → b ≡ false
+neither-right true b h = untrue (sym h)
+neither-right false b h = h
+
+pub neither-both : (a b : Bool) → a ≡ false → b ≡ false → a || b ≡ false
+neither-both true b h i = h
+neither-both false b h i = i
+
 pub not-true : (a : Bool) → not a ≡ true → a ≡ false
 not-true true h = untrue h
 not-true false h = refl

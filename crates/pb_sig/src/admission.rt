@@ -6,9 +6,8 @@ ghost use Rattle.pb_value.specs.Words.{fields_view, kind_view, view};
 ghost use Rattle.pb_sig.specs.AdmissionView.{admission_view};
 
 use crate::signature::Module;
-use pb_value::kind::Kind;
 use pb_value::project::project;
-use pb_value::value::{Fields, Value, field_of, own_fields, put_field};
+use pb_value::{Fields, Kind, Value, field_of, own_fields, put_field};
 use std::alloc::{AllocError, Global};
 use std::sync::Arc;
 

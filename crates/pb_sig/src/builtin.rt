@@ -7,7 +7,7 @@ ghost use Rattle.pb_sig.specs.Views.{parameter_view};
 
 use crate::rows::{lines, may, must, parameters_of, shape_of};
 use crate::signature::{Module, Parameter, shared_name};
-use pb_value::kind::Kind;
+use pb_value::Kind;
 use std::alloc::{AllocError, Global};
 use std::sync::Arc;
 

@@ -21,4 +21,4 @@ pub use admission::{Admission, admit};
 pub use builtin::Builtin;
 pub use registry::Registry;
 pub use results::Results;
-pub use signature::{Module, Parameter};
+pub use signature::{Module, Parameter, SIGNATURES_LIMIT};

@@ -9,7 +9,7 @@ ghost use Rattle.pb_sig.specs.Results.{result_cases, result_kind};
 use crate::rows::{must, shape_of};
 use crate::signature::shared_name;
 use pb_value::join::join;
-use pb_value::kind::{Case, Kind, Shape, Slot, Slots, put_slot};
+use pb_value::{Case, Kind, Shape, Slot, Slots, put_slot};
 use std::alloc::{AllocError, Global};
 use std::sync::Arc;
 

@@ -6,7 +6,7 @@ ghost use Rattle.pb_sig.specs.Views.{parameter_view};
 ghost use Rattle.pb_sig.specs.Rows.{row_parameter, with_rows};
 
 use crate::signature::Parameter;
-use pb_value::kind::{Kind, Presence, Slot, Slots, put_slot};
+use pb_value::{Kind, Presence, Slot, Slots, put_slot};
 use std::alloc::{AllocError, Global};
 use std::sync::Arc;
 

@@ -3,7 +3,7 @@ ghost use Rattle.std.specs.Prelude.{◌≡◌, IfOk, map, option_map, string_byt
 ghost use Rattle.pb_semantics.specs.Words.{ModuleData, is_failure_shape, is_shape};
 ghost use Rattle.pb_value.specs.Words.{kind_view};
 
-use pb_value::kind::Kind;
+use pb_value::Kind;
 use std::alloc::{AllocError, Global};
 use std::sync::Arc;
 

@@ -1,5 +1,5 @@
 // What a module answers to a call.
-use pb_value::value::Value;
+use pb_value::Value;
 use std::sync::Arc;
 
 /// Why a call has no answer that can be read.

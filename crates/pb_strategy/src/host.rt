@@ -13,9 +13,9 @@ ghost use Rattle.pb_strategy.specs.Recaps.{Counts, counted, nothing};
 
 use crate::recap::{Ending, Recap};
 use indexmap::IndexMap;
-use pb_expr::vars::Vars;
-use pb_inventory::inventory::Inventory;
-use pb_value::value::{Fields, Value};
+use pb_expr::Vars;
+use pb_inventory::Inventory;
+use pb_value::{Fields, Value};
 use std::alloc::{AllocError, Global};
 use std::sync::Arc;
 

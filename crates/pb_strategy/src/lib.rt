@@ -23,4 +23,4 @@ pub use drive::Runner;
 pub use event::{Event, GiveError, Given, Taken};
 pub use recap::Recap;
 pub use run::{Run, replay};
-pub use script::{ScriptFault, ScriptRunner};
+pub use script::{ANSWERS_LIMIT, ScriptFault, ScriptRunner};

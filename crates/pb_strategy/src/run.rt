@@ -34,8 +34,8 @@ use crate::event::{Event, GiveError, Given, Taken};
 use crate::host::{HostState, Pending, Stage};
 use crate::outcome::{FixedResults, Outcome, Started, finish, start};
 use crate::recap::Recap;
-use pb_book::book::Task;
-use pb_verify::checked::Checked;
+use pb_book::Task;
+use pb_verify::Checked;
 use std::alloc::{AllocError, Global};
 use std::marker::Model;
 

@@ -11,8 +11,7 @@ ghost use Rattle.pb_strategy.specs.Scripts.{says_unreachable, script_fault, scri
 
 use crate::answer::{Answer, Call, Why};
 use crate::drive::Runner;
-use pb_value::read::{JsonFault, read_json};
-use pb_value::value::{Fields, Value, field_of};
+use pb_value::{Fields, JsonFault, Value, field_of, read_json};
 use std::alloc::{AllocError, Global};
 use std::sync::Arc;
 use thiserror::Error;

@@ -1,9 +1,6 @@
 // Answers that are admitted, dropped fields, and breaches.
-use pb_sig::admission::{Admission, admit};
-use pb_sig::registry::Registry;
-use pb_sig::signature::Module;
-use pb_value::read::read_json;
-use pb_value::value::{Fields, Value};
+use pb_sig::{Admission, Module, Registry, admit};
+use pb_value::{Fields, Value, read_json};
 use std::alloc::Global;
 use std::test::Fail;
 

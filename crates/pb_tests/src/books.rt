@@ -1,9 +1,8 @@
 // Texts that are a book, and texts that aren't.
-use pb_book::book::{Book, Play, Task, Work};
-use pb_book::fault::BookFault;
-use pb_expr::expr::Expr;
-use pb_sig::registry::Registry;
-use pb_value::value::Value;
+use pb_book::{Book, BookFault, Play, Task, Work};
+use pb_expr::Expr;
+use pb_sig::Registry;
+use pb_value::Value;
 use std::alloc::Global;
 use std::test::Fail;
 

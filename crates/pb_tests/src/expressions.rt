@@ -1,10 +1,7 @@
 // What texts are read as, and what they are worth.
 use pb_expr::eval::eval;
-use pb_expr::expr::Expr;
-use pb_expr::fault::ExprFault;
-use pb_expr::parse::{parse_expr, parse_template};
-use pb_value::read::read_json;
-use pb_value::value::{Fields, Value};
+use pb_expr::{Expr, ExprFault, parse_expr, parse_template};
+use pb_value::{Fields, Value, read_json};
 use std::alloc::{AllocError, Global};
 use std::test::Fail;
 

@@ -1,6 +1,5 @@
 // Texts that are an inventory, and texts that aren't.
-use pb_inventory::inventory::Inventory;
-use pb_inventory::read::InventoryFault;
+use pb_inventory::{Inventory, InventoryFault};
 use std::alloc::Global;
 use std::test::Fail;
 

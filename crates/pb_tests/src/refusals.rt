@@ -2,11 +2,9 @@
 // nothing, and the same call made again is done. tests/refused_checks.py refuses each allocation in
 // turn.
 use crate::runs::{ONE_PING, PONG, accepted, job_of, told};
-use pb_strategy::answer::{Answer, Job};
-use pb_strategy::event::{Event, GiveError, Taken};
-use pb_strategy::run::Run;
-use pb_value::read::read_json;
-use pb_verify::checked::Checked;
+use pb_strategy::{Answer, Event, GiveError, Job, Run, Taken};
+use pb_value::read_json;
+use pb_verify::Checked;
 use std::alloc::Global;
 use std::test::Fail;
 

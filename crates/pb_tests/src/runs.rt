@@ -1,14 +1,11 @@
 // Runs of one task, taken and given by hand.
-use pb_book::book::Book;
-use pb_inventory::inventory::Inventory;
-use pb_sig::registry::Registry;
-use pb_strategy::answer::{Answer, Job};
+use pb_book::Book;
+use pb_inventory::Inventory;
+use pb_sig::Registry;
 use pb_strategy::drive::drive;
-use pb_strategy::event::{Event, GiveError, Given, Taken};
-use pb_strategy::run::{Run, replay};
-use pb_strategy::script::ScriptRunner;
-use pb_value::read::read_json;
-use pb_verify::checked::Checked;
+use pb_strategy::{Answer, Event, GiveError, Given, Job, Run, ScriptRunner, Taken, replay};
+use pb_value::read_json;
+use pb_verify::Checked;
 use pb_verify::verify::verify;
 use std::alloc::Global;
 use std::test::Fail;

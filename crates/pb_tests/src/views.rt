@@ -1,7 +1,7 @@
 // What is known of the variables of an accepted book.
 use crate::runs::accepted;
-use pb_value::kind::Kind;
-use pb_verify::checked::Checked;
+use pb_value::Kind;
+use pb_verify::Checked;
 use std::test::Fail;
 
 const WRITES: &[u8] =

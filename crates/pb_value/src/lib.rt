@@ -21,4 +21,4 @@ pub mod value;
 pub use join::join_slots;
 pub use kind::{Case, Kind, Presence, Shape, Slot, Slots, put_slot};
 pub use read::{JsonFault, read_json};
-pub use value::{Fields, Value, field_of, put_field};
+pub use value::{Fields, Value, field_of, own_fields, own_items, put_field};

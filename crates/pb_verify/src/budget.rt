@@ -3,7 +3,7 @@ ghost use Rattle.std.specs.Prelude.{◌≡◌, ◌≤◌, length};
 ghost use Rattle.pb_language.specs.Words.{plain_calls, work_calls};
 ghost use Rattle.pb_book.specs.Words.{plain_task, plain_tasks};
 
-use pb_book::book::{Task, Work};
+use pb_book::{Task, Work};
 
 /// A call for each task of a module.
 pub fn calls_in(tasks: &[Task]) -> u64

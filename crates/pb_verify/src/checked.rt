@@ -1,11 +1,11 @@
 // A book that was accepted, with its inventory and modules.
 ghost use Rattle.std.specs.Prelude.{◌≡◌, IfOk};
 
-use pb_book::book::Book;
-use pb_inventory::inventory::Inventory;
-use pb_sig::registry::Registry;
+use pb_book::Book;
+use pb_inventory::Inventory;
+use pb_sig::Registry;
 use pb_value::below::find;
-use pb_value::kind::{Kind, Slots};
+use pb_value::{Kind, Slots};
 use std::alloc::{AllocError, Global};
 use std::marker::Model;
 use std::sync::Arc;

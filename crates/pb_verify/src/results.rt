@@ -11,13 +11,11 @@ ghost use Rattle.pb_verify.specs.ResultTables.{module_result};
 ghost use Rattle.pb_verify.specs.Way.{failed_result as result_of_failure, work_result};
 ghost use Rattle.pb_verify.specs.Way.{written_result};
 
-use pb_book::book::Work;
-use pb_sig::builtin::Builtin;
-use pb_sig::registry::Registry;
-use pb_sig::results::{Results, failed_kind};
-use pb_sig::signature::Module;
+use pb_book::Work;
+use pb_sig::results::failed_kind;
+use pb_sig::{Builtin, Module, Registry, Results};
 use pb_value::join::join;
-use pb_value::kind::{Kind, Slot, Slots, put_slot};
+use pb_value::{Kind, Slot, Slots, put_slot};
 use std::alloc::{AllocError, Global};
 use std::sync::Arc;
 

@@ -12,10 +12,8 @@ ghost use Rattle.pb_book.specs.Words.{are_known, argument_parts, is_known, plain
 ghost use Rattle.pb_verify.specs.Meaning.{refusal_of};
 
 use crate::refusal::{Code, Refusal};
-use pb_book::book::{Argument, Task, Work};
-use pb_book::task::is_variable;
-use pb_sig::registry::Registry;
-use pb_sig::signature::{Module, Parameter};
+use pb_book::{Argument, Task, Work, is_variable};
+use pb_sig::{Module, Parameter, Registry};
 
 /// The names that no task may register or set.
 const RESERVED: [&str; 27] = [

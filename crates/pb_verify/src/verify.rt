@@ -21,11 +21,11 @@ use crate::checked::{Accepted, Checked};
 use crate::refusal::{Code, Refusal};
 use crate::rules::first_offence;
 use crate::walk::{FaultAt, Followed, follow, opening};
-use pb_book::book::{Book, Play, Task};
-use pb_expr::fit::Unfit;
-use pb_inventory::inventory::Inventory;
-use pb_sig::registry::Registry;
-use pb_value::kind::Slots;
+use pb_book::{Book, Play, Task};
+use pb_expr::Unfit;
+use pb_inventory::Inventory;
+use pb_sig::Registry;
+use pb_value::Slots;
 use std::alloc::{AllocError, AllocFailed, Global};
 
 /// Why there is no accepted book.

@@ -24,14 +24,12 @@ ghost use Rattle.pb_verify.specs.Way.{own_fault, own_sets, put_spot, register_jo
 ghost use Rattle.pb_verify.specs.Way.{sets_of, work_result, written_after, written_result};
 
 use crate::results::ResultTable;
-use pb_book::book::{Argument, Task, Work};
-use pb_expr::expr::Expr;
-use pb_expr::fit::{KindFault, Unfit, kind_of};
-use pb_sig::registry::Registry;
-use pb_sig::signature::{Module, Parameter};
+use pb_book::{Argument, Task, Work};
+use pb_expr::{Expr, KindFault, Unfit, kind_of};
+use pb_sig::{Module, Parameter, Registry};
 use pb_value::below::{below, find};
 use pb_value::join::join;
-use pb_value::kind::{Kind, Slot, Slots, put_slot};
+use pb_value::{Kind, Slot, Slots, put_slot};
 use std::alloc::{AllocError, Global};
 use std::collections::BTreeSet;
 use std::sync::Arc;

@@ -1,5 +1,6 @@
 -- A name that isn't reserved is written in what is known and in the environment of the place alike.
 use Rattle.std.proofs.Common.{◌≡◌, [], ◌∷◌, Bool, true, false, ◌||◌, cond, bytes_eq, codes, refl, sym, ap, ◌∙◌, subst}
+use Rattle.pb_semantics.proofs.Bools.{neither-left, neither-right}
 use Rattle.pb_semantics.specs.Kind.{Slots, Spot, texts, hosts, lists, recs, nowhere, spot, slot_at}
 use Rattle.pb_semantics.specs.Keeps.{is_among}
 use Rattle.pb_semantics.proofs.Names.{same_name}
@@ -12,7 +13,6 @@ use Rattle.pb_language.specs.Scope.{Scope, with_spot}
 use Rattle.pb_language.specs.Setting.{group_slots, named_slots}
 use Rattle.pb_language.specs.Simple.{shared_names}
 use Rattle.pb_language.specs.plain.Pass.{lone_setting}
-use Rattle.pb_language.proofs.Opaque.{neither-left, neither-right}
 use Rattle.pb_language.proofs.WithSlot.{at_with}
 use Rattle.pb_verify.specs.Way.{Stands, put_spot, all_set}
 

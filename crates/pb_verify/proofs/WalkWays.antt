@@ -3,7 +3,7 @@ use Rattle.std.proofs.Common.{◌≡◌, ℕ, ◌++◌, Bool, true, false, not, 
 use Rattle.pb_semantics.specs.Kind.{KindData, Slots, no_cases, one, recs, spot, skipped_shape}
 use Rattle.pb_semantics.specs.Keeps.{is_among}
 use Rattle.pb_semantics.specs.Join.{append_cases}
-use Rattle.pb_semantics.proofs.Bools.{untrue, and-left, and-right, not-true}
+use Rattle.pb_semantics.proofs.Bools.{untrue, and-left, and-right, not-true, neither-left, neither-right}
 use Rattle.pb_language.specs.Book.{Work, module_work, debug_work, set_fact_work, Registry}
 use Rattle.pb_language.specs.Cases.{is_conditional, is_setup, is_lawful_shape, skipped_slots, action_name, action_sets, answered_cases, with_sets, with_register}
 use Rattle.pb_language.specs.Expression.{Name}
@@ -17,7 +17,6 @@ use Rattle.pb_language.specs.Simple.{are_simple}
 use Rattle.pb_language.specs.Task.{Task}
 use Rattle.pb_language.specs.plain.Books.{PlainTask, task_data, is_plain_work, is_plain_task}
 use Rattle.pb_language.specs.plain.Pass.{plain_action, plain_run, lone_setting}
-use Rattle.pb_language.proofs.Opaque.{neither-left, neither-right}
 use Rattle.pb_language.proofs.PlainFlow.{work_fault_same, work_sets_same}
 use Rattle.pb_language.proofs.SameOwn.{SameOwn, any_untaught, same_conditions}
 use Rattle.pb_language.proofs.Untaught.{narrow_each_untaught}

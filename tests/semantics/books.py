@@ -173,7 +173,7 @@ def play_term(play, lines):
         f"vars = {pairs(play.get('vars', {}))}; is_linear = {str(play.get('strategy') != 'free').lower()}; "
         f"serial = {listed([cut_term(c) for c in (serial if isinstance(serial, list) else [serial])])}; "
         f"pre_tasks = {sections['pre_tasks']}; tasks = {sections['tasks']}; post_tasks = {sections['post_tasks']}; "
-        f"handlers = {listed(handlers)} }}"
+        f"handlers = {listed(handlers)}; forces = {str(play.get('force_handlers', False)).lower()} }}"
     )
 
 

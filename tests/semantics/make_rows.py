@@ -66,14 +66,6 @@ def row(case):
     return f"-- {name}: {note}\n{given}{name} : recaps_of {program} ≡ {recaps}\nunfolding digits\n{name} = refl\n"
 
 
-def is_judged(case):
-    """Whether the definitions speak of the case: of its verdict or its run, and not of how its bytes are read."""
-    lines = case["expected_stdout"].splitlines()
-    if "before_until" in case or not lines or not all(isinstance(case[k], str) for k in ("book", "inventory")):
-        return False
-    return re.match(r"accepted|refused V|\S+ : ok=", lines[0]) is not None
-
-
 def cases_in(folder):
     for path in sorted(Path(folder).glob("*.jsonl")):
         for line in path.read_text().splitlines():

@@ -13,7 +13,7 @@ use Rattle.pb_language.specs.Expression.{Name, Parts, no_parts, part}
 use Rattle.pb_language.specs.World.{HostVariables}
 use Rattle.pb_language.specs.Scope.{Scope, spot_kind, is_certain, with_slot, with_spot, Since, no_since, since, every_name, View, Later, later_of}
 use Rattle.pb_language.specs.Kinds.{known_slots}
-use Rattle.pb_language.specs.Task.{Action, call_of, debug, set_fact, assertion, failure_of, Task, Handlers, no_handlers, handler, Row, end, task, flush, block}
+use Rattle.pb_language.specs.Task.{Action, call_of, debug, set_fact, assertion, failure_of, Task, Handlers, no_handlers, handler, Row, end, task, flush, section, block}
 use Rattle.pb_language.specs.Cases.{Sets, no_sets, sets, parts_set, action_sets, set_spot, with_sets, with_register, going_cases, failing_cases}
 use Rattle.pb_language.specs.Setting.{Setting, action_scope}
 use Rattle.pb_language.specs.Judgement.{Exit, dead, live, live_if, has_case, has_going, task_kind, task_sets, going_slots, failing_slots}
@@ -188,7 +188,7 @@ module _ (st su : Setting) where
       let k = flush_walk st hs (meet e (going_from st t e)) in
       let l = flush_walk su hs (meet f (going_from su t f)) in
       let r = flush_twin hs (meet e (going_from st t e)) (meet f (going_from su t f)) (twin_meet e f (going_from st t e) (going_from su t f) w (going_twin t e f w)) in
-      (twin_both (visits_at st t e) (visits_at su t f) k.visits l.visits (here_twin t e f w) r.0, r.1, twin_meet (failing_from st t e) (failing_from su t f) k.hurt l.hurt (failing_twin t e f w) r.2)
+      (twin_both (visits_at st t e) (visits_at su t f) k.visits l.visits (here_twin t e f w) r.0, r.1, r.2)
 
   always_twin : (x y g h i j k l : Exit) → TwinExit x y → TwinExit g h → TwinExit i j → TwinExit k l → TwinExit (meet x (meet g (meet i k))) (meet y (meet h (meet j l)))
   always_twin x y g h i j k l a b c d = twin_meet x y (meet g (meet i k)) (meet h (meet j l)) a (twin_meet g h (meet i k) (meet j l) b (twin_meet i j k l c d))
@@ -207,7 +207,23 @@ module _ (st su : Setting) where
       let l = walk su row y.well in
       let a = flush_twin hs e f w in
       let r = walk_twin row x.well y.well a.1 in
-      (twin_both x.visits y.visits k.visits l.visits a.0 r.0, r.1, twin_meet x.hurt y.hurt k.hurt l.hurt a.2 r.2)
+      (twin_both x.visits y.visits k.visits l.visits a.0 r.0, r.1, r.2)
+  walk_twin (section body hs row) e f w =
+      let x = walk st body e in
+      let x' = walk su body f in
+      let g = flush_walk st hs x.well in
+      let g' = flush_walk su hs x'.well in
+      let h = flush_walk st hs x.hurt in
+      let h' = flush_walk su hs x'.hurt in
+      let k = walk st row g.well in
+      let k' = walk su row g'.well in
+      let wx = walk_twin body e f w in
+      let wg = flush_twin hs x.well x'.well wx.1 in
+      let wh = flush_twin hs x.hurt x'.hurt wx.2 in
+      let wk = walk_twin row g.well g'.well wg.1 in
+      let vk = twin_both h.visits h'.visits k.visits k'.visits wh.0 wk.0 in
+      let vg = twin_both g.visits g'.visits (h.visits ++ k.visits) (h'.visits ++ k'.visits) wg.0 vk in
+      (twin_both x.visits x'.visits (g.visits ++ (h.visits ++ k.visits)) (g'.visits ++ (h'.visits ++ k'.visits)) wx.0 vg, wk.1, wk.2)
   walk_twin (block d body true rescued always row) e f w =
       let x = walk st body e in
       let x' = walk su body f in

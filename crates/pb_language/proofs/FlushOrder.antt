@@ -155,4 +155,4 @@ order_notifies_later i hs (n ∷ ns) ms h e =
     (λ ks j. order_notifies_later i hs ns ks (neither-right (any_up_to i (notified 0 n hs)) (any_notifies_up_to i hs ns) h) j) e
 
 pub flush_asks : FlushAsks
-flush_asks h n t hs well hurt = refl
+flush_asks h n t hs well = refl

@@ -7,7 +7,7 @@ use Rattle.pb_language.specs.Notify.{HandlerNames, handlers_are}
 use Rattle.pb_language.specs.Plays.{program_of}
 use Rattle.pb_language.specs.Program.{Play, Program}
 use Rattle.pb_language.specs.Rules.{any_up_to, any_notifies_up_to}
-use Rattle.pb_language.specs.Task.{Task, Handlers, no_handlers, handler, Row, end, task, flush, block}
+use Rattle.pb_language.specs.Task.{Task, Handlers, no_handlers, handler, Row, end, task, flush, section, block}
 use Rattle.pb_language.proofs.FlushOrder.{asking_repeats, repeating_asks, order_notifies_later}
 use Rattle.pb_language.proofs.Ruled.{row_has, program_has, notify_on, in_order, program_in_order}
 use Rattle.pb_language.proofs.Same.{same_number}
@@ -50,6 +50,12 @@ row_repeats p (task t row) h = row_repeats p row h
 row_repeats p (flush hs row) h =
     let rest = row_has (λ t. true) (in_order p.handlers) row in
     (flush_repeats p hs (and-left (in_order p.handlers hs) rest h), row_repeats p row (and-right (in_order p.handlers hs) rest h))
+row_repeats p (section body hs row) h =
+    let has = row_has (λ t. true) (in_order p.handlers) in
+    let rest = and-right (has body) (in_order p.handlers hs && has row) h in (
+      row_repeats p body (and-left (has body) (in_order p.handlers hs && has row) h),
+      (flush_repeats p hs (and-left (in_order p.handlers hs) (has row) rest), row_repeats p row (and-right (in_order p.handlers hs) (has row) rest)),
+    )
 row_repeats p (block d body saves rescued always row) h =
     let has = row_has (λ t. true) (in_order p.handlers) in
     let first = and-right (has body) (has rescued && (has always && has row)) h in

@@ -1,11 +1,11 @@
 -- An assignment of numbers that covers the edges is a tree of values that does.
 use Rattle.std.proofs.Common.{ℕ, suc, ◌+◌, List, [], ◌∷◌, ◌++◌, Bool, true, false}
-use Rattle.pb_language.specs.Task.{Task, Handlers, no_handlers, handler, Row, end, task, flush, block}
+use Rattle.pb_language.specs.Task.{Task, Handlers, no_handlers, handler, Row, end, task, flush, section, block}
 use Rattle.pb_language.specs.Setting.{Setting}
 use Rattle.pb_language.specs.Judgement.{Exit}
 use Rattle.pb_language.specs.Walk.{going_from, failing_from}
 use Rattle.pb_language.specs.Ordered.{ExitLe}
-use Rattle.pb_language.specs.Nodes.{FlushEnters, Enters, Saved, FlushInner, Inner}
+use Rattle.pb_language.specs.Nodes.{FlushEnters, Enters, Saved, FlushInner, Inner, Leaves}
 use Rattle.pb_language.specs.Links.{Link, size, flush_entry, entry, links_to, flush_links, saved_entry, links, flush_at, values_at, passed, LinksHold, Into}
 use Rattle.pb_language.specs.Theorem.{handler_places}
 
@@ -27,6 +27,11 @@ module _ (st : Setting) (val : ℕ → Exit) where
   into_row (task t row) o ws after g e x = x.0
   into_row (flush hs row) o ws after g e x =
       into_flush hs o (entry row (o + handler_places hs) ws) (Enters row (values_at val row (o + handler_places hs)) after) (λ f y. into_row row (o + handler_places hs) ws after g f y) e x
+  into_row (section body hs row) o ws after g e x =
+      let oa = o + size body in
+      let on = oa + handler_places hs + handler_places hs in
+      into_row body o (flush_entry hs oa (entry row on ws)) (FlushEnters hs (flush_at val hs oa) (Enters row (values_at val row on) after))
+      (λ f y. into_flush hs oa (entry row on ws) (Enters row (values_at val row on) after) (λ h z. into_row row on ws after g h z) f y) e x
   into_row (block d body saves rescued always row) o ws after g e x =
       let oa = o + size body + size rescued in
       let on = oa + size always + size always in
@@ -37,13 +42,11 @@ module _ (st : Setting) (val : ℕ → Exit) where
   into_saved true xs ys P Q p q f x = p f x
   into_saved false xs ys P Q p q f x = q f x
 
-  flush_inner : (hs : Handlers) (o : ℕ) (ws us : List ℕ) (after hurt : Exit → Type 0) → ((f : Exit) → Into val ws f → after f) → ((f : Exit) → Into val us f → hurt f) → LinksHold st val (flush_links hs o ws us)
-      → FlushInner st hs (flush_at val hs o) after hurt
-  flush_inner no_handlers o ws us after hurt g h x = tt
-  flush_inner (handler n t hs) o ws us after hurt g h x =
-      let a = split (links_to o t true (flush_entry hs (suc o) ws)) (links_to o t false us ++ flush_links hs (suc o) ws us) x in
-      let b = split (links_to o t false us) (flush_links hs (suc o) ws us) a.1 in
-      (into_flush hs (suc o) ws after g (going_from st t (val o)) (arrive o t true (flush_entry hs (suc o) ws) a.0), h (failing_from st t (val o)) (arrive o t false us b.0), flush_inner hs (suc o) ws us after hurt g h b.1)
+  flush_inner : (hs : Handlers) (o : ℕ) (ws : List ℕ) (after : Exit → Type 0) → ((f : Exit) → Into val ws f → after f) → LinksHold st val (flush_links hs o ws) → FlushInner st hs (flush_at val hs o) after
+  flush_inner no_handlers o ws after g x = tt
+  flush_inner (handler n t hs) o ws after g x =
+      let a = split (links_to o t true (flush_entry hs (suc o) ws)) (flush_links hs (suc o) ws) x in
+      (into_flush hs (suc o) ws after g (going_from st t (val o)) (arrive o t true (flush_entry hs (suc o) ws) a.0), flush_inner hs (suc o) ws after g a.1)
 
   pub row_inner : (row : Row) (o : ℕ) (ws us : List ℕ) (after hurt : Exit → Type 0) → ((f : Exit) → Into val ws f → after f) → ((f : Exit) → Into val us f → hurt f) → LinksHold st val (links row o ws us)
       → Inner st row (values_at val row o) after hurt
@@ -54,8 +57,30 @@ module _ (st : Setting) (val : ℕ → Exit) where
       (into_row row (suc o) ws after g (going_from st t (val o)) (arrive o t true (entry row (suc o) ws) a.0), h (failing_from st t (val o)) (arrive o t false us b.0), row_inner row (suc o) ws us after hurt g h b.1)
   row_inner (flush hs row) o ws us after hurt g h x =
       let on = o + handler_places hs in
-      let a = split (flush_links hs o (entry row on ws) us) (links row on ws us) x in
-      (flush_inner hs o (entry row on ws) us (Enters row (values_at val row on) after) hurt (λ f y. into_row row on ws after g f y) h a.0, row_inner row on ws us after hurt g h a.1)
+      let a = split (flush_links hs o (entry row on ws)) (links row on ws us) x in
+      (flush_inner hs o (entry row on ws) (Enters row (values_at val row on) after) (λ f y. into_row row on ws after g f y) a.0, row_inner row on ws us after hurt g h a.1)
+  row_inner (section body hs row) o ws us after hurt g h x =
+      let oa = o + size body in
+      let oh = o + size body + handler_places hs in
+      let on = o + size body + handler_places hs + handler_places hs in
+      let k = entry row on ws in
+      let a1 = flush_entry hs oa k in
+      let a2 = flush_entry hs oh [] in
+      let K = Enters row (values_at val row on) after in
+      let gk = λ (f : Exit) (y : Into val k f). into_row row on ws after g f y in
+      let ga = λ (f : Exit) (y : Into val a1 f). into_flush hs oa k K gk f y in
+      let gb = λ (f : Exit) (y : Into val a2 f). into_flush hs oh [] Leaves (λ c z. tt) f y in
+      let l3 = links row on ws us in
+      let l2 = flush_links hs oh [] in
+      let l1 = flush_links hs oa k in
+      let s0 = split (links body o a1 a2) (l1 ++ (l2 ++ l3)) x in
+      let s1 = split l1 (l2 ++ l3) s0.1 in
+      let s2 = split l2 l3 s1.1 in (
+        row_inner body o a1 a2 (FlushEnters hs (flush_at val hs oa) K) (FlushEnters hs (flush_at val hs oh) Leaves) ga gb s0.0,
+        flush_inner hs oa k K gk s1.0,
+        flush_inner hs oh [] Leaves (λ c z. tt) s2.0,
+        row_inner row on ws us after hurt g h s2.1,
+      )
   row_inner (block d body saves rescued always row) o ws us after hurt g h x =
       let or = o + size body in
       let oa = o + size body + size rescued in
@@ -89,10 +114,10 @@ module _ (st : Setting) (val : ℕ → Exit) where
       )
 
 pub numbers_cover : (st : Setting) (row : Row) (e : Exit) (val : ℕ → Exit) (o last : ℕ) → Into val (entry row o (last ∷ [])) e → LinksHold st val (links row o (last ∷ []) [])
-    → Enters row (values_at val row o) (λ f. ExitLe f (val last)) e × Inner st row (values_at val row o) (λ f. ExitLe f (val last)) (λ f. Unit {0})
+    → Enters row (values_at val row o) (λ f. ExitLe f (val last)) e × Inner st row (values_at val row o) (λ f. ExitLe f (val last)) Leaves
 numbers_cover st row e val o last x y = (
   into_row st val row o (last ∷ []) (λ f. ExitLe f (val last)) (λ f z. z.0) e x,
-  row_inner st val row o (last ∷ []) [] (λ f. ExitLe f (val last)) (λ f. Unit {0}) (λ f z. z.0) (λ f z. tt) y,
+  row_inner st val row o (last ∷ []) [] (λ f. ExitLe f (val last)) Leaves (λ f z. z.0) (λ f z. tt) y,
 )
 
 -- and the other way round
@@ -114,6 +139,11 @@ module _ (st : Setting) (val : ℕ → Exit) where
   from_row (task t row) o ws after g e x = (x, tt)
   from_row (flush hs row) o ws after g e x =
       from_flush hs o (entry row (o + handler_places hs) ws) (Enters row (values_at val row (o + handler_places hs)) after) (λ f y. from_row row (o + handler_places hs) ws after g f y) e x
+  from_row (section body hs row) o ws after g e x =
+      let oa = o + size body in
+      let on = oa + handler_places hs + handler_places hs in
+      from_row body o (flush_entry hs oa (entry row on ws)) (FlushEnters hs (flush_at val hs oa) (Enters row (values_at val row on) after))
+      (λ f y. from_flush hs oa (entry row on ws) (Enters row (values_at val row on) after) (λ h z. from_row row on ws after g h z) f y) e x
   from_row (block d body saves rescued always row) o ws after g e x =
       let oa = o + size body + size rescued in
       let on = oa + size always + size always in
@@ -124,13 +154,10 @@ module _ (st : Setting) (val : ℕ → Exit) where
   from_saved true xs ys P Q p q f x = p f x
   from_saved false xs ys P Q p q f x = q f x
 
-  flush_out : (hs : Handlers) (o : ℕ) (ws us : List ℕ) (after hurt : Exit → Type 0) → ((f : Exit) → after f → Into val ws f) → ((f : Exit) → hurt f → Into val us f) → FlushInner st hs (flush_at val hs o) after hurt
-      → LinksHold st val (flush_links hs o ws us)
-  flush_out no_handlers o ws us after hurt g h x = tt
-  flush_out (handler n t hs) o ws us after hurt g h x =
-      join_links (links_to o t true (flush_entry hs (suc o) ws)) (links_to o t false us ++ flush_links hs (suc o) ws us)
-      (depart o t true (flush_entry hs (suc o) ws) (from_flush hs (suc o) ws after g (going_from st t (val o)) x.0))
-      (join_links (links_to o t false us) (flush_links hs (suc o) ws us) (depart o t false us (h (failing_from st t (val o)) x.1)) (flush_out hs (suc o) ws us after hurt g h x.2))
+  flush_out : (hs : Handlers) (o : ℕ) (ws : List ℕ) (after : Exit → Type 0) → ((f : Exit) → after f → Into val ws f) → FlushInner st hs (flush_at val hs o) after → LinksHold st val (flush_links hs o ws)
+  flush_out no_handlers o ws after g x = tt
+  flush_out (handler n t hs) o ws after g x =
+      join_links (links_to o t true (flush_entry hs (suc o) ws)) (flush_links hs (suc o) ws) (depart o t true (flush_entry hs (suc o) ws) (from_flush hs (suc o) ws after g (going_from st t (val o)) x.0)) (flush_out hs (suc o) ws after g x.1)
 
   pub row_out : (row : Row) (o : ℕ) (ws us : List ℕ) (after hurt : Exit → Type 0) → ((f : Exit) → after f → Into val ws f) → ((f : Exit) → hurt f → Into val us f) → Inner st row (values_at val row o) after hurt
       → LinksHold st val (links row o ws us)
@@ -141,8 +168,25 @@ module _ (st : Setting) (val : ℕ → Exit) where
       (join_links (links_to o t false us) (links row (suc o) ws us) (depart o t false us (h (failing_from st t (val o)) x.1)) (row_out row (suc o) ws us after hurt g h x.2))
   row_out (flush hs row) o ws us after hurt g h x =
       let on = o + handler_places hs in
-      join_links (flush_links hs o (entry row on ws) us) (links row on ws us)
-      (flush_out hs o (entry row on ws) us (Enters row (values_at val row on) after) hurt (λ f y. from_row row on ws after g f y) h x.0) (row_out row on ws us after hurt g h x.1)
+      join_links (flush_links hs o (entry row on ws)) (links row on ws us) (flush_out hs o (entry row on ws) (Enters row (values_at val row on) after) (λ f y. from_row row on ws after g f y) x.0) (row_out row on ws us after hurt g h x.1)
+  row_out (section body hs row) o ws us after hurt g h x =
+      let oa = o + size body in
+      let oh = o + size body + handler_places hs in
+      let on = o + size body + handler_places hs + handler_places hs in
+      let k = entry row on ws in
+      let a1 = flush_entry hs oa k in
+      let a2 = flush_entry hs oh [] in
+      let K = Enters row (values_at val row on) after in
+      let A = FlushEnters hs (flush_at val hs oa) K in
+      let B = FlushEnters hs (flush_at val hs oh) Leaves in
+      let gk = λ (f : Exit) (y : K f). from_row row on ws after g f y in
+      let ga = λ (f : Exit) (y : A f). from_flush hs oa k K gk f y in
+      let gb = λ (f : Exit) (y : B f). from_flush hs oh [] Leaves (λ c z. tt) f y in
+      let l3 = links row on ws us in
+      let l2 = flush_links hs oh [] in
+      let l1 = flush_links hs oa k in
+      join_links (links body o a1 a2) (l1 ++ (l2 ++ l3)) (row_out body o a1 a2 A B ga gb x.0)
+      (join_links l1 (l2 ++ l3) (flush_out hs oa k K gk x.1) (join_links l2 l3 (flush_out hs oh [] Leaves (λ c z. tt) x.2) (row_out row on ws us after hurt g h x.3)))
   row_out (block d body saves rescued always row) o ws us after hurt g h x =
       let or = o + size body in
       let oa = o + size body + size rescued in
@@ -169,9 +213,9 @@ module _ (st : Setting) (val : ℕ → Exit) where
       (join_links l2 (l3 ++ l4) (row_out always oa k us K hurt gk h x.2)
       (join_links l3 l4 (row_out always oh us us hurt hurt h h x.3) (row_out row on ws us after hurt g h x.4))))
 
-pub trees_cover : (st : Setting) (row : Row) (e : Exit) (val : ℕ → Exit) (o last : ℕ) → Enters row (values_at val row o) (λ f. ExitLe f (val last)) e × Inner st row (values_at val row o) (λ f. ExitLe f (val last)) (λ f. Unit {0})
+pub trees_cover : (st : Setting) (row : Row) (e : Exit) (val : ℕ → Exit) (o last : ℕ) → Enters row (values_at val row o) (λ f. ExitLe f (val last)) e × Inner st row (values_at val row o) (λ f. ExitLe f (val last)) Leaves
     → Into val (entry row o (last ∷ [])) e × LinksHold st val (links row o (last ∷ []) [])
 trees_cover st row e val o last x = (
   from_row st val row o (last ∷ []) (λ f. ExitLe f (val last)) (λ f z. (z, tt)) e x.0,
-  row_out st val row o (last ∷ []) [] (λ f. ExitLe f (val last)) (λ f. Unit {0}) (λ f z. (z, tt)) (λ f z. tt) x.1,
+  row_out st val row o (last ∷ []) [] (λ f. ExitLe f (val last)) Leaves (λ f z. (z, tt)) (λ f z. tt) x.1,
 )

@@ -1,6 +1,6 @@
 -- A least assignment of numbers that covers is the walk's.
 use Rattle.std.proofs.Common.{◌≡◌, ℕ, suc, ◌+◌, nat_lt, [], ◌∷◌, Bool, true, false, cond, sym, subst, arith}
-use Rattle.pb_language.specs.Task.{Handlers, no_handlers, handler, Row, end, task, flush, block}
+use Rattle.pb_language.specs.Task.{Handlers, no_handlers, handler, Row, end, task, flush, section, block}
 use Rattle.pb_language.specs.Setting.{Setting}
 use Rattle.pb_language.specs.Judgement.{Exit}
 use Rattle.pb_language.specs.Walk.{walk}
@@ -26,6 +26,11 @@ numbered_well end vs o i w = tt
 numbered_well (task t row) vs o i w = either_well (nat_lt i (suc o)) vs.0 (numbered row vs.1 (suc o) i) w.0 (numbered_well row vs.1 (suc o) i w.1)
 numbered_well (flush hs row) vs o i w =
     either_well (nat_lt i (o + handler_places hs)) (flush_numbers hs vs.0 o i) (numbered row vs.1 (o + handler_places hs) i) (flush_well hs vs.0 o i w.0) (numbered_well row vs.1 (o + handler_places hs) i w.1)
+numbered_well (section body hs row) vs o i w =
+    either_well (nat_lt i (o + size body)) _ _ (numbered_well body vs.0 o i w.0)
+    (either_well (nat_lt i (o + size body + handler_places hs)) _ _ (flush_well hs vs.1 (o + size body) i w.1)
+    (either_well (nat_lt i (o + size body + handler_places hs + handler_places hs)) _ _ (flush_well hs vs.2 (o + size body + handler_places hs) i w.2)
+    (numbered_well row vs.3 (o + size body + handler_places hs + handler_places hs) i w.3)))
 numbered_well (block d body saves rescued always row) vs o i w =
     either_well (nat_lt i (o + size body)) _ _ (numbered_well body vs.0 o i w.0)
     (either_well (nat_lt i (o + size body + size rescued)) _ _ (numbered_well rescued vs.1 (o + size body) i w.1)
@@ -42,6 +47,7 @@ module _ (v w : ℕ → Exit) (l : (i : ℕ) → ExitLe (v i) (w i)) where
   at_le end o = tt
   at_le (task t row) o = (l o, at_le row (suc o))
   at_le (flush hs row) o = (flush_le hs o, at_le row (o + handler_places hs))
+  at_le (section body hs row) o = (at_le body o, flush_le hs (o + size body), flush_le hs (o + size body + handler_places hs), at_le row (o + size body + handler_places hs + handler_places hs))
   at_le (block d body saves rescued always row) o = (
     at_le body o,
     at_le rescued (o + size body),
@@ -59,6 +65,7 @@ module _ (v : ℕ → Exit) (a : (i : ℕ) → WellExit (v i)) where
   at_well end o = tt
   at_well (task t row) o = (a o, at_well row (suc o))
   at_well (flush hs row) o = (flush_at_well hs o, at_well row (o + handler_places hs))
+  at_well (section body hs row) o = (at_well body o, flush_at_well hs (o + size body), flush_at_well hs (o + size body + handler_places hs), at_well row (o + size body + handler_places hs + handler_places hs))
   at_well (block d body saves rescued always row) o = (
     at_well body o,
     at_well rescued (o + size body),

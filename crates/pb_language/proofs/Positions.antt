@@ -7,7 +7,7 @@ use Rattle.pb_semantics.proofs.Bools.{untrue, and-left, and-right, or-cases, tru
 use Rattle.pb_semantics.proofs.Names.{same_name}
 use Rattle.pb_language.specs.Expression.{Name}
 use Rattle.pb_language.specs.Scope.{is_certain, View, view_of, Since, no_since, since, every_name, Later, later_of, is_later, may_last}
-use Rattle.pb_language.specs.Task.{Task, Handlers, no_handlers, handler, Row, end, task, flush, block}
+use Rattle.pb_language.specs.Task.{Task, Handlers, no_handlers, handler, Row, end, task, flush, section, block}
 use Rattle.pb_language.specs.Rest.{Rest, done, left, next, ask, rescue, hold, release, flush_rest, rest_of}
 use Rattle.pb_language.specs.Setting.{Setting}
 use Rattle.pb_language.specs.Judgement.{Exit, dead, live, going_exit, failing_exit}
@@ -208,13 +208,13 @@ module _ (views : List View) (inventory : Inventory) (p : Play) (laters : List L
   most_next : (c d n a b : ℕ) → a ≤ d + n → b ≤ n → c + max a b ≤ c + (d + n)
   most_next c d n a b h i = grind arith
 
-  most_flush : (n : Name) (hs : Handlers) (a b : Rest) (m : ℕ) → most n a ≤ m → most n b ≤ m → most n (flush_rest hs a b) ≤ flush_calls (walked n).visits hs + m
-  most_flush n no_handlers a b m h i = omega arith
-  most_flush n (handler k t hs) a b m h i =
-      let y = most_flush n hs a b m h i in
+  most_flush : (n : Name) (hs : Handlers) (a : Rest) (m : ℕ) → most n a ≤ m → most n (flush_rest hs a) ≤ flush_calls (walked n).visits hs + m
+  most_flush n no_handlers a m h = omega arith
+  most_flush n (handler k t hs) a m h =
+      let y = most_flush n hs a m h in
       let c = place_calls (walked n).visits t t.action in
       let d = flush_calls (walked n).visits hs in
-      let z = most_next c d m (most n (flush_rest hs a b)) (most n b) y i in
+      let z = most_next c d m (most n (flush_rest hs a)) 0 y (omega arith) in
       grind arith
 
   -- the most calls on a way through a row are those of the row and of what follows it
@@ -230,9 +230,15 @@ module _ (views : List View) (inventory : Inventory) (p : Play) (laters : List L
       let c = flush_calls (walked n).visits hs in
       let d = row_calls (walked n).visits row in
       let y = most_row n row e a b m h i in
-      let low : most n b ≤ d + m = omega (arith, i) in
-      let z = most_flush n hs (rest_of row e a b) b (d + m) y low in
+      let z = most_flush n hs (rest_of row e a b) (d + m) y in
       omega (arith, z)
+  most_row n (section body hs row) e a b m h i =
+      let k = row_calls (walked n).visits row + m in
+      let ends = flush_calls (walked n).visits hs + k in
+      let ok = most_flush n hs (rest_of row e a b) k (most_row n row e a b m h i) in
+      let ko = most_flush n hs left k (omega arith) in
+      let all = most_row n body e (flush_rest hs (rest_of row e a b)) (flush_rest hs left) ends ok ko in
+      omega (arith, all)
   most_row n (block d body true rescued always row) e a b m h i =
       let rest = most_row n row e a b m h i in
       let k = row_calls (walked n).visits row + m in

@@ -14,7 +14,7 @@ use Rattle.pb_language.specs.Expression.{Name}
 use Rattle.pb_language.specs.World.{HostVariables, variables_of}
 use Rattle.pb_language.specs.Scope.{with_spot, View, view_of, Later}
 use Rattle.pb_language.specs.Kinds.{known_slots}
-use Rattle.pb_language.specs.Task.{Task, Handlers, no_handlers, handler, Row, end, task, flush, block}
+use Rattle.pb_language.specs.Task.{Task, Handlers, no_handlers, handler, Row, end, task, flush, section, block}
 use Rattle.pb_language.specs.Cases.{Sets, no_sets, sets}
 use Rattle.pb_language.specs.Setting.{Setting}
 use Rattle.pb_language.specs.Judgement.{Exit, dead, live, live_if, has_case, has_going, going_slots, failing_slots, task_writes}
@@ -70,7 +70,7 @@ module _ (after_claim : AfterClaim) where
     flush_well (handler n t hs) e w =
         let k = flush_walk st hs (meet e (going_from st t e)) in
         let r = flush_well hs (meet e (going_from st t e)) (meet_well e (going_from st t e) w (going_well t e w)) in
-        (both_visits WellVisit (visits_at st t e) k.visits (here_well t e w) r.0, r.1, meet_well (failing_from st t e) k.hurt (failing_well t e w) r.2)
+        (both_visits WellVisit (visits_at st t e) k.visits (here_well t e w) r.0, r.1, r.2)
 
     pub all_well : (row : Row) (e : Exit) → WellExit e → WellWalk (walk st row e)
     all_well end e w = (tt, w, tt)
@@ -83,7 +83,17 @@ module _ (after_claim : AfterClaim) where
         let k = walk st row x.well in
         let a = flush_well hs e w in
         let r = all_well row x.well a.1 in
-        (both_visits WellVisit x.visits k.visits a.0 r.0, r.1, meet_well x.hurt k.hurt a.2 r.2)
+        (both_visits WellVisit x.visits k.visits a.0 r.0, r.1, r.2)
+    all_well (section body hs row) e w =
+        let x = walk st body e in
+        let g = flush_walk st hs x.well in
+        let h = flush_walk st hs x.hurt in
+        let k = walk st row g.well in
+        let wx = all_well body e w in
+        let wg = flush_well hs x.well wx.1 in
+        let wh = flush_well hs x.hurt wx.2 in
+        let wk = all_well row g.well wg.1 in
+        (both_visits WellVisit x.visits (g.visits ++ (h.visits ++ k.visits)) wx.0 (both_visits WellVisit g.visits (h.visits ++ k.visits) wg.0 (both_visits WellVisit h.visits k.visits wh.0 wk.0)), wk.1, wk.2)
     all_well (block d body true rescued always row) e w =
         let x = walk st body e in
         let s = walk st rescued x.hurt in

@@ -5,9 +5,9 @@ use Rattle.pb_language.specs.Expression.{Name, Expression, Expressions, no_expre
 use Rattle.pb_language.specs.Expansion.{expanded, all_expanded, trees}
 use Rattle.pb_language.specs.Notify.{HandlerNames}
 use Rattle.pb_language.specs.Book.{TaskData, Steps, no_steps, task_step, block_step, flush_step, HandlerData, PlayData, Book, Registry}
-use Rattle.pb_language.specs.Plays.{append_parts, append_expressions, expanded_list, Surroundings, task_at, inside, is_given, places_in, handlers_at, row_of, gathering_task, section_row, gathered_row, sections_row, play_surroundings, play_row, names_of_handlers, program_of}
+use Rattle.pb_language.specs.Plays.{append_parts, append_expressions, expanded_list, Surroundings, task_at, inside, is_given, places_in, handlers_at, row_of, gathering_task, ended_row, section_row, gathered_row, sections_row, play_surroundings, play_row, names_of_handlers, program_of}
 use Rattle.pb_language.specs.Program.{Inventory, Play, Program}
-use Rattle.pb_language.specs.Task.{Task, Handlers, no_handlers, handler, Row, end, task, flush, block}
+use Rattle.pb_language.specs.Task.{Task, Handlers, no_handlers, handler, Row, end, task, flush, section, block}
 use Rattle.pb_language.specs.Sites.{a_task, Site, site, sites_in, handler_sites, gathering_sites, play_sites, sites_of}
 use Rattle.pb_language.specs.Rules.{any_notifies_up_to, breaks_parameters, breaks_names, vars_names, breaks_chains, breaks_known, breaks_notify, breaks_order, any_reads_others, reads_others, expanded_reads, list_expressions, give_expressions, breaks_give, first_line, too_many_steps, rules_offence}
 use Rattle.pb_language.specs.Verdict.{Refusal, Verdict, accepted, earlier, flow_verdict, offence_verdict}
@@ -79,6 +79,7 @@ abbrev pub row_has : (Task → Bool) → (Handlers → Bool) → Row → Bool
 row_has f g end = true
 row_has f g (task t row) = f t && row_has f g row
 row_has f g (flush hs row) = g hs && row_has f g row
+row_has f g (section body hs row) = row_has f g body && (g hs && row_has f g row)
 row_has f g (block d body saves rescued always row) =
     row_has f g body && (row_has f g rescued && (row_has f g always && row_has f g row))
 
@@ -117,21 +118,24 @@ module _ (f : Task → Bool) (g : Handlers → Bool) (P : Site → Type 0) (play
       (steps_have ds (inside s b) (places_in n y + (places_in n x + p)) z end second.1 refl)
       (steps_have cs s (places_in n z + (places_in n y + (places_in n x + p))) ss row third.1 h)))
 
-  section_has : (q : Bool) (s : Surroundings) (p : ℕ) (ss : Steps) (go : ℕ → Row) → AllSites P (sites_in play no_expressions s.scope ss) → ((r : ℕ) → row_has f g (go r) ≡ true)
-      → row_has f g (cond q (row_of hs n s p ss (flush (hs (places_in n ss + p)) (go (n + (places_in n ss + p))))) (go p)) ≡ true
-  section_has true s p ss go a h =
-      let q = places_in n ss + p in
-      steps_have no_expressions s p ss (flush (hs q) (go (n + q))) a (and-both (g (hs q)) (row_has f g (go (n + q))) (flush_has q) (h (n + q)))
+  ended_has : (forces : Bool) (s : Surroundings) (p q : ℕ) (ss : Steps) (row : Row) → AllSites P (sites_in play no_expressions s.scope ss) → row_has f g row ≡ true → row_has f g (ended_row forces (hs q) (row_of hs n s p ss) row) ≡ true
+  ended_has true s p q ss row a h =
+      and-both (row_has f g (row_of hs n s p ss end)) (g (hs q) && row_has f g row) (steps_have no_expressions s p ss end a refl) (and-both (g (hs q)) (row_has f g row) (flush_has q) h)
+  ended_has false s p q ss row a h = steps_have no_expressions s p ss (flush (hs q) row) a (and-both (g (hs q)) (row_has f g row) (flush_has q) h)
+
+  section_has : (given : Bool) (s : Surroundings) (p : ℕ) (ss : Steps) (go : ℕ → Row) → AllSites P (sites_in play no_expressions s.scope ss) → ((r : ℕ) → row_has f g (go r) ≡ true)
+      → row_has f g (cond given (ended_row play.forces (hs (places_in n ss + p)) (row_of hs n s p ss) (go (n + (places_in n ss + p)))) (go p)) ≡ true
+  section_has true s p ss go a h = ended_has play.forces s p (places_in n ss + p) ss (go (n + (places_in n ss + p))) a (h (n + (places_in n ss + p)))
   section_has false s p ss go a h = h p
 
   module _ (s : Surroundings) (pre : AllSites P (sites_in play no_expressions s.scope play.pre_tasks)) (tasks : AllSites P (sites_in play no_expressions s.scope play.tasks))
       (post : AllSites P (sites_in play no_expressions s.scope play.post_tasks)) (gathers : (l : ℕ) → f (task_at s 0 (gathering_task l)) ≡ true) where
     abbrev last : ℕ → Row
-    last r = section_row hs n s r play.post_tasks (λ q. end)
+    last r = section_row hs n s play.forces r play.post_tasks (λ q. end)
 
     sections_have : (p : ℕ) → row_has f g (sections_row hs n s p play) ≡ true
     sections_have p =
-        section_has (is_given play.pre_tasks) s p play.pre_tasks (λ q. section_row hs n s q play.tasks last) pre
+        section_has (is_given play.pre_tasks) s p play.pre_tasks (λ q. section_row hs n s play.forces q play.tasks last) pre
         (λ q. section_has (is_given play.tasks) s q play.tasks last tasks (λ r. section_has (is_given play.post_tasks) s r play.post_tasks (λ q. end) post (λ q. refl)))
 
     gathered_has : (o : Option ℕ) → row_has f g (gathered_row hs n s play o) ≡ true

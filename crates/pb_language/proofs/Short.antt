@@ -6,7 +6,7 @@ use Rattle.pb_semantics.proofs.Bools.{untrue, and-left, and-right, not-true}
 use Rattle.pb_semantics.proofs.Names.{same_name, own_name}
 use Rattle.pb_language.specs.Expression.{Name}
 use Rattle.pb_language.specs.World.{HostVariables}
-use Rattle.pb_language.specs.Task.{Task, Handlers, no_handlers, handler, Row, end, task, flush, block}
+use Rattle.pb_language.specs.Task.{Task, Handlers, no_handlers, handler, Row, end, task, flush, section, block}
 use Rattle.pb_language.specs.Rest.{Rest, done, left, next, ask, rescue, hold, release, flush_rest, rest_of}
 use Rattle.pb_language.specs.Start.{Pass, Plan, planned, halted, plan_of}
 use Rattle.pb_language.specs.Give.{Answer, Admitted, admitted, breached, unreached, admit_passes, Ended, Results, results_are, no_results, end_all, any_changed, any_failed}
@@ -34,9 +34,9 @@ longest_task d n a b h i = grind arith
 longest_ask : (d n a b : ℕ) → a ≤ d + n → b ≤ n → max (1 + max a b) a ≤ suc d + n
 longest_ask d n a b h i = grind arith
 
-longest_flush : (hs : Handlers) (a b : Rest) (n : ℕ) → longest a ≤ n → longest b ≤ n → longest (flush_rest hs a b) ≤ handler_places hs + n
-longest_flush no_handlers a b n h i = omega (arith, h)
-longest_flush (handler m t hs) a b n h i = longest_ask (handler_places hs) n (longest (flush_rest hs a b)) (longest b) (longest_flush hs a b n h i) i
+longest_flush : (hs : Handlers) (a : Rest) (n : ℕ) → longest a ≤ n → longest (flush_rest hs a) ≤ handler_places hs + n
+longest_flush no_handlers a n h = omega (arith, h)
+longest_flush (handler m t hs) a n h = longest_ask (handler_places hs) n (longest (flush_rest hs a)) 0 (longest_flush hs a n h) (omega arith)
 
 -- the longest way through a row has no more tasks than the row has places
 longest_row : (row : Row) (e : ℕ) (a b : Rest) (n : ℕ) → longest a ≤ n → longest b ≤ n → longest (rest_of row e a b) ≤ places_of row + n
@@ -44,8 +44,14 @@ longest_row end e a b n h i = omega (arith, h)
 longest_row (task t row) e a b n h i = longest_task (places_of row) n (longest (rest_of row e a b)) (longest b) (longest_row row e a b n h i) i
 longest_row (flush hs row) e a b n h i =
     let rest = longest_row row e a b n h i in
-    let low : longest b ≤ places_of row + n = omega (arith, i) in
-    let all = longest_flush hs (rest_of row e a b) b (places_of row + n) rest low in
+    let all = longest_flush hs (rest_of row e a b) (places_of row + n) rest in
+    omega (arith, all)
+longest_row (section body hs row) e a b n h i =
+    let k = places_of row + n in
+    let ends = handler_places hs + k in
+    let ok = longest_flush hs (rest_of row e a b) k (longest_row row e a b n h i) in
+    let ko = longest_flush hs left k (omega arith) in
+    let all = longest_row body e (flush_rest hs (rest_of row e a b)) (flush_rest hs left) ends ok ko in
     omega (arith, all)
 longest_row (block d body true rescued always row) e a b n h i =
     let rest = longest_row row e a b n h i in

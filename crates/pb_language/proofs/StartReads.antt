@@ -4,7 +4,7 @@ use Rattle.pb_semantics.specs.Keeps.{is_among}
 use Rattle.pb_semantics.proofs.Bools.{untrue, and-left, and-right, and-both, not-true, neither-left, neither-right}
 use Rattle.pb_language.specs.Expression.{Name}
 use Rattle.pb_language.specs.World.{HostVariables}
-use Rattle.pb_language.specs.Task.{Task, Handlers, no_handlers, handler, Row, end, task, flush, block}
+use Rattle.pb_language.specs.Task.{Task, Handlers, no_handlers, handler, Row, end, task, flush, section, block}
 use Rattle.pb_language.specs.Rest.{Rest, done, left, next, ask, rescue, hold, release, flush_rest, rest_of}
 use Rattle.pb_language.specs.Start.{Pass, Plan, planned, halted, plan_of}
 use Rattle.pb_language.specs.Give.{Answer, Admitted, admitted, breached, unreached, admit_passes, Ended, Results, results_are, no_results, end_all, any_changed, any_failed}
@@ -30,12 +30,12 @@ module _ (f : Task → Bool) where
   rest_has (hold m r) = rest_has r
   rest_has (release m r) = rest_has r
 
-  flush_has : (hs : Handlers) (a b : Rest) → handlers_have f hs ≡ true → rest_has a ≡ true → rest_has b ≡ true → rest_has (flush_rest hs a b) ≡ true
-  flush_has no_handlers a b h i j = i
-  flush_has (handler n t hs) a b h i j =
-      let rest = flush_has hs a b (and-right (f t) (handlers_have f hs) h) i j in
-      and-both (f t && (rest_has (flush_rest hs a b) && rest_has b)) (rest_has (flush_rest hs a b))
-      (and-both (f t) (rest_has (flush_rest hs a b) && rest_has b) (and-left (f t) (handlers_have f hs) h) (and-both (rest_has (flush_rest hs a b)) (rest_has b) rest j)) rest
+  flush_has : (hs : Handlers) (a : Rest) → handlers_have f hs ≡ true → rest_has a ≡ true → rest_has (flush_rest hs a) ≡ true
+  flush_has no_handlers a h i = i
+  flush_has (handler n t hs) a h i =
+      let rest = flush_has hs a (and-right (f t) (handlers_have f hs) h) i in
+      and-both (f t && (rest_has (flush_rest hs a) && true)) (rest_has (flush_rest hs a))
+      (and-both (f t) (rest_has (flush_rest hs a) && true) (and-left (f t) (handlers_have f hs) h) (and-both (rest_has (flush_rest hs a)) true rest refl)) rest
 
   abbrev has : Row → Bool
   has row = row_has f (handlers_have f) row
@@ -50,7 +50,12 @@ module _ (f : Task → Bool) where
   rest_of_has (task t row) m a b h i j =
       and-both (f t) (rest_has (rest_of row m a b) && rest_has b) (and-left (f t) (has row) h) (and-both (rest_has (rest_of row m a b)) (rest_has b) (rest_of_has row m a b (and-right (f t) (has row) h) i j) j)
   rest_of_has (flush hs row) m a b h i j =
-      flush_has hs (rest_of row m a b) b (and-left (handlers_have f hs) (has row) h) (rest_of_has row m a b (and-right (handlers_have f hs) (has row) h) i j) j
+      flush_has hs (rest_of row m a b) (and-left (handlers_have f hs) (has row) h) (rest_of_has row m a b (and-right (handlers_have f hs) (has row) h) i j)
+  rest_of_has (section body hs row) m a b h i j =
+      let rest = and-right (has body) (handlers_have f hs && has row) h in
+      let handlers = and-left (handlers_have f hs) (has row) rest in
+      let after = rest_of_has row m a b (and-right (handlers_have f hs) (has row) rest) i j in
+      rest_of_has body m (flush_rest hs (rest_of row m a b)) (flush_rest hs left) (and-left (has body) (handlers_have f hs && has row) h) (flush_has hs (rest_of row m a b) handlers after) (flush_has hs left handlers refl)
   rest_of_has (block d body saves rescued always row) m a b h i j =
       let first = and-right (has body) (has rescued && (has always && has row)) h in
       let second = and-right (has rescued) (has always && has row) first in

@@ -7,14 +7,14 @@ use Rattle.pb_semantics.proofs.Order.{own_below}
 use Rattle.pb_semantics.proofs.Through.{through}
 use Rattle.pb_semantics.proofs.JoinAbove.{joins_above}
 use Rattle.pb_semantics.proofs.JoinLeast.{joins_least}
-use Rattle.pb_language.specs.Task.{Task, Handlers, no_handlers, handler, Row, end, task, flush, block}
+use Rattle.pb_language.specs.Task.{Task, Handlers, no_handlers, handler, Row, end, task, flush, section, block}
 use Rattle.pb_language.specs.Scope.{view_of}
 use Rattle.pb_language.specs.Setting.{Setting}
 use Rattle.pb_language.specs.Judgement.{Exit, dead, live}
 use Rattle.pb_language.specs.Walk.{Visit, meet, visits_at, going_from, failing_from, Walked, flush_walk, walk, unsaved}
 use Rattle.pb_language.specs.Ordered.{SettingLe, ExitLe}
 use Rattle.pb_language.specs.Wells.{WellViews, WellExit}
-use Rattle.pb_language.specs.Nodes.{FlushValues, Values, FlushEnters, Enters, Saved, FlushInner, Inner, FlushLe, ValuesLe, WellFlush, WellValues, flush_values, saved_walk, entered, values, flush_visits, visits_of}
+use Rattle.pb_language.specs.Nodes.{FlushValues, Values, FlushEnters, Enters, Saved, FlushInner, Inner, FlushLe, ValuesLe, WellFlush, WellValues, flush_values, saved_walk, entered, values, flush_visits, visits_of, Leaves}
 use Rattle.pb_language.proofs.After.{after_claim}
 use Rattle.pb_language.proofs.Ways.{meet_well}
 use Rattle.pb_language.proofs.Rounds.{going_well, failing_well, flush_well, all_well}
@@ -58,6 +58,10 @@ meet_least (live ss) (live ts) (live us) w v u x y = slots_le (join_slots ss ts)
 pub closed_below : (g : Exit) → WellExit g → Closed (λ e. ExitLe e g)
 closed_below g u = record { none = tt; down = λ e f w v x y. exit_through e f g w v u x y; both = λ e f w v x y. meet_least e f g w v u x y }
 
+-- all of them
+closed_all : Closed Leaves
+closed_all = record { none = tt; down = λ e f w v x y. tt; both = λ e f w v x y. tt }
+
 closed_and : (P Q : Exit → Type 0) → Closed P → Closed Q → Closed (λ e. P e × Q e)
 closed_and P Q p q = record { none = (p.none, q.none); down = λ e f w v x y. (p.down e f w v x y.0, q.down e f w v x y.1); both = λ e f w v x y. (p.both e f w v x.0 y.0, q.both e f w v x.1 y.1) }
 
@@ -69,6 +73,8 @@ pub closed_enters : (row : Row) (vs : Values row) (after : Exit → Type 0) → 
 closed_enters end vs after w c = c
 closed_enters (task t row) vs after w c = closed_below vs.0 w.0
 closed_enters (flush hs row) vs after w c = closed_flush hs vs.0 (Enters row vs.1 after) w.0 (closed_enters row vs.1 after w.1 c)
+closed_enters (section body hs row) vs after w c =
+    closed_enters body vs.0 (FlushEnters hs vs.1 (Enters row vs.3 after)) w.0 (closed_flush hs vs.1 (Enters row vs.3 after) w.1 (closed_enters row vs.3 after w.3 c))
 closed_enters (block d body saves rescued always row) vs after w c =
     closed_enters body vs.0 (Enters always vs.2 (Enters row vs.4 after)) w.0 (closed_enters always vs.2 (Enters row vs.4 after) w.2 (closed_enters row vs.4 after w.4 c))
 
@@ -110,7 +116,13 @@ module _ (st : Setting) where
       let f = flush_dead hs in
       let k = dead_walk row in
       let x : walk st row (flush_walk st hs dead).well ≡ walk st row dead = ap (λ e. walk st row e) f.0 in
-      (ap (λ w. w.well) x ∙ k.0, ap (λ e. meet e (walk st row (flush_walk st hs dead).well).hurt) f.1 ∙ ap (λ w. w.hurt) x ∙ k.1)
+      (ap (λ w. w.well) x ∙ k.0, ap (λ w. w.hurt) x ∙ k.1)
+  dead_walk (section body hs row) =
+      let b = walk st body dead in
+      let k = dead_walk row in
+      let x : (flush_walk st hs b.well).well ≡ dead = ap (λ e. (flush_walk st hs e).well) (dead_walk body).0 ∙ (flush_dead hs).0 in
+      let y : walk st row (flush_walk st hs b.well).well ≡ walk st row dead = ap (λ e. walk st row e) x in
+      (ap (λ w. w.well) y ∙ k.0, ap (λ w. w.hurt) y ∙ k.1)
   dead_walk (block d body true rescued always row) =
       let b = dead_walk body in
       let r = dead_walk rescued in
@@ -147,19 +159,18 @@ module _ (st : Setting) (a : WellViews st.views) where
   failing_up t (live ss) (live ts) w v x = (exits_up st st t ss ts a a w v same_setting x).1
 
   -- the walk is below whatever covers
-  flush_least : (hs : Handlers) (e : Exit) (vs : FlushValues hs) (after hurt : Exit → Type 0) → WellExit e → WellFlush hs vs → Closed after → Closed hurt → FlushEnters hs vs after e → FlushInner st hs vs after hurt
-      → FlushLe hs (flush_values st hs e) vs × after (flush_walk st hs e).well × hurt (flush_walk st hs e).hurt
-  flush_least no_handlers e vs after hurt w v p q x y = (tt, x, q.none)
-  flush_least (handler n t hs) e vs after hurt w v p q x y =
+  flush_least : (hs : Handlers) (e : Exit) (vs : FlushValues hs) (after : Exit → Type 0) → WellExit e → WellFlush hs vs → Closed after → FlushEnters hs vs after e → FlushInner st hs vs after
+      → FlushLe hs (flush_values st hs e) vs × after (flush_walk st hs e).well
+  flush_least no_handlers e vs after w v p x y = (tt, x)
+  flush_least (handler n t hs) e vs after w v p x y =
       let f = going_from st t e in
       let wf = goes_well t e w in
       let m = meet e f in
       let P = FlushEnters hs vs.1 after in
       let c = closed_flush hs vs.1 after v.1 p in
       let there : P f = c.down f (going_from st t vs.0) wf (goes_well t vs.0 v.0) (going_up t e vs.0 w v.0 x.0) y.0 in
-      let k = flush_least hs m vs.1 after hurt (meet_well e f w wf) v.1 p q (c.both e f w wf x.1 there) y.2 in
-      let fails : hurt (failing_from st t e) = q.down (failing_from st t e) (failing_from st t vs.0) (fails_well t e w) (fails_well t vs.0 v.0) (failing_up t e vs.0 w v.0 x.0) y.1 in
-      ((x.0, k.0), k.1, q.both (failing_from st t e) (flush_walk st hs m).hurt (fails_well t e w) (flushes_well hs m (meet_well e f w wf)).1 fails k.2)
+      let k = flush_least hs m vs.1 after (meet_well e f w wf) v.1 p (c.both e f w wf x.1 there) y.1 in
+      ((x.0, k.0), k.1)
 
   abbrev LeastAt : Row → Type 1
   LeastAt row = (e : Exit) (vs : Values row) (after hurt : Exit → Type 0) → WellExit e → WellValues row vs → Closed after → Closed hurt → Enters row vs after e → Inner st row vs after hurt
@@ -204,9 +215,23 @@ module _ (st : Setting) (a : WellViews st.views) where
       let f = flush_walk st hs e in
       let wf = flushes_well hs e w in
       let c = closed_enters row vs.1 after v.1 p in
-      let k = flush_least hs e vs.0 (Enters row vs.1 after) hurt w v.0 c q x y.0 in
+      let k = flush_least hs e vs.0 (Enters row vs.1 after) w v.0 c x y.0 in
       let r = walk_least row f.well vs.1 after hurt wf.0 v.1 p q k.1 y.1 in
-      ((k.0, r.0), r.1, q.both f.hurt (walk st row f.well).hurt wf.1 (walk_well row f.well wf.0).1 k.2 r.2)
+      ((k.0, r.0), r.1, r.2)
+  walk_least (section body hs row) e vs after hurt w v p q x y =
+      let K = Enters row vs.3 after in
+      let cK = closed_enters row vs.3 after v.3 p in
+      let F = FlushEnters hs vs.1 K in
+      let cF = closed_flush hs vs.1 K v.1 cK in
+      let G = FlushEnters hs vs.2 Leaves in
+      let cG = closed_flush hs vs.2 Leaves v.2 closed_all in
+      let b = walk st body e in
+      let wb = walk_well body e w in
+      let kb = walk_least body e vs.0 F G w v.0 cF cG x y.0 in
+      let kf = flush_least hs b.well vs.1 K wb.0 v.1 cK kb.1 y.1 in
+      let kg = flush_least hs b.hurt vs.2 Leaves wb.1 v.2 closed_all kb.2 y.2 in
+      let kr = walk_least row (flush_walk st hs b.well).well vs.3 after hurt (flushes_well hs b.well wb.0).0 v.3 p q kf.1 y.3 in
+      ((kb.0, kf.0, kg.0, kr.0), kr.1, kr.2)
   walk_least (block d body true rescued always row) e vs after hurt w v p q x y =
       let K = Enters row vs.4 after in
       let cK = closed_enters row vs.4 after v.4 p in
@@ -258,6 +283,10 @@ module _ (st : Setting) (a : WellViews st.views) where
   values_well end e w = tt
   values_well (task t row) e w = (w, values_well row (going_from st t e) (goes_well t e w))
   values_well (flush hs row) e w = (flush_values_well hs e w, values_well row (flush_walk st hs e).well (flushes_well hs e w).0)
+  values_well (section body hs row) e w =
+      let b = walk st body e in
+      let wb = walk_well body e w in
+      (values_well body e w, flush_values_well hs b.well wb.0, flush_values_well hs b.hurt wb.1, values_well row (flush_walk st hs b.well).well (flushes_well hs b.well wb.0).0)
   values_well (block d body saves rescued always row) e w =
       let b = walk st body e in
       let wb = walk_well body e w in
@@ -267,20 +296,17 @@ module _ (st : Setting) (a : WellViews st.views) where
       let wm = meet_well b.well s.well wb.0 ws.0 in
       (values_well body e w, values_well rescued (entered saves b.hurt) (entered_well saves b.hurt wb.1), values_well always m wm, values_well always s.hurt ws.1, values_well row (walk st always m).well (walk_well always m wm).0)
 
-  flush_covers : (hs : Handlers) (e : Exit) (after hurt : Exit → Type 0) → WellExit e → Closed after → Closed hurt → after (flush_walk st hs e).well → hurt (flush_walk st hs e).hurt
-      → FlushEnters hs (flush_values st hs e) after e × FlushInner st hs (flush_values st hs e) after hurt
-  flush_covers no_handlers e after hurt w p q x y = (x, tt)
-  flush_covers (handler n t hs) e after hurt w p q x y =
+  flush_covers : (hs : Handlers) (e : Exit) (after : Exit → Type 0) → WellExit e → Closed after → after (flush_walk st hs e).well → FlushEnters hs (flush_values st hs e) after e × FlushInner st hs (flush_values st hs e) after
+  flush_covers no_handlers e after w p x = (x, tt)
+  flush_covers (handler n t hs) e after w p x =
       let f = going_from st t e in
       let wf = goes_well t e w in
       let m = meet e f in
       let wm = meet_well e f w wf in
-      let k = flush_walk st hs m in
-      let wk = flushes_well hs m wm in
-      let r = flush_covers hs m after hurt wm p q x (of_second hurt q (failing_from st t e) k.hurt (fails_well t e w) wk.1 y) in
+      let r = flush_covers hs m after wm p x in
       let c = closed_flush hs (flush_values st hs m) after (flush_values_well hs m wm) p in
       let P = FlushEnters hs (flush_values st hs m) after in
-      ((exit_own e w, of_first P c e f w wf r.0), (of_second P c e f w wf r.0, of_first hurt q (failing_from st t e) k.hurt (fails_well t e w) wk.1 y, r.1))
+      ((exit_own e w, of_first P c e f w wf r.0), (of_second P c e f w wf r.0, r.1))
 
   abbrev CoversAt : Row → Type 1
   CoversAt row = (e : Exit) (after hurt : Exit → Type 0) → WellExit e → Closed after → Closed hurt → after (walk st row e).well → hurt (walk st row e).hurt
@@ -331,12 +357,24 @@ module _ (st : Setting) (a : WellViews st.views) where
   walk_covers (flush hs row) e after hurt w p q x y =
       let f = flush_walk st hs e in
       let wf = flushes_well hs e w in
-      let k = walk st row f.well in
-      let wk = walk_well row f.well wf.0 in
-      let r = walk_covers row f.well after hurt wf.0 p q x (of_second hurt q f.hurt k.hurt wf.1 wk.1 y) in
+      let r = walk_covers row f.well after hurt wf.0 p q x y in
       let c = closed_enters row (values st row f.well) after (values_well row f.well wf.0) p in
-      let g = flush_covers hs e (Enters row (values st row f.well) after) hurt w c q r.0 (of_first hurt q f.hurt k.hurt wf.1 wk.1 y) in
+      let g = flush_covers hs e (Enters row (values st row f.well) after) w c r.0 in
       (g.0, (g.1, r.1))
+  walk_covers (section body hs row) e after hurt w p q x y =
+      let b = walk st body e in
+      let wb = walk_well body e w in
+      let g = flush_walk st hs b.well in
+      let wg = flushes_well hs b.well wb.0 in
+      let r = walk_covers row g.well after hurt wg.0 p q x y in
+      let K = Enters row (values st row g.well) after in
+      let cK = closed_enters row (values st row g.well) after (values_well row g.well wg.0) p in
+      let kf = flush_covers hs b.well K wb.0 cK r.0 in
+      let kg = flush_covers hs b.hurt Leaves wb.1 closed_all tt in
+      let cF = closed_flush hs (flush_values st hs b.well) K (flush_values_well hs b.well wb.0) cK in
+      let cG = closed_flush hs (flush_values st hs b.hurt) Leaves (flush_values_well hs b.hurt wb.1) closed_all in
+      let kb = walk_covers body e (FlushEnters hs (flush_values st hs b.well) K) (FlushEnters hs (flush_values st hs b.hurt) Leaves) w cF cG kf.0 kg.0 in
+      (kb.0, (kb.1, kf.1, kg.1, r.1))
   walk_covers (block d body true rescued always row) e after hurt w p q x y =
       let b = walk st body e in
       let wb = walk_well body e w in
@@ -373,19 +411,16 @@ module _ (st : Setting) (a : WellViews st.views) where
       let kb = walk_covers body e A B w cA cB (of_first A cA b.well dead wb.0 tt r.0) r.1 in
       (kb.0, (kb.1, ks.1, r.2, r.3, r.4))
 
-closed_all : Closed (λ e. Unit {0})
-closed_all = record { none = tt; down = λ e f w v x y. tt; both = λ e f w v x y. tt }
-
 pub covers_play : (st : Setting) (row : Row) (e : Exit) → WellViews st.views → WellExit e
-    → Enters row (values st row e) (λ f. ExitLe f (walk st row e).well) e × Inner st row (values st row e) (λ f. ExitLe f (walk st row e).well) (λ f. Unit {0})
+    → Enters row (values st row e) (λ f. ExitLe f (walk st row e).well) e × Inner st row (values st row e) (λ f. ExitLe f (walk st row e).well) Leaves
 covers_play st row e a w =
     let k = walk_well st a row e w in
-    walk_covers st a row e (λ f. ExitLe f (walk st row e).well) (λ f. Unit {0}) w (closed_below (walk st row e).well k.0) closed_all (exit_own (walk st row e).well k.0) tt
+    walk_covers st a row e (λ f. ExitLe f (walk st row e).well) Leaves w (closed_below (walk st row e).well k.0) closed_all (exit_own (walk st row e).well k.0) tt
 
 pub least_play : (st : Setting) (row : Row) (e : Exit) (vs : Values row) (last : Exit) → WellViews st.views → WellExit e → WellValues row vs → WellExit last
-    → Enters row vs (λ f. ExitLe f last) e × Inner st row vs (λ f. ExitLe f last) (λ f. Unit {0}) → ValuesLe row (values st row e) vs × ExitLe (walk st row e).well last
+    → Enters row vs (λ f. ExitLe f last) e × Inner st row vs (λ f. ExitLe f last) Leaves → ValuesLe row (values st row e) vs × ExitLe (walk st row e).well last
 least_play st row e vs last a w u v x =
-    let k = walk_least st a row e vs (λ f. ExitLe f last) (λ f. Unit {0}) w u (closed_below last v) closed_all x.0 x.1 in
+    let k = walk_least st a row e vs (λ f. ExitLe f last) Leaves w u (closed_below last v) closed_all x.0 x.1 in
     (k.0, k.1)
 
 -- visits
@@ -409,6 +444,15 @@ module _ (st : Setting) where
   dead_visits (task t row) = dead_visits row
   dead_visits (flush hs row) =
       append_same (flush_walk st hs dead).visits [] (walk st row (flush_walk st hs dead).well).visits [] (flush_none st hs) (ap (λ e. (walk st row e).visits) (flush_dead st hs).0 ∙ dead_visits row)
+  dead_visits (section body hs row) =
+      let b = walk st body dead in
+      let db = dead_walk st body in
+      let g = flush_walk st hs b.well in
+      let xg : g.visits ≡ [] = ap (λ e. (flush_walk st hs e).visits) db.0 ∙ flush_none st hs in
+      let xh : (flush_walk st hs b.hurt).visits ≡ [] = ap (λ e. (flush_walk st hs e).visits) db.1 ∙ flush_none st hs in
+      let wg : g.well ≡ dead = ap (λ e. (flush_walk st hs e).well) db.0 ∙ (flush_dead st hs).0 in
+      let xk : (walk st row g.well).visits ≡ [] = ap (λ e. (walk st row e).visits) wg ∙ dead_visits row in
+      parts_none [] b.visits g.visits (flush_walk st hs b.hurt).visits (walk st row g.well).visits refl (dead_visits body) xg xh xk
   dead_visits (block d body true rescued always row) =
       let b = walk st body dead in
       let db = dead_walk st body in
@@ -440,6 +484,11 @@ module _ (st : Setting) where
   visits_same (flush hs row) e =
       append_same (flush_walk st hs e).visits (flush_visits st hs (flush_values st hs e)) (walk st row (flush_walk st hs e).well).visits (visits_of st row (values st row (flush_walk st hs e).well)) (flush_same st hs e)
       (visits_same row (flush_walk st hs e).well)
+  visits_same (section body hs row) e =
+      let b = walk st body e in
+      let g = flush_walk st hs b.well in
+      parts_same [] b.visits g.visits (flush_walk st hs b.hurt).visits (walk st row g.well).visits [] (visits_of st body (values st body e)) (flush_visits st hs (flush_values st hs b.well))
+      (flush_visits st hs (flush_values st hs b.hurt)) (visits_of st row (values st row g.well)) refl (visits_same body e) (flush_same st hs b.well) (flush_same st hs b.hurt) (visits_same row g.well)
   visits_same (block d body true rescued always row) e =
       let b = walk st body e in
       let s = walk st rescued b.hurt in

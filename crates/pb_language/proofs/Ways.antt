@@ -9,7 +9,7 @@ use Rattle.pb_semantics.proofs.JoinModels.{meet_models}
 use Rattle.pb_semantics.proofs.JoinWell.{joins_well}
 use Rattle.pb_language.specs.Cases.{failing_cases}
 use Rattle.pb_language.specs.Scope.{Since}
-use Rattle.pb_language.specs.Task.{Task, Handlers, no_handlers, handler, Row, end, task, flush, block}
+use Rattle.pb_language.specs.Task.{Task, Handlers, no_handlers, handler, Row, end, task, flush, section, block}
 use Rattle.pb_language.specs.Rest.{Rest, done, left, next, ask, rescue, hold, release, flush_rest, rest_of}
 use Rattle.pb_language.specs.Setting.{Setting}
 use Rattle.pb_language.specs.Judgement.{Exit, dead, live, task_fault, live_if, has_going, has_case, going_slots, failing_slots, going_exit, failing_exit, task_writes, loop_length}
@@ -101,6 +101,10 @@ module _ (st : Setting) (view : Slots) (later : Since) (bound : Task → ℕ) wh
     typed_next dead t a b w f ya yb = tt
     typed_next (live env) t a b w f ya yb = (env, above_itself env, w, f.0, ya, yb)
 
+    typed_left : (e : Exit) → Typed e left
+    typed_left dead = tt
+    typed_left (live env) = tt
+
     typed_ask : (e : Exit) (n : ℕ) (a b : Rest) → Typed e a → Typed e b → Typed e (ask n a b)
     typed_ask dead n a b ya yb = tt
     typed_ask (live env) n a b ya yb = (ya, yb)
@@ -139,8 +143,7 @@ module _ (st : Setting) (view : Slots) (later : Since) (bound : Task → ℕ) wh
     flush_well (handler n t hs) e w a =
         let k = flush_walk st hs (meet e (going_from st t e)) in
         let here = all_first Fine (visits_at st t e) k.visits a in
-        let rest = flush_well hs (meet e (going_from st t e)) (meet_well e (going_from st t e) w (going_from_well t e w here)) (all_second Fine (visits_at st t e) k.visits a) in
-        (rest.0, meet_well (failing_from st t e) k.hurt (failing_from_well t e w here) rest.1)
+        flush_well hs (meet e (going_from st t e)) (meet_well e (going_from st t e) w (going_from_well t e w here)) (all_second Fine (visits_at st t e) k.visits a)
 
     -- the exits of a walk are well formed
     pub walk_well : (row : Row) (e : Exit) → WellExit e → AllVisits Fine (walk st row e).visits → WellExit (walk st row e).well × WellExit (walk st row e).hurt
@@ -154,8 +157,17 @@ module _ (st : Setting) (view : Slots) (later : Since) (bound : Task → ℕ) wh
         let f = flush_walk st hs e in
         let k = walk st row f.well in
         let here = flush_well hs e w (all_first Fine f.visits k.visits a) in
-        let rest = walk_well row f.well here.0 (all_second Fine f.visits k.visits a) in
-        (rest.0, meet_well f.hurt k.hurt here.1 rest.1)
+        walk_well row f.well here.0 (all_second Fine f.visits k.visits a)
+    walk_well (section body hs row) e w a =
+        let x = walk st body e in
+        let g = flush_walk st hs x.well in
+        let h = flush_walk st hs x.hurt in
+        let k = walk st row g.well in
+        let a1 = all_second Fine x.visits (g.visits ++ (h.visits ++ k.visits)) a in
+        let a2 = all_second Fine g.visits (h.visits ++ k.visits) a1 in
+        let wx = walk_well body e w (all_first Fine x.visits (g.visits ++ (h.visits ++ k.visits)) a) in
+        let wg = flush_well hs x.well wx.0 (all_first Fine g.visits (h.visits ++ k.visits) a1) in
+        walk_well row g.well wg.0 (all_second Fine h.visits k.visits a2)
     walk_well (block d body true rescued always row) e w a =
         let x = walk st body e in
         let s = walk st rescued x.hurt in
@@ -185,21 +197,17 @@ module _ (st : Setting) (view : Slots) (later : Since) (bound : Task → ℕ) wh
         (wk.0, meet_well k.hurt (meet g.hurt (meet h.well h.hurt)) wk.1 (meet_well g.hurt (meet h.well h.hurt) wg.1 (meet_well h.well h.hurt wh.0 wh.1)))
 
     module _ (End : Slots → Type 0) where
-      typed_flush : (hs : Handlers) (e : Exit) (a b : Rest) → WellExit e → AllVisits Fine (flush_walk st hs e).visits → Typed End (flush_walk st hs e).well a → Typed End (flush_walk st hs e).hurt b → Typed End e (flush_rest hs a b)
-      typed_flush no_handlers e a b w f ya yb = ya
-      typed_flush (handler n t hs) e a b w f ya yb =
+      typed_flush : (hs : Handlers) (e : Exit) (a : Rest) → WellExit e → AllVisits Fine (flush_walk st hs e).visits → Typed End (flush_walk st hs e).well a → Typed End e (flush_rest hs a)
+      typed_flush no_handlers e a w f ya = ya
+      typed_flush (handler n t hs) e a w f ya =
           let g = going_from st t e in
           let k = flush_walk st hs (meet e g) in
           let here = all_first Fine (visits_at st t e) k.visits f in
           let rest = all_second Fine (visits_at st t e) k.visits f in
           let wg = going_from_well t e w here in
-          let wf = failing_from_well t e w here in
-          let wk = flush_well hs (meet e g) (meet_well e g w wg) rest in
-          let after_all = flush_rest hs a b in
-          let y = typed_flush hs (meet e g) a b (meet_well e g w wg) rest ya (typed_second End (failing_from st t e) k.hurt b wf wk.1 yb) in
-          typed_ask End e n (next t after_all b) after_all
-          (typed_next End e t after_all b w here (typed_second End e g after_all w wg y) (typed_first End (failing_from st t e) k.hurt b wf wk.1 yb))
-          (typed_first End e g after_all w wg y)
+          let after_all = flush_rest hs a in
+          let y = typed_flush hs (meet e g) a (meet_well e g w wg) rest ya in
+          typed_ask End e n (next t after_all left) after_all (typed_next End e t after_all left w here (typed_second End e g after_all w wg y) (typed_left End (failing_from st t e))) (typed_first End e g after_all w wg y)
 
       -- the walk types the ways through a row
       pub typed_row : (row : Row) (m : ℕ) (e : Exit) (a b : Rest) → WellExit e → AllVisits Fine (walk st row e).visits → Typed End (walk st row e).well a → Typed End (walk st row e).hurt b → Typed End e (rest_of row m a b)
@@ -221,8 +229,21 @@ module _ (st : Setting) (view : Slots) (later : Since) (bound : Task → ℕ) wh
           let fx = all_first Fine x.visits k.visits f in
           let fk = all_second Fine x.visits k.visits f in
           let wx = flush_well hs e w fx in
-          let wk = walk_well row x.well wx.0 fk in
-          typed_flush hs e (rest_of row m a b) b w fx (typed_row row m x.well a b wx.0 fk ya (typed_second End x.hurt k.hurt b wx.1 wk.1 yb)) (typed_first End x.hurt k.hurt b wx.1 wk.1 yb)
+          typed_flush hs e (rest_of row m a b) w fx (typed_row row m x.well a b wx.0 fk ya yb)
+      typed_row (section body hs row) m e a b w f ya yb =
+          let x = walk st body e in
+          let g = flush_walk st hs x.well in
+          let h = flush_walk st hs x.hurt in
+          let k = walk st row g.well in
+          let f1 = all_second Fine x.visits (g.visits ++ (h.visits ++ k.visits)) f in
+          let f2 = all_second Fine g.visits (h.visits ++ k.visits) f1 in
+          let fx = all_first Fine x.visits (g.visits ++ (h.visits ++ k.visits)) f in
+          let fg = all_first Fine g.visits (h.visits ++ k.visits) f1 in
+          let wx = walk_well body e w fx in
+          let wg = flush_well hs x.well wx.0 fg in
+          let yk = typed_row row m g.well a b wg.0 (all_second Fine h.visits k.visits f2) ya yb in
+          typed_row body m e (flush_rest hs (rest_of row m a b)) (flush_rest hs left) w fx (typed_flush hs x.well (rest_of row m a b) wx.0 fg yk)
+          (typed_flush hs x.hurt left wx.1 (all_first Fine h.visits k.visits f2) (typed_left End h.well))
       typed_row (block d body true rescued always row) m e a b w f ya yb =
           let x = walk st body e in
           let s = walk st rescued x.hurt in

@@ -65,6 +65,8 @@ pub record PlayData : Type 0 where
   pub tasks : Steps
   pub post_tasks : Steps
   pub handlers : List HandlerData
+  -- a failure in a section runs its flush all the same
+  pub forces : Bool
 
 abbrev pub Book : Type 0
 Book = List PlayData

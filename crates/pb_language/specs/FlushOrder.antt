@@ -10,10 +10,10 @@ use Rattle.pb_language.specs.Machine.{Host, begins, waits, is_marked, unmarked, 
 use Rattle.pb_language.specs.Notify.{HandlerNames, handlers_are, all_notified}
 use Rattle.pb_language.specs.Plays.{Surroundings, handlers_at, program_of}
 use Rattle.pb_language.specs.Program.{Inventory, Play, Program}
-use Rattle.pb_language.specs.Rest.{Rest, flush_rest}
+use Rattle.pb_language.specs.Rest.{Rest, left, flush_rest}
 use Rattle.pb_language.specs.Rules.{any_up_to, any_notifies_up_to}
 use Rattle.pb_language.specs.Task.{Task, Handlers, no_handlers, handler, Row, end, task, flush}
-use Rattle.pb_language.specs.Task.{block}
+use Rattle.pb_language.specs.Task.{section, block}
 use Rattle.pb_language.specs.Verdict.{accepted}
 
 -- a handler that ran, and the numbers of those that it notified
@@ -73,14 +73,14 @@ OrderNotifiesLater = (i : ℕ) (hs : List HandlerNames) (ns : List Name) (ms : L
 -- the machine's questions are these: it goes past a handler that isn't notified, and starts one
 -- that is, whose mark is cleared
 abbrev pub FlushAsks : Type 0
-FlushAsks = (h : Host) (n : ℕ) (t : Task) (hs : Handlers) (well hurt : Rest)
-    → settled h (flush_rest (handler n t hs) well hurt)
+FlushAsks = (h : Host) (n : ℕ) (t : Task) (hs : Handlers) (well : Rest)
+    → settled h (flush_rest (handler n t hs) well)
     ≡ cond (is_marked n h.marks)
     (record h {
       marks = unmarked n h.marks;
-      stage = waits (begins t (flush_rest hs well hurt) hurt);
+      stage = waits (begins t (flush_rest hs well) left);
     })
-    (settled h (flush_rest hs well hurt))
+    (settled h (flush_rest hs well))
 
 -- what can run at a flush of a play: each a handler of it, which notifies what its task notifies,
 -- or nothing where it isn't changed
@@ -107,6 +107,8 @@ abbrev pub FlushesRepeat : Play → Row → Type 0
 FlushesRepeat p end = Unit {0}
 FlushesRepeat p (task t row) = FlushesRepeat p row
 FlushesRepeat p (flush hs row) = FlushRepeats p hs × FlushesRepeat p row
+FlushesRepeat p (section body hs row) =
+    FlushesRepeat p body × (FlushRepeats p hs × FlushesRepeat p row)
 FlushesRepeat p (block d body saves rescued always row) =
     FlushesRepeat p body × (FlushesRepeat p rescued
     × (FlushesRepeat p always × FlushesRepeat p row))

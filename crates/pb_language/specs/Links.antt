@@ -2,7 +2,7 @@
 use Rattle.std.specs.Prelude.{◌≡◌, ◌≤◌, ◌<◌, ℕ, suc, ◌+◌, nat_lt, List, [], ◌∷◌, ◌++◌, Bool, true}
 use Rattle.std.specs.Prelude.{false, cond}
 use Rattle.pb_language.specs.Task.{Task, Handlers, no_handlers, handler, Row, end, task, flush}
-use Rattle.pb_language.specs.Task.{block}
+use Rattle.pb_language.specs.Task.{section, block}
 use Rattle.pb_language.specs.Setting.{Setting}
 use Rattle.pb_language.specs.Judgement.{Exit, dead}
 use Rattle.pb_language.specs.Walk.{going_from, failing_from, walk}
@@ -23,6 +23,7 @@ abbrev pub size : Row → ℕ
 size end = 0
 size (task t row) = suc (size row)
 size (flush hs row) = handler_places hs + size row
+size (section body hs row) = size body + (handler_places hs + (handler_places hs + size row))
 size (block d body saves rescued always row) =
     size body + (size rescued + (size always + (size always + size row)))
 
@@ -36,6 +37,9 @@ abbrev pub entry : Row → ℕ → List ℕ → List ℕ
 entry end o after = after
 entry (task t row) o after = o ∷ []
 entry (flush hs row) o after = flush_entry hs o (entry row (o + handler_places hs) after)
+entry (section body hs row) o after =
+    let a = o + size body in
+    entry body o (flush_entry hs a (entry row (a + handler_places hs + handler_places hs) after))
 entry (block d body saves rescued always row) o after =
     let a = o + size body + size rescued in
     entry body o (entry always a (entry row (a + size always + size always) after))
@@ -45,10 +49,10 @@ links_to o t b [] = []
 links_to o t b (n ∷ ns) =
     record { source = o; by = t; goes = b; target = n } ∷ links_to o t b ns
 
-abbrev pub flush_links : Handlers → ℕ → List ℕ → List ℕ → List Link
-flush_links no_handlers o after hurt = []
-flush_links (handler n t hs) o after hurt = links_to o t true (flush_entry hs (suc o) after)
-    ++ (links_to o t false hurt ++ flush_links hs (suc o) after hurt)
+abbrev pub flush_links : Handlers → ℕ → List ℕ → List Link
+flush_links no_handlers o after = []
+flush_links (handler n t hs) o after =
+    links_to o t true (flush_entry hs (suc o) after) ++ flush_links hs (suc o) after
 
 abbrev pub saved_entry : Bool → List ℕ → List ℕ → List ℕ
 saved_entry true inside outside = inside
@@ -61,7 +65,14 @@ links (task t row) o after hurt = links_to o t true (entry row (suc o) after)
     ++ (links_to o t false hurt ++ links row (suc o) after hurt)
 links (flush hs row) o after hurt =
     let n = o + handler_places hs in
-    flush_links hs o (entry row n after) hurt ++ links row n after hurt
+    flush_links hs o (entry row n after) ++ links row n after hurt
+links (section body hs row) o after hurt =
+    let a = o + size body in
+    let f = a + handler_places hs in
+    let n = f + handler_places hs in
+    let next = entry row n after in
+    links body o (flush_entry hs a next) (flush_entry hs f [])
+    ++ (flush_links hs a next ++ (flush_links hs f [] ++ links row n after hurt))
 links (block d body saves rescued always row) o after hurt =
     let r = o + size body in
     let a = r + size rescued in
@@ -83,6 +94,14 @@ abbrev pub values_at : (ℕ → Exit) → (row : Row) → ℕ → Values row
 values_at val end o = tt
 values_at val (task t row) o = (val o, values_at val row (suc o))
 values_at val (flush hs row) o = (flush_at val hs o, values_at val row (o + handler_places hs))
+values_at val (section body hs row) o =
+    let a = o + size body in
+    let f = a + handler_places hs in (
+      values_at val body o,
+      flush_at val hs a,
+      flush_at val hs f,
+      values_at val row (f + handler_places hs),
+    )
 values_at val (block d body saves rescued always row) o =
     let r = o + size body in
     let a = r + size rescued in
@@ -138,6 +157,13 @@ numbered (task t row) vs o i = cond (nat_lt i (suc o)) vs.0 (numbered row vs.1 (
 numbered (flush hs row) vs o i =
     let n = o + handler_places hs in
     cond (nat_lt i n) (flush_numbers hs vs.0 o i) (numbered row vs.1 n i)
+numbered (section body hs row) vs o i =
+    let a = o + size body in
+    let f = a + handler_places hs in
+    let n = f + handler_places hs in
+    cond (nat_lt i a) (numbered body vs.0 o i)
+    (cond (nat_lt i f) (flush_numbers hs vs.1 a i)
+    (cond (nat_lt i n) (flush_numbers hs vs.2 f i) (numbered row vs.3 n i)))
 numbered (block d body saves rescued always row) vs o i =
     let r = o + size body in
     let a = r + size rescued in

@@ -13,7 +13,8 @@ use Rattle.pb_language.specs.Expansion.{expanded, all_expanded, parts_expanded, 
 use Rattle.pb_language.specs.World.{Group, HostVariables}
 use Rattle.pb_language.specs.Notify.{HandlerNames}
 use Rattle.pb_language.specs.Task.{Action, call_of, debug, set_fact, assertion, failure_of, Task}
-use Rattle.pb_language.specs.Task.{Handlers, no_handlers, handler, Row, end, task, flush, block}
+use Rattle.pb_language.specs.Task.{Handlers, no_handlers, handler, Row, end, task, flush, section}
+use Rattle.pb_language.specs.Task.{block}
 use Rattle.pb_language.specs.Book.{Asserted, not_given, not_well_formed, conditions_are, Work}
 use Rattle.pb_language.specs.Book.{module_work, debug_work, set_fact_work, assert_work, fail_work}
 use Rattle.pb_language.specs.Book.{TaskData, BlockData, Steps, no_steps, task_step, block_step}
@@ -133,14 +134,21 @@ row_of hs n s p (block_step b x y z ss) row =
     (row_of hs n (inside s b) (places_in n y + (places_in n x + p)) z end)
     (row_of hs n s (places_in n z + (places_in n y + (places_in n x + p))) ss row)
 
+-- a section's steps and the flush at its end, which runs after a failure too where it is forced
+abbrev pub ended_row : Bool → Handlers → (Row → Row) → Row → Row
+ended_row true hs steps row = section (steps end) hs row
+ended_row false hs steps row = steps (flush hs row)
+
 -- a section that isn't empty ends with a flush
-abbrev pub section_row : (ℕ → Handlers) → ℕ → Surroundings → ℕ → Steps → (ℕ → Row) → Row
-section_row hs n s p ss go = cond (is_given ss)
-    (row_of hs n s p ss (flush (hs (places_in n ss + p)) (go (n + (places_in n ss + p))))) (go p)
+abbrev pub section_row : (ℕ → Handlers) → ℕ → Surroundings → Bool → ℕ → Steps → (ℕ → Row) → Row
+section_row hs n s forces p ss go = cond (is_given ss)
+    (ended_row forces (hs (places_in n ss + p)) (row_of hs n s p ss)
+    (go (n + (places_in n ss + p)))) (go p)
 
 abbrev pub sections_row : (ℕ → Handlers) → ℕ → Surroundings → ℕ → PlayData → Row
-sections_row hs n s p play = section_row hs n s p play.pre_tasks
-    (λ q. section_row hs n s q play.tasks (λ r. section_row hs n s r play.post_tasks (λ t. end)))
+sections_row hs n s p play = section_row hs n s play.forces p play.pre_tasks
+    (λ q. section_row hs n s play.forces q play.tasks
+    (λ r. section_row hs n s play.forces r play.post_tasks (λ t. end)))
 
 -- the task that gathers facts
 abbrev pub gathering_task : ℕ → TaskData

@@ -1,7 +1,7 @@
 -- What a host still has to do: the ways through a row (Ansible's pages on blocks and on handlers).
 use Rattle.std.specs.Prelude.{ℕ, suc, Bool, cond}
 use Rattle.pb_language.specs.Task.{Task, Handlers, no_handlers, handler, Row, end, task, flush}
-use Rattle.pb_language.specs.Task.{block}
+use Rattle.pb_language.specs.Task.{section, block}
 
 pub data Rest : Type 0 where
   -- the play is over
@@ -19,12 +19,13 @@ pub data Rest : Type 0 where
   -- the failure that was held goes outwards
   release : ℕ → Rest → Rest
 
-abbrev pub handler_rest : ℕ → Task → Rest → Rest → Rest
-handler_rest n t well hurt = ask n (next t well hurt) well
+-- a host whose handler fails leaves at once
+abbrev pub handler_rest : ℕ → Task → Rest → Rest
+handler_rest n t well = ask n (next t well left) well
 
-abbrev pub flush_rest : Handlers → Rest → Rest → Rest
-flush_rest no_handlers well hurt = well
-flush_rest (handler n t hs) well hurt = handler_rest n t (flush_rest hs well hurt) hurt
+abbrev pub flush_rest : Handlers → Rest → Rest
+flush_rest no_handlers well = well
+flush_rest (handler n t hs) well = handler_rest n t (flush_rest hs well)
 
 -- a failure in the body enters the rescue, where there is one
 abbrev pub saved_rest : ℕ → Bool → (Rest → Rest → Rest) → Rest → Rest → Rest
@@ -37,11 +38,14 @@ block_rest d body saves rescued well hurt = body well (saved_rest d saves rescue
 -- the ways through a row, from where they go on when it is well and when it failed; the number
 -- counts the `always` parts round it that run after a failure. A failure in a block enters its
 -- rescue; without one the always, and goes outwards. A rescue that completes clears the failure.
--- The always runs in the end, whatever happened.
+-- The always runs in the end, whatever happened. A failure in a section that forces its handlers
+-- goes to the flush at its end, and then the host leaves.
 abbrev pub rest_of : Row → ℕ → Rest → Rest → Rest
 rest_of end m well hurt = well
 rest_of (task t row) m well hurt = next t (rest_of row m well hurt) hurt
-rest_of (flush hs row) m well hurt = flush_rest hs (rest_of row m well hurt) hurt
+rest_of (flush hs row) m well hurt = flush_rest hs (rest_of row m well hurt)
+rest_of (section body hs row) m well hurt =
+    rest_of body m (flush_rest hs (rest_of row m well hurt)) (flush_rest hs left)
 rest_of (block d body saves rescued always row) m well hurt =
     block_rest d (rest_of body m) saves (rest_of rescued m)
     (rest_of always m (rest_of row m well hurt) hurt)

@@ -1,5 +1,5 @@
 -- The lines of a book, each with what stands round it.
-use Rattle.std.specs.Prelude.{ℕ, suc, ◌+◌, ◌^◌, List, [], ◌∷◌, ◌++◌, cond, Option, Some, None}
+use Rattle.std.specs.Prelude.{ℕ, suc, ◌+◌, ◌*◌, ◌^◌, List, [], ◌∷◌, ◌++◌, cond, Option, Some, None}
 use Rattle.std.specs.Prelude.{length}
 use Rattle.pb_language.specs.Expression.{Expressions, no_expressions, Parts, no_parts}
 use Rattle.pb_language.specs.Book.{TaskData, Steps, no_steps, task_step, block_step, flush_step}
@@ -78,14 +78,18 @@ steps_in hs n (flush_step l ss) = hs + steps_in hs n ss
 steps_in hs n (block_step b x y z ss) =
     steps_in hs n x + (steps_in hs n y + (steps_in hs (suc n) z + steps_in hs n ss))
 
-abbrev pub section_steps : ℕ → Steps → ℕ
-section_steps hs ss = cond (is_given ss) (steps_in hs 0 ss + hs) 0
+-- a flush that is forced counts twice
+abbrev pub section_steps : ℕ → ℕ → Steps → ℕ
+section_steps hs modes ss = cond (is_given ss) (steps_in hs 0 ss + modes * hs) 0
 
 abbrev pub gathering_steps : Option ℕ → ℕ
 gathering_steps None = 0
 gathering_steps (Some l) = 1
 
+abbrev pub sections_steps : ℕ → ℕ → PlayData → ℕ
+sections_steps hs modes p = section_steps hs modes p.pre_tasks
+    + (section_steps hs modes p.tasks + section_steps hs modes p.post_tasks)
+
 abbrev pub steps_of : PlayData → ℕ
-steps_of p = gathering_steps p.gathering
-    + (section_steps (length p.handlers) p.pre_tasks
-    + (section_steps (length p.handlers) p.tasks + section_steps (length p.handlers) p.post_tasks))
+steps_of p =
+    gathering_steps p.gathering + sections_steps (length p.handlers) (cond p.forces 2 1) p

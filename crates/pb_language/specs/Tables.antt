@@ -12,7 +12,8 @@ use Rattle.pb_language.specs.Scope.{spot_kind, is_certain, with_spot, Since, no_
 use Rattle.pb_language.specs.Scope.{every_name, View, view_of, Later}
 use Rattle.pb_language.specs.Kinds.{known_slots}
 use Rattle.pb_language.specs.Task.{Action, call_of, debug, set_fact, assertion, failure_of, Task}
-use Rattle.pb_language.specs.Task.{Handlers, no_handlers, handler, Row, end, task, flush, block}
+use Rattle.pb_language.specs.Task.{Handlers, no_handlers, handler, Row, end, task, flush, section}
+use Rattle.pb_language.specs.Task.{block}
 use Rattle.pb_language.specs.Cases.{Sets, no_sets, sets}
 use Rattle.pb_language.specs.Judgement.{Exit, dead, live, task_writes, loop_length}
 use Rattle.pb_language.specs.Walk.{Visit, Walked, walk}
@@ -210,11 +211,13 @@ abbrev pub flush_calls : List Visit → Handlers → ℕ
 flush_calls vs no_handlers = 0
 flush_calls vs (handler n t hs) = place_calls vs t t.action + flush_calls vs hs
 
--- an `always` has one set of places for both its modes
+-- an `always` and a forced flush have one set of places for both their modes
 abbrev pub row_calls : List Visit → Row → ℕ
 row_calls vs end = 0
 row_calls vs (task t row) = place_calls vs t t.action + row_calls vs row
 row_calls vs (flush hs row) = flush_calls vs hs + row_calls vs row
+row_calls vs (section body hs row) =
+    row_calls vs body + (flush_calls vs hs + row_calls vs row)
 row_calls vs (block d body saves rescued always row) =
     row_calls vs body + (row_calls vs rescued + (row_calls vs always + row_calls vs row))
 

@@ -34,10 +34,12 @@ pub data Handlers : Type 0 where
   no_handlers : Handlers
   handler : ℕ → Task → Handlers → Handlers
 
--- a row of tasks, flushes and blocks; a block has the number of `rescue` parts round it, a body,
--- perhaps a rescue, an always, and what follows it
+-- a row of tasks, flushes, blocks and sections that force their handlers; a block has the number of
+-- `rescue` parts round it, a body, perhaps a rescue, an always, and what follows it; such a section
+-- its steps, the flush at its end, and what follows that
 pub data Row : Type 0 where
   end : Row
   task : Task → Row → Row
   flush : Handlers → Row → Row
+  section : Row → Handlers → Row → Row
   block : ℕ → Row → Bool → Row → Row → Row → Row

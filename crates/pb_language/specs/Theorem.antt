@@ -7,7 +7,8 @@ use Rattle.pb_language.specs.World.{HostVariables}
 use Rattle.pb_language.specs.Book.{Book, Registry}
 use Rattle.pb_language.specs.Plays.{program_of}
 use Rattle.pb_language.specs.Program.{Inventory, Program, Batch, all_batches}
-use Rattle.pb_language.specs.Task.{Handlers, no_handlers, handler, Row, end, task, flush, block}
+use Rattle.pb_language.specs.Task.{Handlers, no_handlers, handler, Row, end, task, flush, section}
+use Rattle.pb_language.specs.Task.{block}
 use Rattle.pb_language.specs.Tables.{all_walked, views_after}
 use Rattle.pb_language.specs.Verdict.{accepted, all_have, found_laters}
 use Rattle.pb_language.specs.Judged.{judged}
@@ -55,7 +56,7 @@ Progress = (ms : Registry) (inventory : Inventory) (b : Book) (forks : ℕ) (es 
     → (s.batches ≡ [] → false ≡ true) → none_out s.hosts ≡ true → CanGoOn s
 
 -- the places of a row: one for each task, and at each flush one for each handler; an `always` part
--- has one set of places for both its modes
+-- has one set of places for both its modes, and so has a flush that is forced
 abbrev pub handler_places : Handlers → ℕ
 handler_places no_handlers = 0
 handler_places (handler n t hs) = suc (handler_places hs)
@@ -64,6 +65,7 @@ abbrev pub places_of : Row → ℕ
 places_of end = 0
 places_of (task t row) = suc (places_of row)
 places_of (flush hs row) = handler_places hs + places_of row
+places_of (section body hs row) = places_of body + (handler_places hs + places_of row)
 places_of (block d body saves rescued always row) =
     places_of body + (places_of rescued + (places_of always + places_of row))
 

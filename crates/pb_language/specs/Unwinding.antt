@@ -1,18 +1,21 @@
 -- What a host still has to do as a row and the blocks that are open round it, and how blocks unwind
 -- (Ansible's page on blocks).
 use Rattle.std.specs.Prelude.{◌≡◌, ℕ, suc, List, [], ◌∷◌, Bool, true, false}
-use Rattle.pb_language.specs.Rest.{Rest, done, left, next, rescue, hold, release, saved_rest}
-use Rattle.pb_language.specs.Rest.{rest_of}
-use Rattle.pb_language.specs.Task.{Task, Row, end, task, block}
+use Rattle.pb_language.specs.Rest.{Rest, done, left, next, rescue, hold, release, flush_rest}
+use Rattle.pb_language.specs.Rest.{saved_rest, rest_of}
+use Rattle.pb_language.specs.Task.{Task, Handlers, Row, end, task, flush, section, block}
 
--- an open block, by the part of it that runs: with what is still to come of it, and the row after
--- it
+-- an open block, by the part of it that runs, or an open section: with what is still to come of it,
+-- and the row after it
 pub data Part : Type 0 where
   block_part : ℕ → Bool → Row → Row → Row → Part
   rescue_part : Row → Row → Part
   always_part : Row → Part
   -- after a failure, which goes outwards when the part is done
   failed_always_part : Part
+  -- a section that forces its handlers, and its flush after a failure, after which the host leaves
+  section_part : Handlers → Row → Part
+  failed_section_part : Part
 
 -- a host before a row, or with a failure, inside its open blocks
 pub data Place : Type 0 where
@@ -23,15 +26,19 @@ pub data Place : Type 0 where
 -- and that by what comes after the block: a rescue that completes clears the failure. 3. A failure
 -- in a body enters the rescue, where there is one. 4. Without one, and after a failure in the
 -- rescue, the always runs, and then the failure goes outwards. 5. A failure in an always goes
--- outwards.
+-- outwards. A section that forces its handlers ends with its flush, and a failure in it enters that
+-- flush too; then the host leaves.
 abbrev pub unwound : Place → Place
 unwound (before (block d body saves rescued always row) ps) =
     before body (block_part d saves rescued always row ∷ ps)
+unwound (before (section body hs row) ps) = before body (section_part hs row ∷ ps)
 unwound (before end (block_part d saves rescued always row ∷ ps)) =
     before always (always_part row ∷ ps)
 unwound (before end (rescue_part always row ∷ ps)) = before always (always_part row ∷ ps)
 unwound (before end (always_part row ∷ ps)) = before row ps
 unwound (before end (failed_always_part ∷ ps)) = failing ps
+unwound (before end (section_part hs row ∷ ps)) = before (flush hs row) ps
+unwound (before end (failed_section_part ∷ ps)) = failing []
 unwound (failing (block_part d true rescued always row ∷ ps)) =
     before rescued (rescue_part always row ∷ ps)
 unwound (failing (block_part d false rescued always row ∷ ps)) =
@@ -39,6 +46,8 @@ unwound (failing (block_part d false rescued always row ∷ ps)) =
 unwound (failing (rescue_part always row ∷ ps)) = before always (failed_always_part ∷ ps)
 unwound (failing (always_part row ∷ ps)) = failing ps
 unwound (failing (failed_always_part ∷ ps)) = failing ps
+unwound (failing (section_part hs row ∷ ps)) = before (flush hs end) (failed_section_part ∷ ps)
+unwound (failing (failed_section_part ∷ ps)) = failing []
 unwound x = x
 
 -- how many failures are held by open `always` parts
@@ -57,6 +66,9 @@ abbrev mutual
       rest_of always (held ps) (rest_of row (held ps) (well_from ps) (hurt_from ps)) (hurt_from ps)
   well_from (always_part row ∷ ps) = rest_of row (held ps) (well_from ps) (hurt_from ps)
   well_from (failed_always_part ∷ ps) = release (held ps) (hurt_from ps)
+  well_from (section_part hs row ∷ ps) =
+      flush_rest hs (rest_of row (held ps) (well_from ps) (hurt_from ps))
+  well_from (failed_section_part ∷ ps) = left
 
   -- and when a task in them failed
   pub hurt_from : List Part → Rest
@@ -71,6 +83,8 @@ abbrev mutual
       (rest_of always (suc (held ps)) (release (held ps) (hurt_from ps)) (hurt_from ps))
   hurt_from (always_part row ∷ ps) = hurt_from ps
   hurt_from (failed_always_part ∷ ps) = hurt_from ps
+  hurt_from (section_part hs row ∷ ps) = flush_rest hs left
+  hurt_from (failed_section_part ∷ ps) = left
 
 -- the ways of a host at a place
 abbrev pub ways_at : Place → Rest

@@ -4,7 +4,7 @@ use Rattle.std.specs.Prelude.{List, [], ◌∷◌, ◌++◌, Bool, cond}
 use Rattle.pb_semantics.specs.Kind.{Slots}
 use Rattle.pb_semantics.specs.Join.{join_slots}
 use Rattle.pb_language.specs.Task.{Task, Handlers, no_handlers, handler, Row, end, task, flush}
-use Rattle.pb_language.specs.Task.{block}
+use Rattle.pb_language.specs.Task.{section, block}
 use Rattle.pb_language.specs.Setting.{Setting}
 use Rattle.pb_language.specs.Judgement.{Exit, dead, live, going_exit, failing_exit}
 
@@ -43,15 +43,15 @@ nothing_done e = record { visits = []; well = e; hurt = dead }
 abbrev pub after_visits : List Visit → Exit → Walked → Walked
 after_visits vs x w = record { visits = vs ++ w.visits; well = w.well; hurt = meet x w.hurt }
 
--- what follows, from where the first goes on
+-- what follows a flush
 abbrev pub then_walk : Walked → (Exit → Walked) → Walked
-then_walk w after = after_visits w.visits w.hurt (after w.well)
+then_walk w after = after_visits w.visits dead (after w.well)
 
--- a handler may have run or not
+-- a handler may have run or not; where one fails the host leaves at once
 abbrev pub flush_walk : Setting → Handlers → Exit → Walked
 flush_walk st no_handlers e = nothing_done e
-flush_walk st (handler n t hs) e = after_visits (visits_at st t e) (failing_from st t e)
-    (flush_walk st hs (meet e (going_from st t e)))
+flush_walk st (handler n t hs) e =
+    after_visits (visits_at st t e) dead (flush_walk st hs (meet e (going_from st t e)))
 
 -- of the body, the rescue, the always in each mode, and what follows
 abbrev pub whole_block : Walked → Walked → Walked → Walked → Walked → Walked
@@ -76,10 +76,25 @@ abbrev pub then_rescue : Walked → Bool → (Exit → Walked) → (Exit → Wal
 then_rescue w saves rescued always after =
     then_always w (cond saves (rescued w.hurt) (unsaved w.hurt)) always after
 
+-- of a section that forces its handlers: its steps, its flush in each mode, and what follows
+abbrev pub whole_section : Walked → Walked → Walked → Walked → Walked
+whole_section w g h k = record {
+  visits = w.visits ++ (g.visits ++ (h.visits ++ k.visits));
+  well = k.well;
+  hurt = k.hurt;
+}
+
+abbrev pub then_end : Walked → Walked → Walked → (Exit → Walked) → Walked
+then_end w g h after = whole_section w g h (after g.well)
+
+abbrev pub then_flushes : Walked → (Exit → Walked) → (Exit → Walked) → Walked
+then_flushes w flushed after = then_end w (flushed w.well) (flushed w.hurt) after
+
 abbrev pub walk : Setting → Row → Exit → Walked
 walk st end e = nothing_done e
 walk st (task t row) e =
     after_visits (visits_at st t e) (failing_from st t e) (walk st row (going_from st t e))
 walk st (flush hs row) e = then_walk (flush_walk st hs e) (walk st row)
+walk st (section body hs row) e = then_flushes (walk st body e) (flush_walk st hs) (walk st row)
 walk st (block d body saves rescued always row) e =
     then_rescue (walk st body e) saves (walk st rescued) (walk st always) (walk st row)

@@ -1,5 +1,5 @@
 -- Cuts of batches, counts of steps, a budget of deep blocks, and histories, computed.
-use Rattle.std.specs.Prelude.{◌≡◌, refl, ℕ, zero, suc, List, [], ◌∷◌, true, Some, None, codes, map, length}
+use Rattle.std.specs.Prelude.{◌≡◌, refl, ℕ, zero, suc, List, [], ◌∷◌, true, false, Some, None, codes, map, length}
 use Rattle.pb_semantics.specs.Data.{text, rec, no_fields, field}
 use Rattle.pb_language.specs.Expression.{no_expressions, no_parts}
 use Rattle.pb_language.specs.Book.{module_work, TaskData, Steps, no_steps, task_step, block_step, host_count, percentage, PlayData, Book}
@@ -57,6 +57,7 @@ play ss = record {
   tasks = ss;
   post_tasks = no_steps;
   handlers = [];
+  forces = false;
 }
 
 abbrev nested : ℕ → Steps → Steps

@@ -1,5 +1,5 @@
 -- A loop over as many lines as an answer may have, and as many hosts as an inventory may have, computed.
-use Rattle.std.specs.Prelude.{◌≡◌, refl, ℕ, zero, suc, pos, List, [], ◌∷◌, true, Some, None, codes, replicate, ◌/◌, ◌%◌}
+use Rattle.std.specs.Prelude.{◌≡◌, refl, ℕ, zero, suc, pos, List, [], ◌∷◌, true, false, Some, None, codes, replicate, ◌/◌, ◌%◌}
 use Rattle.pb_semantics.specs.Data.{Items, boolean, int, text, list, rec, no_items, item, no_fields, field}
 use Rattle.pb_language.specs.Expression.{literal, path, variable, no_expressions, no_parts, part}
 use Rattle.pb_language.specs.Book.{module_work, TaskData, no_steps, task_step, Book}
@@ -32,7 +32,7 @@ abbrev second_task : TaskData
 second_task = record (command 3) { loop = Some (path (variable (codes "out")) (codes "stdout_lines" ∷ [])) }
 
 abbrev book : Book
-book = record { line = 1; pattern = codes "all" ∷ []; gathering = None; vars = no_parts; is_linear = true; serial = []; pre_tasks = no_steps; tasks = task_step first_task (task_step second_task no_steps); post_tasks = no_steps; handlers = [] } ∷ []
+book = record { line = 1; pattern = codes "all" ∷ []; gathering = None; vars = no_parts; is_linear = true; serial = []; pre_tasks = no_steps; tasks = task_step first_task (task_step second_task no_steps); post_tasks = no_steps; handlers = []; forces = false } ∷ []
 
 abbrev one_host : Inventory
 one_host = record { hosts = record { name = codes "h1"; variables = no_fields } ∷ []; groups = record { name = codes "all"; hosts = codes "h1" ∷ [] } ∷ [] }
@@ -64,7 +64,7 @@ abbrev ping : TaskData
 ping = record (command 2) { work = module_work (codes "ping") no_parts }
 
 abbrev one_ping : Book
-one_ping = record { line = 1; pattern = codes "all" ∷ []; gathering = None; vars = no_parts; is_linear = true; serial = []; pre_tasks = no_steps; tasks = task_step ping no_steps; post_tasks = no_steps; handlers = [] } ∷ []
+one_ping = record { line = 1; pattern = codes "all" ∷ []; gathering = None; vars = no_parts; is_linear = true; serial = []; pre_tasks = no_steps; tasks = task_step ping no_steps; post_tasks = no_steps; handlers = []; forces = false } ∷ []
 
 -- as many hosts as an inventory may have
 many_budget : judged builtins (inventory 1024) one_ping ≡ accepted 1024

@@ -21,6 +21,10 @@ pub mod Random01
 pub mod Random02
 pub mod Random03
 pub mod Random04
+pub mod Random05
+pub mod Random06
+pub mod Random07
+pub mod Random08
 pub mod Row01
 pub mod Row02
 pub mod Row03

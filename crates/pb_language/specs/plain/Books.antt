@@ -46,6 +46,7 @@ plain_play l ts = record {
   tasks = plain_steps ts;
   post_tasks = no_steps;
   handlers = [];
+  forces = false;
 }
 
 -- one host, which stands in no group of its own

@@ -6,7 +6,8 @@ use Rattle.std.specs.Prelude.{not, ◌&&◌, cond, Option, Some, None}
 use Rattle.pb_language.specs.Book.{HandlerData, Book, Registry}
 use Rattle.pb_language.specs.Expression.{Name}
 use Rattle.pb_language.specs.Judged.{judged}
-use Rattle.pb_language.specs.Machine.{Host, begins, waits, is_marked, unmarked, settled, notified_by}
+use Rattle.pb_language.specs.Machine.{Host, begins, waits, is_marked, unmarked, settled}
+use Rattle.pb_language.specs.Machine.{notified_by}
 use Rattle.pb_language.specs.Notify.{HandlerNames, handlers_are, all_notified}
 use Rattle.pb_language.specs.Plays.{Surroundings, handlers_at, program_of}
 use Rattle.pb_language.specs.Program.{Inventory, Play, Program}

@@ -1,6 +1,6 @@
--- The nodes of a row: each task once, an `always` once for each mode, a handler once for each flush
--- and for each mode of one that is forced. What is known at each, and what it is to cover the edges between them (this project's
--- own).
+-- The nodes of a row: each task once, an `always` once for each mode, a handler once for each
+-- flush and for each mode of one that is forced. What is known at each, and what it is to cover
+-- the edges between them (this project's own).
 use Rattle.std.specs.Prelude.{◌≡◌, List, [], ◌++◌, Bool, true, false}
 use Rattle.pb_language.specs.Task.{Handlers, no_handlers, handler, Row, end, task, flush, section}
 use Rattle.pb_language.specs.Task.{block}

@@ -11,7 +11,7 @@ RESERVED = set(
     "ansible_hostname ansible_system ansible_os_family ansible_distribution ansible_processor_vcpus "
     "ansible_memtotal_mb and or not in is true false True False none None if else".split()
 )
-TASK_WORDS = set("name when loop register vars notify changed_when failed_when ignore_errors listen".split())
+TASK_WORDS = set("name when loop register vars notify changed_when failed_when ignore_errors until retries listen".split())
 
 
 def read_json(text):
@@ -112,6 +112,13 @@ def work(task):
     return f"(assert_work {asserted} {pairs(others)})"
 
 
+def attempts_term(task):
+    """What has to hold, and the number of retries, 3 where it isn't given."""
+    if "until" not in task:
+        return "None"
+    return f"(Some (record {{ until = {expressions(conditions(task['until']))}; retries = {task.get('retries', 3)} }}))"
+
+
 def task_term(task, line):
     def listed_conditions(key):
         return option(expressions(conditions(task[key]))) if key in task else "None"
@@ -123,7 +130,7 @@ def task_term(task, line):
         f"(record {{ line = {line}; work = {work(task)}; condition = {expressions(conditions(task.get('when', [])))}; "
         f"loop = {loop}; register = {register}; vars = {pairs(task.get('vars', {}))}; "
         f"notify = {names(texts(task.get('notify')))}; changed_when = {listed_conditions('changed_when')}; "
-        f"failed_when = {listed_conditions('failed_when')}; ignore_errors = {ignores} }})"
+        f"failed_when = {listed_conditions('failed_when')}; attempts = {attempts_term(task)}; ignore_errors = {ignores} }})"
     )
 
 

@@ -9,9 +9,9 @@ use Rattle.pb_language.specs.World.{Group}
 use Rattle.pb_language.specs.Scope.{Scope, Later, view_of, with_spot}
 use Rattle.pb_language.specs.Kinds.{kind_of}
 use Rattle.pb_language.specs.Knows.{WellScope}
-use Rattle.pb_language.specs.Task.{Action, call_of, debug, set_fact, assertion, failure_of, Task}
+use Rattle.pb_language.specs.Task.{Attempts, Action, call_of, debug, set_fact, assertion, failure_of, Task}
 use Rattle.pb_language.specs.Narrow.{results_of}
-use Rattle.pb_language.specs.Cases.{slots_of, ended_kind, changed_slots, message_slots, ok_case, failure_case, answered_cases, either_status, ended_cases, skipped_slots, skipped_cases, action_name, is_conditional, all_results, going_cases, failing_cases, item_kind, registered_kind, listed_kind, Sets, no_sets, sets, parts_set, fact_prefix, after_prefix, with_stripped, stripped_slots, facts_set, gathered, is_setup, may_go_on_failed, is_certain_to_run, action_sets, set_spot, with_sets, with_register, append_sets, is_plain, are_plain, is_lawful_shape, shape_slots}
+use Rattle.pb_language.specs.Cases.{judged_cases, perhaps_failed, slots_of, ended_kind, changed_slots, message_slots, ok_case, failure_case, answered_cases, either_status, ended_cases, skipped_slots, skipped_cases, action_name, is_conditional, all_results, going_cases, failing_cases, item_kind, registered_kind, listed_kind, Sets, no_sets, sets, parts_set, fact_prefix, after_prefix, with_stripped, stripped_slots, facts_set, gathered, is_setup, may_go_on_failed, is_certain_to_run, action_sets, set_spot, with_sets, with_register, append_sets, is_plain, are_plain, is_lawful_shape, shape_slots}
 use Rattle.pb_language.specs.Setting.{Setting, group_slots, with_failure_slot, named_slots, scope_at, start_scope, loop_kind, with_item, item_scope, action_scope, with_own_result}
 use Rattle.pb_language.specs.Judgement.{task_kind, task_sets, going_slots, failing_slots, task_writes, register_writes, has_going, has_case}
 use Rattle.pb_language.specs.Wells.{WellSpot, WellSets}
@@ -102,9 +102,18 @@ well_either : (cs : Cases) → WellCases cs → WellCases (either_status cs)
 well_either no_cases w = tt
 well_either (one m sh fl k cs) w = (w.0, w.1, (w.0, w.1, well_either cs w.2))
 
-well_ended_cases : (a : Action) (o : Option Expressions) → WellCases (ended_cases a o)
-well_ended_cases a None = well_answered_cases a
-well_ended_cases a (Some es) = well_either (answered_cases a) (well_answered_cases a)
+pub well_judged_cases : (a : Action) (o : Option Expressions) → WellCases (judged_cases a o)
+well_judged_cases a None = well_answered_cases a
+well_judged_cases a (Some es) = well_either (answered_cases a) (well_answered_cases a)
+
+well_perhaps : (cs : Cases) → WellCases cs → WellCases (perhaps_failed cs)
+well_perhaps no_cases w = tt
+well_perhaps (one m sh true k cs) w = (w.0, w.1, well_perhaps cs w.2)
+well_perhaps (one m sh false k cs) w = (w.0, w.1, (w.0, w.1, well_perhaps cs w.2))
+
+well_ended_cases : (o : Option Attempts) (cs : Cases) → WellCases cs → WellCases (ended_cases o cs)
+well_ended_cases None cs w = w
+well_ended_cases (Some a) cs w = well_perhaps cs w
 
 well_skipped : (q : Bool) (n : Name) → WellCases (cond q (one n skipped_shape false (recs skipped_slots) no_cases) no_cases)
 well_skipped true n = (refl, (refl, (tt, (tt, (tt, (tt, tt))))), tt)
@@ -115,7 +124,9 @@ well_cases_cond true cs ds w v = w
 well_cases_cond false cs ds w v = v
 
 pub well_all_results : (t : Task) → WellCases (all_results t)
-well_all_results t = well_append (skipped_cases t) (ended_cases t.action t.failed_when) (well_skipped (is_conditional t.conditions) (action_name t.action)) (well_ended_cases t.action t.failed_when)
+well_all_results t =
+    let judged = judged_cases t.action t.failed_when in
+    well_append (skipped_cases t) (ended_cases t.attempts judged) (well_skipped (is_conditional t.conditions) (action_name t.action)) (well_ended_cases t.attempts judged (well_judged_cases t.action t.failed_when))
 
 pub well_going : (t : Task) → WellCases (going_cases t)
 well_going t = let w = well_all_results t in well_cases_cond t.ignores (all_results t) _ w (well_cases_with (λ sh fl k. not fl) (all_results t) w)

@@ -13,7 +13,7 @@ use Rattle.pb_language.specs.Cases.{Sets, no_sets, sets, answered_cases, is_cond
 use Rattle.pb_language.specs.Setting.{Setting, start_scope, named_slots}
 use Rattle.pb_language.specs.Judgement.{task_fault, has_case, has_going, going_slots, failing_slots, task_writes, task_sets, loop_length}
 use Rattle.pb_language.specs.Start.{Changes, no_changes, change, Entry, skips, calls, acts, Pass, Plan, planned, halted, plan_of, call_count}
-use Rattle.pb_language.specs.Give.{Answer, Admitted, admitted, breached, unreached, admit_passes, Ended, Results, results_are, no_results, acted, end_all, any_failed, written_variables}
+use Rattle.pb_language.specs.Give.{last_attempts, Answer, Admitted, admitted, breached, unreached, admit_passes, Ended, Results, results_are, no_results, acted, end_all, any_failed, written_variables}
 use Rattle.pb_language.specs.Tables.{writes_below}
 use Rattle.pb_language.specs.Wells.{WellSets}
 
@@ -98,7 +98,7 @@ module _ (st : Setting) (t : Task) (env : Slots) where
     pub kept : (view : Slots) → Models vars view → writes_below (task_writes st t env) view ≡ true → Models (written_variables t es vars) view
 
   abbrev pub ResultsFine : Fields → Results → Type 0
-  ResultsFine vars (results_are es) = Written es vars
+  ResultsFine vars (results_are es) = Written (last_attempts es) vars
   ResultsFine vars (no_results s) = false ≡ true
 
   abbrev pub AdmittedFine : World → Fields → Admitted → Type 0

@@ -12,13 +12,13 @@ use Rattle.pb_language.specs.Scope.{Scope, with_slot, with_spot}
 use Rattle.pb_language.specs.Narrow.{results_of}
 use Rattle.pb_language.specs.Knows.{WellScope}
 use Rattle.pb_language.specs.Task.{Action, call_of, debug, set_fact, assertion, failure_of, Task}
-use Rattle.pb_language.specs.Cases.{Sets, no_sets, sets, append_sets, parts_set, action_sets, all_results, going_cases, failing_cases, answered_cases, looped_kind, listed_kind, registered_kind, item_kind, is_certain_to_run, with_register, set_spot, with_sets}
-use Rattle.pb_language.specs.Setting.{Setting, group_slots, with_failure_slot, named_slots, start_scope, loop_kind, with_item, item_scope, action_scope, with_own_result, give_scope}
+use Rattle.pb_language.specs.Cases.{judged_cases, Sets, no_sets, sets, append_sets, parts_set, action_sets, all_results, going_cases, failing_cases, answered_cases, looped_kind, listed_kind, registered_kind, item_kind, is_certain_to_run, with_register, set_spot, with_sets}
+use Rattle.pb_language.specs.Setting.{Setting, group_slots, with_failure_slot, named_slots, start_scope, loop_kind, with_item, item_scope, action_scope, with_own_result, own_scope, give_scope, until_scope}
 use Rattle.pb_language.specs.Judgement.{live_if, has_case, has_going, task_kind, task_sets, going_slots, failing_slots, going_exit, failing_exit, register_writes, task_writes}
 use Rattle.pb_language.specs.Wells.{WellSpot, WellSets, WellViews}
 use Rattle.pb_language.specs.Ordered.{SpotLe, SlotsLe, KnownLe, ScopeLe, seen, SettingLe, ExitLe, SetsLe}
 use Rattle.pb_language.proofs.WellKinds.{well_slot, well_results}
-use Rattle.pb_language.proofs.After.{well_scope, well_answered_cases, well_groups, well_all_results, well_going, well_failing, well_own_result, well_set, well_action_sets, well_start, well_own_item, well_item_scope, well_action, well_task_sets, well_going_register}
+use Rattle.pb_language.proofs.After.{well_scope, well_answered_cases, well_judged_cases, well_groups, well_all_results, well_going, well_failing, well_own_result, well_set, well_action_sets, well_start, well_own_item, well_item_scope, well_action, well_task_sets, well_going_register}
 use Rattle.pb_language.proofs.Spots.{spots_join}
 use Rattle.pb_language.proofs.ChangesUp.{spots_put}
 use Rattle.pb_language.proofs.KindsUp.{with_up, kinds_up}
@@ -237,10 +237,10 @@ module _ (st su : Setting) (t : Task) (low high : Slots) (a : WellViews st.views
   own_result_up None cs ss ts x y = y
   own_result_up (Some n) cs ss ts x y = same_with n (results_of cs) ss ts (well_results cs x) y
 
-  give_here : ScopeLe (give_scope st t low) (give_scope (seen st su) t high)
-  give_here = record {
+  own_here : (cs : Cases) → WellCases cs → ScopeLe (own_scope st t cs low) (own_scope (seen st su) t cs high)
+  own_here cs x = record {
     same = refl;
-    own = own_result_up t.register (answered_cases t.action) _ _ (well_answered_cases t.action)
+    own = own_result_up t.register cs _ _ x
         (with_item_up (loop_kind (start_scope st t low) t.loop) (loop_kind (start_scope (seen st su) t high) t.loop) (named_slots st t.depth low) (named_slots st t.depth high) (loop_up st su t low high a b w v s l) (named_up st t.depth low high l));
     views = s.views;
     table = s.views;
@@ -250,8 +250,20 @@ module _ (st su : Setting) (t : Task) (low high : Slots) (a : WellViews st.views
     laters = λ g x. refl;
   }
 
+  owns_up : (cs : Cases) → WellCases cs → ScopeLe (own_scope st t cs low) (own_scope su t cs high)
+  owns_up cs x = subst (λ z. ScopeLe (own_scope st t cs low) (own_scope z t cs high)) (sym s.same) (own_here cs x)
+
   pub gives_up : ScopeLe (give_scope st t low) (give_scope su t high)
-  gives_up = subst (λ z. ScopeLe (give_scope st t low) (give_scope z t high)) (sym s.same) give_here
+  gives_up = owns_up (answered_cases t.action) (well_answered_cases t.action)
+
+  pub untils_up : ScopeLe (until_scope st t low) (until_scope su t high)
+  untils_up = owns_up (judged_cases t.action t.failed_when) (well_judged_cases t.action t.failed_when)
+
+well_own : (st : Setting) (a : WellViews st.views) (t : Task) (env : Slots) (cs : Cases) → Well (recs env) → WellCases cs → WellScope (own_scope st t cs env)
+well_own st a t env cs w x = well_scope st [] t.place _ a (well_own_result t.register cs _ x (well_own_item st a t env w))
 
 pub well_give : (st : Setting) (a : WellViews st.views) (t : Task) (env : Slots) → Well (recs env) → WellScope (give_scope st t env)
-well_give st a t env w = well_scope st [] t.place _ a (well_own_result t.register (answered_cases t.action) _ (well_answered_cases t.action) (well_own_item st a t env w))
+well_give st a t env w = well_own st a t env (answered_cases t.action) w (well_answered_cases t.action)
+
+pub well_until : (st : Setting) (a : WellViews st.views) (t : Task) (env : Slots) → Well (recs env) → WellScope (until_scope st t env)
+well_until st a t env w = well_own st a t env (judged_cases t.action t.failed_when) w (well_judged_cases t.action t.failed_when)

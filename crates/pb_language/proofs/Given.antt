@@ -16,13 +16,13 @@ use Rattle.pb_language.specs.Cases.{all_results, going_cases, failing_cases, loo
 use Rattle.pb_language.specs.Setting.{Setting, start_scope, loop_kind, action_scope}
 use Rattle.pb_language.specs.Judgement.{has_case, has_going, task_kind, task_sets, going_slots, failing_slots, register_writes, task_writes, loop_length}
 use Rattle.pb_language.specs.Start.{Pass}
-use Rattle.pb_language.specs.Give.{Own, Admitted, admitted, breached, unreached, admit_passes, Ended, Results, results_are, no_results, end_all, any_failed, result_items, looped_fields, registered_fields, with_changes, with_all_sets, register_field}
+use Rattle.pb_language.specs.Give.{last_attempts, Own, Admitted, admitted, breached, unreached, admit_passes, Ended, Results, results_are, no_results, end_all, any_failed, result_items, looped_fields, registered_fields, with_changes, with_all_sets, register_field}
 use Rattle.pb_language.specs.Tables.{writes_below}
 use Rattle.pb_language.proofs.Claims.{Around, Follows, Single, PassesFine, Written, ResultsFine, AdmittedFine, GiveClaim}
 use Rattle.pb_language.proofs.After.{well_task_sets, well_going_register}
 use Rattle.pb_language.proofs.GivenFields.{models_put, models_put_with, kept_status, kept_has}
 use Rattle.pb_language.proofs.GivenSets.{Uncertain, uncertain_run, uncertain_models, Holds, holds_models, follows_holds, follows_models, below_ok, follows_view}
-use Rattle.pb_language.proofs.GivenResults.{EndedFine, AllEnded, AllOwn, ResultsEnd, AdmittedEnd, passes_fine, lawful, owns_end}
+use Rattle.pb_language.proofs.GivenResults.{all_last, EndedFine, AllEnded, AllOwn, ResultsEnd, AdmittedEnd, passes_fine, lawful, owns_end}
 use Rattle.pb_language.proofs.Named.{le_from}
 
 -- without a loop there is one result
@@ -39,6 +39,10 @@ single_ended st t env None (p ∷ []) (x ∷ []) h e = tt
 single_ended st t env None (p ∷ []) (x ∷ y ∷ es) h e = absurd (omega (arith, e))
 single_ended st t env None (p ∷ q ∷ ps) es h e = untrue h
 single_ended st t env (Some l) ps es h e = tt
+
+last_count : (es : List Ended) → length (last_attempts es) ≡ length es
+last_count [] = refl
+last_count (e ∷ es) = let y = last_count es in omega (arith, y)
 
 -- a loop's results
 count_results : (es : List Ended) → count_of (result_items es) ≡ length es
@@ -199,9 +203,9 @@ module _ (st : Setting) (t : Task) (env : Slots) (v : Well (recs env)) (wells : 
 module _ (w : World) (st : Setting) (t : Task) (env : Slots) (vars : Fields) (ps : List Pass) (r : Around w st [] t.place) (v : Well (recs env)) (m : Models vars env) (p : PassesFine st t env ps) where
   results_fine : (rs : Results) (n : ℕ) → n ≡ length ps → ResultsEnd st t env n rs → ResultsFine st t env vars rs
   results_fine (results_are es) n e h =
-      let same : length es ≡ length ps = h.1 ∙ e in
+      let same : length (last_attempts es) ≡ length ps = last_count es ∙ h.1 ∙ e in
       let few = p.few in
-      written st t env v r.wells es vars m (single_ended st t env t.loop ps es p.single same) h.0 (rw same few)
+      written st t env v r.wells (last_attempts es) vars m (single_ended st t env t.loop ps (last_attempts es) p.single same) (all_last st t env es h.0) (rw same few)
   results_fine (no_results s) n e h = h
 
   admitted_fine : (x : Admitted) → AdmittedEnd st t env (length ps) x → ((os : List Own) → AllOwn st t env os → ResultsEnd st t env (length os) (end_all w t os)) → AdmittedFine st t env w vars x

@@ -16,7 +16,7 @@ use Rattle.pb_semantics.proofs.PutSlots.{equal_name, greater_name}
 use Rattle.pb_language.specs.Expression.{Name}
 use Rattle.pb_language.specs.Scope.{with_slot, with_spot}
 use Rattle.pb_language.specs.Narrow.{cases_with}
-use Rattle.pb_language.specs.Cases.{ended_kind, either_status}
+use Rattle.pb_language.specs.Cases.{ended_kind, either_status, perhaps_failed}
 use Rattle.pb_language.specs.Judgement.{has_case}
 use Rattle.pb_language.proofs.WithSlot.{at_with, once_with, record_models, models_kept, swapped, twice}
 use Rattle.pb_language.proofs.Taught.{failed_flag, left_one, later_one}
@@ -125,6 +125,35 @@ ends_own (one m sh fl k cs) fs c f e w h =
     or-left (has_status sh fl gs && keeps (rec gs) k) (cases_kept gs cs)
     (and-both (has_status sh fl gs) (keeps (rec gs) k) (has_ended sh fl gs w.0 (failed_field f (put_field (codes "changed") (boolean c) fs) ∙ ap (λ b. Some (boolean b)) same)) (w.1 fs c f (and-right status (keeps (rec fs) k) x))))
     (λ y. or-right (has_status sh fl gs && keeps (rec gs) k) (cases_kept gs cs) (ends_own cs fs c f e w.2 y)) (or-cases (status && keeps (rec fs) k) (cases_kept fs cs) h)
+
+pub ends_each_either : (cs : Cases) → EndsEach cs → EndsEach (either_status cs)
+ends_each_either no_cases w = tt
+ends_each_either (one m sh fl k cs) w = (w.0, w.1, (w.0, w.1, ends_each_either cs w.2))
+
+-- a result that may be that of a last attempt
+pub still_kept : (cs : Cases) (fs : Fields) → cases_kept fs cs ≡ true → cases_kept fs (perhaps_failed cs) ≡ true
+still_kept no_cases fs h = h
+still_kept (one m sh true k cs) fs h =
+    let here = has_status sh true fs && keeps (rec fs) k in
+    let rest = cases_kept fs (perhaps_failed cs) in
+    ⊎_elim (λ x. or-left here rest x) (λ y. or-right here rest (still_kept cs fs y)) (or-cases here (cases_kept fs cs) h)
+still_kept (one m sh false k cs) fs h =
+    let here = has_status sh false fs && keeps (rec fs) k in
+    ⊎_elim (λ x. or-left here _ x) (λ y. later_either m sh k fs (perhaps_failed cs) (still_kept cs fs y)) (or-cases here (cases_kept fs cs) h)
+
+-- and one that is
+pub last_kept : (cs : Cases) (fs : Fields) (c : Bool) → EndsEach cs → cases_kept fs cs ≡ true → cases_kept (ended_fields c true fs) (perhaps_failed cs) ≡ true
+last_kept no_cases fs c w h = untrue h
+last_kept (one m sh true k cs) fs c w h =
+    let gs = ended_fields c true fs in
+    let here = has_status sh true gs && keeps (rec gs) k in
+    let rest = cases_kept gs (perhaps_failed cs) in
+    ⊎_elim (λ x. or-left here rest (and-both (has_status sh true gs) (keeps (rec gs) k) (has_ended sh true gs w.0 (failed_field true (put_field (codes "changed") (boolean c) fs))) (w.1 fs c true (and-right (has_status sh true fs) (keeps (rec fs) k) x))))
+    (λ y. or-right here rest (last_kept cs fs c w.2 y)) (or-cases (has_status sh true fs && keeps (rec fs) k) (cases_kept fs cs) h)
+last_kept (one m sh false k cs) fs c w h =
+    let gs = ended_fields c true fs in
+    ⊎_elim (λ x. either_one true m sh k gs (perhaps_failed cs) (has_ended sh true gs w.0 (failed_field true (put_field (codes "changed") (boolean c) fs))) (w.1 fs c true (and-right (has_status sh false fs) (keeps (rec fs) k) x)))
+    (λ y. later_either m sh k gs (perhaps_failed cs) (last_kept cs fs c w.2 y)) (or-cases (has_status sh false fs && keeps (rec fs) k) (cases_kept fs cs) h)
 
 -- cases
 pub kept_left : (fs : Fields) (cs ds : Cases) → cases_kept fs cs ≡ true → cases_kept fs (append_cases cs ds) ≡ true

@@ -6,7 +6,7 @@ use Rattle.pb_semantics.specs.Keeps.{keeps, cases_kept, flag_is, spot_ok, Models
 use Rattle.pb_semantics.specs.Admission.{failed_of, changed_fields, ended, judged, admission}
 use Rattle.pb_semantics.specs.Project.{projected}
 use Rattle.pb_semantics.specs.Signature.{ModuleData, is_certain_boolean}
-use Rattle.pb_semantics.specs.Well.{Well}
+use Rattle.pb_semantics.specs.Well.{Well, WellCases}
 use Rattle.pb_semantics.proofs.Bools.{untrue, and-left, and-right, and-both, or-left}
 use Rattle.pb_semantics.proofs.Names.{own_flag}
 use Rattle.pb_semantics.proofs.Projected.{projected_keeps}
@@ -17,22 +17,22 @@ use Rattle.pb_language.specs.Evaluation.{Outcome, value, then_go, and_then, eval
 use Rattle.pb_language.specs.Scope.{Scope, Later, with_slot}
 use Rattle.pb_language.specs.Kinds.{kind_of}
 use Rattle.pb_language.specs.Narrow.{narrow, results_of}
-use Rattle.pb_language.specs.Fit.{wrong_kind, malformed, unknown_handler, first, asks, is_boolean, fault}
+use Rattle.pb_language.specs.Fit.{wrong_kind, malformed, unknown_handler, first, asks, is_boolean, Fault, fault}
 use Rattle.pb_language.specs.Knows.{Knows}
 use Rattle.pb_language.specs.Notify.{all_notified, names_something}
-use Rattle.pb_language.specs.Task.{Action, call_of, debug, set_fact, assertion, failure_of, Task}
-use Rattle.pb_language.specs.Cases.{slots_of, shape_slots, is_lawful_shape, are_plain, ended_kind, changed_slots, message_slots, ok_case, failure_case, answered_cases, ended_cases, skipped_slots, action_name, is_conditional, skipped_cases, all_results, item_kind, Sets, no_sets, is_setup, may_go_on_failed, is_certain_to_run, action_sets, gathered}
-use Rattle.pb_language.specs.Setting.{Setting, named_slots, scope_at, start_scope, loop_kind, with_item, item_scope, action_scope, with_own_result, give_scope, with_local}
-use Rattle.pb_language.specs.Judgement.{conditions_fault, keyword_fault, loop_fault, arguments_fault, is_lawful, action_fault, task_fault, task_sets}
+use Rattle.pb_language.specs.Task.{Action, call_of, debug, set_fact, assertion, failure_of, Attempts, Task}
+use Rattle.pb_language.specs.Cases.{slots_of, shape_slots, is_lawful_shape, are_plain, ended_kind, changed_slots, message_slots, ok_case, failure_case, answered_cases, judged_cases, ended_cases, skipped_slots, action_name, is_conditional, skipped_cases, all_results, item_kind, Sets, no_sets, is_setup, may_go_on_failed, is_certain_to_run, action_sets, gathered}
+use Rattle.pb_language.specs.Setting.{Setting, named_slots, scope_at, start_scope, loop_kind, with_item, item_scope, action_scope, with_own_result, own_scope, give_scope, until_scope, with_local}
+use Rattle.pb_language.specs.Judgement.{conditions_fault, keyword_fault, until_fault, loop_fault, arguments_fault, is_lawful, action_fault, task_fault, task_sets}
 use Rattle.pb_language.specs.Start.{Changes, no_changes, Entry, skips, calls, acts, Pass}
-use Rattle.pb_language.specs.Give.{Answer, object, unreachable, Own, Admitted, admitted, breached, unreached, with_own, facts_of, set_by_answer, own_of, admit_answer, is_failure, acted, skipped_own, admit_entry, admit_passes, Ended, Results, results_are, no_results, ended_with, keyword_of, with_own_field, own_world, with_status, with_ended, end_own, end_all}
+use Rattle.pb_language.specs.Give.{Answer, object, unreachable, Own, Admitted, admitted, breached, unreached, with_own, facts_of, set_by_answer, own_of, admit_answer, is_failure, acted, skipped_own, admit_entry, admit_passes, Ended, Results, results_are, no_results, with_statuses, ended_with, keyword_of, with_own_field, result_world, own_world, judged_world, until_of, with_status, with_ended, end_own, end_all, last_attempts}
 use Rattle.pb_language.proofs.WithSlot.{at_with, models_written, record_models}
 use Rattle.pb_language.proofs.WellKinds.{well_slot}
 use Rattle.pb_language.proofs.Fits.{fit_has_value, no_first, no_second, not_asked}
 use Rattle.pb_language.proofs.Tests.{test_teaches}
 use Rattle.pb_language.proofs.Claims.{Around, Follows, IsCall, ItemFine, EntryFine, AllPasses}
-use Rattle.pb_language.proofs.After.{well_scope, shape_well, well_answered_cases, well_own_result, well_own_item}
-use Rattle.pb_language.proofs.GivenFields.{kept_put_with, ended_fields, failed_field, Ends, ends_kind, EndsEach, ends_either, ends_own, kept_left, kept_right}
+use Rattle.pb_language.proofs.After.{well_scope, shape_well, well_answered_cases, well_judged_cases, well_own_result, well_own_item}
+use Rattle.pb_language.proofs.GivenFields.{kept_put_with, ended_fields, failed_field, Ends, ends_kind, EndsEach, ends_each_either, still_kept, last_kept, ends_either, ends_own, kept_left, kept_right}
 use Rattle.pb_language.proofs.GivenSets.{Uncertain, uncertain_run, uncertain_going, gathered_follows}
 
 -- the laws of a module
@@ -93,6 +93,10 @@ conditions_decided (expression e es) w c m h =
 keyword_decided : (o : Option Expressions) (w : World) (c : Scope) (b : Bool) → Knows w c → keyword_fault c o ≡ None → (f : Bool) × (keyword_of w o b ≡ value (boolean f)) × (o ≡ None → f ≡ b)
 keyword_decided None w c b m h = (b, refl, λ x. refl)
 keyword_decided (Some es) w c b m h = let x = conditions_decided es w c m h in (x.0, x.1, λ y. absurd (cc))
+
+until_decided : (o : Option Attempts) (w : World) (c : Scope) → Knows w c → until_fault c o ≡ None → (u : Bool) × (until_of w o ≡ value (boolean u)) × (o ≡ None → u ≡ true)
+until_decided None w c m h = (true, refl, λ x. refl)
+until_decided (Some a) w c m h = let x = conditions_decided a.until w c m h in (x.0, x.1, λ y. absurd (cc))
 
 -- a world that is as it is known before any test
 pub knows_at : (w : World) (st : Setting) (laters : List Later) (place : ℕ) (own : Slots) → Around w st laters place → Well (recs own) → Models w.mine own → Knows w (scope_at st laters place own)
@@ -191,17 +195,29 @@ answered_own a c t it (unreachable ∷ xs) R go l b u g = u
 answered_own a c t it (x ∷ xs) R go l b u g = b
 
 -- an item's result with its final statuses
-skip_ends : (it : Option Data) (n : Name) → cases_kept (ended_with (skipped_own it) false false).fields (one n skipped_shape false (recs skipped_slots) no_cases) ≡ true
+skip_ends : (it : Option Data) (n : Name) → cases_kept (ended_with (skipped_own it) false false true).fields (one n skipped_shape false (recs skipped_slots) no_cases) ≡ true
 skip_ends it n = refl
 
 skip_there : (q : Bool) (fs : Fields) (n : Name) → q ≡ true → cases_kept fs (one n skipped_shape false (recs skipped_slots) no_cases) ≡ true → cases_kept fs (cond q (one n skipped_shape false (recs skipped_slots) no_cases) no_cases) ≡ true
 skip_there true fs n e h = h
 skip_there false fs n e h = untrue e
 
-ended_either : (o : Option Expressions) (a : Action) (fs : Fields) (c f : Bool) → Lawful a → (o ≡ None → f ≡ flag_is true (field_value (codes "failed") fs)) → cases_kept fs (answered_cases a) ≡ true
-    → cases_kept (ended_fields c f fs) (ended_cases a o) ≡ true
-ended_either None a fs c f l g h = ends_own (answered_cases a) fs c f (g refl) (ends_answered a l) h
-ended_either (Some es) a fs c f l g h = ends_either (answered_cases a) fs c f (ends_answered a l) h
+judged_either : (o : Option Expressions) (a : Action) (fs : Fields) (c f : Bool) → Lawful a → (o ≡ None → f ≡ flag_is true (field_value (codes "failed") fs)) → cases_kept fs (answered_cases a) ≡ true
+    → cases_kept (ended_fields c f fs) (judged_cases a o) ≡ true
+judged_either None a fs c f l g h = ends_own (answered_cases a) fs c f (g refl) (ends_answered a l) h
+judged_either (Some es) a fs c f l g h = ends_either (answered_cases a) fs c f (ends_answered a l) h
+
+ends_judged : (o : Option Expressions) (a : Action) → Lawful a → EndsEach (judged_cases a o)
+ends_judged None a l = ends_answered a l
+ends_judged (Some es) a l = ends_each_either (answered_cases a) (ends_answered a l)
+
+ended_either : (o : Option Attempts) (cs : Cases) (fs : Fields) → cases_kept fs cs ≡ true → cases_kept fs (ended_cases o cs) ≡ true
+ended_either None cs fs h = h
+ended_either (Some a) cs fs h = still_kept cs fs h
+
+last_either : (o : Option Attempts) (cs : Cases) (fs : Fields) (c u : Bool) → EndsEach cs → (o ≡ None → u ≡ true) → u ≡ false → cases_kept fs cs ≡ true → cases_kept (ended_fields c true fs) (ended_cases o cs) ≡ true
+last_either None cs fs c u w g e h = untrue (sym e ∙ g refl)
+last_either (Some a) cs fs c u w g e h = last_kept cs fs c w h
 
 -- a failure that doesn't end the task may be gone on with
 goes_on : (o : Option Expressions) (q f : Bool) → (o ≡ None → f ≡ true) → f && not q ≡ false → q || is_some o ≡ true
@@ -219,8 +235,25 @@ module _ (st : Setting) (t : Task) (env : Slots) where
   AllEnded [] = Unit {0}
   AllEnded (e ∷ es) = EndedFine e × AllEnded es
 
+  -- and that it may be the result of a last attempt
+  pub record JudgedFine (e : Ended) : Type 0 where
+    pub ended : EndedFine e
+    pub last : e.holds ≡ false → EndedFine (record e { fields = with_statuses e.changed true e.fields; failed = true })
+
+  abbrev pub AllJudged : List Ended → Type 0
+  AllJudged [] = Unit {0}
+  AllJudged (e ∷ es) = JudgedFine e × AllJudged es
+
+  last_at : (q : Bool) (e : Ended) → e.holds ≡ q → JudgedFine e → EndedFine (cond q e (record e { fields = with_statuses e.changed true e.fields; failed = true }))
+  last_at true e i h = h.ended
+  last_at false e i h = h.last i
+
+  pub all_last : (es : List Ended) → AllJudged es → AllEnded (last_attempts es)
+  all_last [] h = tt
+  all_last (e ∷ es) h = (last_at e.holds e refl h.0, all_last es h.1)
+
   abbrev pub ResultsEnd : ℕ → Results → Type 0
-  ResultsEnd n (results_are es) = AllEnded es × (length es ≡ n)
+  ResultsEnd n (results_are es) = AllJudged es × (length es ≡ n)
   ResultsEnd n (no_results s) = false ≡ true
 
   pub record OwnFine (o : Own) : Type 0 where
@@ -258,7 +291,7 @@ module _ (st : Setting) (t : Task) (env : Slots) where
   passes_fine [] xs l h = (tt, refl)
   passes_fine (p ∷ ps) xs l h = entry_fine p.item p.entry (length ps) (admit_passes t.action ps) xs l h.0.item h.0.entry (λ ys. passes_fine ps ys l h.1)
 
-  with_ended_fine : (e : Ended) (rs : Results) (n : ℕ) → EndedFine e → ResultsEnd n rs → ResultsEnd (suc n) (with_ended e rs)
+  with_ended_fine : (e : Ended) (rs : Results) (n : ℕ) → JudgedFine e → ResultsEnd n rs → ResultsEnd (suc n) (with_ended e rs)
   with_ended_fine e (results_are es) n w h = let y = h.1 in ((w, h.0), omega (arith, y))
   with_ended_fine e (no_results s) n w h = untrue h
 
@@ -269,79 +302,108 @@ module _ (st : Setting) (t : Task) (env : Slots) where
   local_models (Some e) (Some d) vars own i m = models_written (codes "item") d vars true (item_kind (kind_of (start_scope st t env) e)) own m i
 
 module _ (st : Setting) (t : Task) (env : Slots) (w : World) (r : Around w st [] t.place) (v : Well (recs env)) (m : Models w.mine (named_slots st t.depth env)) (fit : task_fault st t env ≡ None) where
+  abbrev from_until : Option Fault
+  from_until = first (until_fault (until_scope st t env) t.attempts) (asks unknown_handler (names_something (all_notified st.handlers t.notifies)))
+
   after_loop : first (conditions_fault (item_scope st t env) t.conditions)
-      (first (action_fault (action_scope st t env) t.action) (first (keyword_fault (give_scope st t env) t.changed_when) (first (keyword_fault (give_scope st t env) t.failed_when) (asks unknown_handler (names_something (all_notified st.handlers t.notifies))))))
+      (first (action_fault (action_scope st t env) t.action) (first (keyword_fault (give_scope st t env) t.changed_when) (first (keyword_fault (give_scope st t env) t.failed_when) from_until)))
       ≡ None
   after_loop = no_second (loop_fault (start_scope st t env) t.loop) _ fit
 
-  from_action : first (action_fault (action_scope st t env) t.action)
-      (first (keyword_fault (give_scope st t env) t.changed_when) (first (keyword_fault (give_scope st t env) t.failed_when) (asks unknown_handler (names_something (all_notified st.handlers t.notifies)))))
-      ≡ None
+  from_action : first (action_fault (action_scope st t env) t.action) (first (keyword_fault (give_scope st t env) t.changed_when) (first (keyword_fault (give_scope st t env) t.failed_when) from_until)) ≡ None
   from_action = no_second (conditions_fault (item_scope st t env) t.conditions) _ after_loop
 
-  from_changed : first (keyword_fault (give_scope st t env) t.changed_when) (first (keyword_fault (give_scope st t env) t.failed_when) (asks unknown_handler (names_something (all_notified st.handlers t.notifies)))) ≡ None
+  from_changed : first (keyword_fault (give_scope st t env) t.changed_when) (first (keyword_fault (give_scope st t env) t.failed_when) from_until) ≡ None
   from_changed = no_second (action_fault (action_scope st t env) t.action) _ from_action
+
+  from_failed : first (keyword_fault (give_scope st t env) t.failed_when) from_until ≡ None
+  from_failed = no_second (keyword_fault (give_scope st t env) t.changed_when) _ from_changed
 
   changed_fit : keyword_fault (give_scope st t env) t.changed_when ≡ None
   changed_fit = no_first (keyword_fault (give_scope st t env) t.changed_when) _ from_changed
 
   failed_fit : keyword_fault (give_scope st t env) t.failed_when ≡ None
-  failed_fit = no_first (keyword_fault (give_scope st t env) t.failed_when) _ (no_second (keyword_fault (give_scope st t env) t.changed_when) _ from_changed)
+  failed_fit = no_first (keyword_fault (give_scope st t env) t.failed_when) _ from_failed
+
+  until_fit : until_fault (until_scope st t env) t.attempts ≡ None
+  until_fit = no_first (until_fault (until_scope st t env) t.attempts) _ (no_second (keyword_fault (give_scope st t env) t.failed_when) _ from_failed)
 
   pub lawful : Lawful t.action
   lawful = lawful_action t.action (action_scope st t env) (no_first (action_fault (action_scope st t env) t.action) _ from_action)
 
-  -- the item's own result is known where its statuses are asked for
-  knows_own : (o : Own) → ItemFine st t env t.loop o.item → cases_kept o.fields (answered_cases t.action) ≡ true → Knows (own_world w t o) (give_scope st t env)
-  knows_own o i h =
+  -- the item's own result is known where something is asked of it
+  knows_result : (it : Option Data) (fs : Fields) (cs : Cases) → ItemFine st t env t.loop it → WellCases cs → cases_kept fs cs ≡ true → Knows (result_world w t it fs) (own_scope st t cs env)
+  knows_result it fs cs i u h =
       let inner = with_item (loop_kind (start_scope st t env) t.loop) (named_slots st t.depth env) in
-      knows_at (own_world w t o) st [] t.place (with_own_result t.register (answered_cases t.action) inner)
+      knows_at (result_world w t it fs) st [] t.place (with_own_result t.register cs inner)
       (record { this = r.this; groups = r.groups; wells = r.wells; views = r.views; later = r.later })
-      (well_own_result t.register (answered_cases t.action) inner (well_answered_cases t.action) (well_own_item st r.wells t env v))
-      (own_models t.register o.fields (with_local (codes "item") o.item w.mine) (answered_cases t.action) inner (local_models st t env t.loop o.item w.mine (named_slots st t.depth env) i m) h)
+      (well_own_result t.register cs inner u (well_own_item st r.wells t env v))
+      (own_models t.register fs (with_local (codes "item") it w.mine) cs inner (local_models st t env t.loop it w.mine (named_slots st t.depth env) i m) h)
 
   all_kept_skip : (fs : Fields) → is_conditional t.conditions ≡ true → cases_kept fs (one (action_name t.action) skipped_shape false (recs skipped_slots) no_cases) ≡ true → cases_kept fs (all_results t) ≡ true
-  all_kept_skip fs q h = kept_left fs (skipped_cases t) (ended_cases t.action t.failed_when) (skip_there (is_conditional t.conditions) fs (action_name t.action) q h)
+  all_kept_skip fs q h = kept_left fs (skipped_cases t) (ended_cases t.attempts (judged_cases t.action t.failed_when)) (skip_there (is_conditional t.conditions) fs (action_name t.action) q h)
 
-  skip_fine : (it : Option Data) → is_conditional t.conditions ≡ true → EndedFine st t env (ended_with (skipped_own it) false false)
+  skip_fine : (it : Option Data) → is_conditional t.conditions ≡ true → JudgedFine st t env (ended_with (skipped_own it) false false true)
   skip_fine it q =
       record {
-        kept = all_kept_skip (ended_with (skipped_own it) false false).fields q (skip_ends it (action_name t.action));
-        status = refl;
-        sets = inr (refl, λ z. uncertain_run t.action (action_scope st t env) t (not_certain (is_conditional t.conditions) (is_some t.loop) q));
+        ended = record {
+          kept = all_kept_skip (ended_with (skipped_own it) false false true).fields q (skip_ends it (action_name t.action));
+          status = refl;
+          sets = inr (refl, λ z. uncertain_run t.action (action_scope st t env) t (not_certain (is_conditional t.conditions) (is_some t.loop) q));
+        };
+        last = λ z. untrue (sym z);
       } where
         not_certain : (q l : Bool) → q ≡ true → not q && not l ≡ false
         not_certain true l h = refl
         not_certain false l h = untrue h
 
-  ended_fine : (o : Own) (c f : Bool) → (t.failed_when ≡ None → f ≡ flag_is true (field_value (codes "failed") o.fields)) → ResultFine t.action (task_sets st t env) o → EndedFine st t env (ended_with o c f)
-  ended_fine o c f g h =
+  sets_at : (o : Own) (b : Bool) → ResultFine t.action (task_sets st t env) o → (t.failed_when ≡ None → field_value (codes "failed") o.fields ≡ Some (boolean true) → b ≡ true)
+      → Follows o.sets (task_sets st t env) ⊎ ((o.sets ≡ no_changes) × (b && not t.ignores ≡ false → Uncertain (task_sets st t env)))
+  sets_at o b h i = ⊎_elim (λ x. inl x) (λ x. inr (x.0, λ z. ⊎_elim (λ y. y) (λ y. uncertain_going t.action (action_scope st t env) t y.1 (goes_on t.failed_when t.ignores b (λ n. i n y.0) z)) x.1)) h.sets
+
+  ended_fine : (o : Own) (c f u : Bool) → (t.failed_when ≡ None → f ≡ flag_is true (field_value (codes "failed") o.fields)) → (t.attempts ≡ None → u ≡ true) → ResultFine t.action (task_sets st t env) o → JudgedFine st t env (ended_with o c f u)
+  ended_fine o c f u g k h =
+      let judged = judged_cases t.action t.failed_when in
+      let fs = ended_fields c f o.fields in
+      let here = judged_either t.failed_when t.action o.fields c f lawful g h.kept in
       record {
-        kept = kept_right (ended_fields c f o.fields) (skipped_cases t) (ended_cases t.action t.failed_when) (ended_either t.failed_when t.action o.fields c f lawful g h.kept);
-        status = failed_field f (put_field (codes "changed") (boolean c) o.fields);
-        sets = ⊎_elim (λ x. inl x) (λ x. inr (x.0, λ z. ⊎_elim (λ y. y) (λ y. uncertain_going t.action (action_scope st t env) t y.1 (goes_on t.failed_when t.ignores f (λ n. g n ∙ ap (λ u. flag_is true u) y.0) z)) x.1)) h.sets;
+        ended = record {
+          kept = kept_right fs (skipped_cases t) (ended_cases t.attempts judged) (ended_either t.attempts judged fs here);
+          status = failed_field f (put_field (codes "changed") (boolean c) o.fields);
+          sets = sets_at o f h (λ n y. g n ∙ ap (λ b. flag_is true b) y);
+        };
+        last = λ z. record {
+          kept = kept_right (ended_fields c true fs) (skipped_cases t) (ended_cases t.attempts judged) (last_either t.attempts judged fs c u (ends_judged t.failed_when t.action lawful) k z here);
+          status = failed_field true (put_field (codes "changed") (boolean c) fs);
+          sets = sets_at o true h (λ n y. refl);
+        };
       }
 
   own_ends : (q : Bool) (o : Own) (rs : Results) (n : ℕ) → is_skipped o.shape ≡ q → ItemFine st t env t.loop o.item → ResultFine t.action (task_sets st t env) o → ResultsEnd st t env n rs
       → ResultsEnd st t env (suc n)
-      (cond q (with_ended (ended_with o false false) rs)
+      (cond q (with_ended (ended_with o false false true) rs)
       (with_status (keyword_of (own_world w t o) t.changed_when (flag_is true (field_value (codes "changed") o.fields))) (λ c.
       with_status (keyword_of (own_world w t o) t.failed_when (flag_is true (field_value (codes "failed") o.fields))) (λ f.
-      with_ended (ended_with o c f) rs))))
-  own_ends true o rs n e i h g = with_ended_fine st t env (ended_with o false false) rs n (ended_fine o false false (λ z. sym (h.skipped e)) h) g
+      with_status (until_of (judged_world w t o c f) t.attempts) (λ u.
+      with_ended (ended_with o c f u) rs)))))
+  own_ends true o rs n e i h g = with_ended_fine st t env (ended_with o false false true) rs n (ended_fine o false false true (λ z. sym (h.skipped e)) (λ z. refl) h) g
   own_ends false o rs n e i h g =
-      let k = knows_own o i h.kept in
+      let k = knows_result o.item o.fields (answered_cases t.action) i (well_answered_cases t.action) h.kept in
       let failed_now = flag_is true (field_value (codes "failed") o.fields) in
       let x = keyword_decided t.changed_when (own_world w t o) (give_scope st t env) (flag_is true (field_value (codes "changed") o.fields)) k changed_fit in
       let y = keyword_decided t.failed_when (own_world w t o) (give_scope st t env) failed_now k failed_fit in
+      let judged = judged_cases t.action t.failed_when in
+      let j = knows_result o.item (with_statuses x.0 y.0 o.fields) judged i (well_judged_cases t.action t.failed_when) (judged_either t.failed_when t.action o.fields x.0 y.0 lawful y.2 h.kept) in
+      let z = until_decided t.attempts (judged_world w t o x.0 y.0) (until_scope st t env) j until_fit in
       status_end (keyword_of (own_world w t o) t.changed_when (flag_is true (field_value (codes "changed") o.fields))) x.0 _ x.1
-      (status_end (keyword_of (own_world w t o) t.failed_when failed_now) y.0 _ y.1 (with_ended_fine st t env (ended_with o x.0 y.0) rs n (ended_fine o x.0 y.0 y.2 h) g)) where
+      (status_end (keyword_of (own_world w t o) t.failed_when failed_now) y.0 _ y.1
+      (status_end (until_of (judged_world w t o x.0 y.0) t.attempts) z.0 _ z.1 (with_ended_fine st t env (ended_with o x.0 y.0 z.0) rs n (ended_fine o x.0 y.0 z.0 y.2 z.2 h) g))) where
         status_end : (p : Outcome) (b : Bool) (go : Bool → Results) → p ≡ value (boolean b) → ResultsEnd st t env (suc n) (go b) → ResultsEnd st t env (suc n) (with_status p go)
         status_end p b go e h = rw e h
 
   own_end : (o : Own) (rs : Results) (n : ℕ) → OwnFine st t env o → ResultsEnd st t env n rs → ResultsEnd st t env (suc n) (end_own w t o rs)
   own_end o rs n h g =
-      ⊎_elim (λ x. subst (λ z. ResultsEnd st t env (suc n) (end_own w t z rs)) (sym x.0) (with_ended_fine st t env (ended_with (skipped_own o.item) false false) rs n (skip_fine o.item x.1) g))
+      ⊎_elim (λ x. subst (λ z. ResultsEnd st t env (suc n) (end_own w t z rs)) (sym x.0) (with_ended_fine st t env (ended_with (skipped_own o.item) false false true) rs n (skip_fine o.item x.1) g))
       (λ x. own_ends (is_skipped o.shape) o rs n refl h.item x g) h.result
 
   pub owns_end : (os : List Own) → AllOwn st t env os → ResultsEnd st t env (length os) (end_all w t os)

@@ -4,13 +4,13 @@ use Rattle.std.proofs.lemmas.Bool.Decides.{nat_tests}
 use Rattle.pb_semantics.proofs.Bools.{untrue, and-left, and-right, and-both, or-right, not-true}
 use Rattle.pb_language.specs.Task.{Task}
 use Rattle.pb_language.specs.Rest.{Rest}
-use Rattle.pb_language.specs.Start.{Plan, planned, halted, plan_of}
-use Rattle.pb_language.specs.Give.{Answer, Admitted, admitted, breached, unreached, admit_passes, Ended, Results, results_are, no_results, end_all, any_changed, any_failed}
+use Rattle.pb_language.specs.Start.{Pass, Plan, planned, halted, plan_of}
+use Rattle.pb_language.specs.Give.{asks_again, last_attempts, Answer, Admitted, admitted, breached, unreached, admit_passes, Ended, Results, results_are, no_results, end_all, any_changed, any_failed}
 use Rattle.pb_language.specs.Notify.{Notified, handlers_are, names_nothing}
 use Rattle.pb_language.specs.Program.{Inventory, Batch, Program, all_batches}
 use Rattle.pb_language.specs.Plays.{program_of}
 use Rattle.pb_language.specs.Theorem.{none_out, CanGoOn, Progress}
-use Rattle.pb_language.specs.Machine.{Event, start, give, turn, stop, over, gone, begins as at_task, Stage, waits, runs, Host, State, still_active, world_of, host_at, is_out, running, stands_at, all_stand, can_start, is_idle, all_idle, of_host, is_possible, enabled, notified_by, on_plan, on_start, on_notified, on_results, on_admitted, on_give, any_names, with_batches, on_host, happened, step, opening_hosts, opening, run_from}
+use Rattle.pb_language.specs.Machine.{on_again, on_ended, Event, start, give, turn, stop, over, gone, begins as at_task, Stage, waits, runs, Host, State, still_active, world_of, host_at, is_out, running, stands_at, all_stand, can_start, is_idle, all_idle, of_host, is_possible, enabled, notified_by, on_plan, on_start, on_notified, on_results, on_admitted, on_give, any_names, with_batches, on_host, happened, step, opening_hosts, opening, run_from}
 use Rattle.pb_semantics.proofs.KeepsUp.{le_through}
 
 -- a host whose place no other's is below
@@ -24,7 +24,7 @@ idle_stands : (p : ℕ) (g : Stage) → is_idle g ≡ true → stands_at p g ≡
 idle_stands p (waits over) h = refl
 idle_stands p (waits gone) h = refl
 idle_stands p (waits (at_task t a b)) h = untrue h
-idle_stands p (runs t ps a b) h = untrue h
+idle_stands p (runs t tries ps a b) h = untrue h
 
 idle_stand : (p : ℕ) (hs : List Host) → all_idle hs ≡ true → all_stand p hs ≡ true
 idle_stand p [] e = refl
@@ -34,7 +34,7 @@ stage_lower : (p q : ℕ) (g : Stage) → nat_le p q ≡ true → stands_at q g 
 stage_lower p q (waits over) l h = refl
 stage_lower p q (waits gone) l h = refl
 stage_lower p q (waits (at_task t a b)) l h = le_through p q t.place l h
-stage_lower p q (runs t ps a b) l h = le_through p q t.place l h
+stage_lower p q (runs t tries ps a b) l h = le_through p q t.place l h
 
 all_lower : (p q : ℕ) (hs : List Host) → nat_le p q ≡ true → all_stand q hs ≡ true → all_stand p hs ≡ true
 all_lower p q [] l h = refl
@@ -90,7 +90,7 @@ stage_least : (g : Stage) (h : Host) (hs : List Host) → h.stage ≡ g → is_o
 stage_least (waits over) h hs e o r = idle_least h hs (ap is_idle e) r
 stage_least (waits gone) h hs e o r = idle_least h hs (ap is_idle e) r
 stage_least (waits (at_task t a b)) h hs e o r = inr (first_least h hs t a b e r)
-stage_least (runs t ps a b) h hs e o r = absurd (true≢false o)
+stage_least (runs t tries ps a b) h hs e o r = absurd (true≢false o)
 
 least : (hs : List Host) → none_out hs ≡ true → (all_idle hs ≡ true) ⊎ Least hs
 least [] i = inl refl
@@ -127,24 +127,28 @@ module _ (s : State) where
   start_forks b k h (waits over) = refl
   start_forks b k h (waits gone) = refl
   start_forks b k h (waits (at_task t x y)) = plan_forks k h t x y (plan_of (world_of s b h t) t t.loop)
-  start_forks b k h (runs t ps x y) = refl
+  start_forks b k h (runs t tries ps x y) = refl
 
   notified_forks : (k : ℕ) (h : Host) (t : Task) (x y : Rest) (es : List Ended) (n : Notified) → (on_notified s k h t x y es n).forks ≡ s.forks
   notified_forks k h t x y es names_nothing = refl
   notified_forks k h t x y es (handlers_are ms) = refl
 
-  results_forks : (b : Batch) (k : ℕ) (h : Host) (t : Task) (x y : Rest) (r : Results) → (on_results s b k h t x y r).forks ≡ s.forks
-  results_forks b k h t x y (no_results w) = refl
-  results_forks b k h t x y (results_are es) = notified_forks k h t x y es (notified_by b.play t (any_changed es && not (any_failed es)))
+  attempt_forks : (q : Bool) (b : Batch) (k : ℕ) (h : Host) (t : Task) (i : ℕ) (ps : List Pass) (x y : Rest) (es : List Ended) → (cond q (on_again s k h t i ps x y) (on_ended s b k h t x y es)).forks ≡ s.forks
+  attempt_forks true b k h t i ps x y es = refl
+  attempt_forks false b k h t i ps x y es = notified_forks k h t x y es (notified_by b.play t (any_changed es && not (any_failed es)))
 
-  admitted_forks : (b : Batch) (k : ℕ) (h : Host) (t : Task) (x y : Rest) (a : Admitted) → (on_admitted s b k h t x y a).forks ≡ s.forks
-  admitted_forks b k h t x y (admitted os) = results_forks b k h t x y (end_all (world_of s b h t) t os)
-  admitted_forks b k h t x y breached = refl
-  admitted_forks b k h t x y unreached = refl
+  results_forks : (b : Batch) (k : ℕ) (h : Host) (t : Task) (i : ℕ) (ps : List Pass) (x y : Rest) (r : Results) → (on_results s b k h t i ps x y r).forks ≡ s.forks
+  results_forks b k h t i ps x y (no_results w) = refl
+  results_forks b k h t i ps x y (results_are es) = attempt_forks (asks_again t i es) b k h t i ps x y (last_attempts es)
+
+  admitted_forks : (b : Batch) (k : ℕ) (h : Host) (t : Task) (i : ℕ) (ps : List Pass) (x y : Rest) (a : Admitted) → (on_admitted s b k h t i ps x y a).forks ≡ s.forks
+  admitted_forks b k h t i ps x y (admitted os) = results_forks b k h t i ps x y (end_all (world_of s b h t) t os)
+  admitted_forks b k h t i ps x y breached = refl
+  admitted_forks b k h t i ps x y unreached = refl
 
   give_forks : (b : Batch) (k : ℕ) (h : Host) (xs : List Answer) (g : Stage) → (on_give s b k h xs g).forks ≡ s.forks
   give_forks b k h xs (waits r) = refl
-  give_forks b k h xs (runs t ps x y) = admitted_forks b k h t x y (admit_passes t.action ps xs)
+  give_forks b k h xs (runs t tries ps x y) = admitted_forks b k h t tries ps x y (admit_passes t.action ps xs)
 
   pub batches_forks : (bs : List Batch) → (with_batches s bs).forks ≡ s.forks
   batches_forks [] = refl

@@ -4,8 +4,7 @@ use Rattle.std.proofs.lemmas.Bool.Decides.{nat_tests}
 use Rattle.pb_language.specs.Task.{Handlers, no_handlers, handler, Row, end, task, flush, section, block}
 use Rattle.pb_language.specs.Judgement.{Exit}
 use Rattle.pb_language.specs.Nodes.{FlushValues, Values}
-use Rattle.pb_language.specs.Theorem.{handler_places}
-use Rattle.pb_language.specs.Links.{size, flush_at, values_at, flush_numbers, numbered}
+use Rattle.pb_language.specs.Links.{handler_places, size, flush_at, values_at, flush_numbers, numbered}
 
 pub less : (i m : ℕ) (x y : Exit) → i < m → cond (nat_lt i m) x y ≡ x
 less i m x y h = go (nat_lt i m) (grind (arith, nat_tests)) where

@@ -6,8 +6,7 @@ use Rattle.pb_language.specs.Judgement.{Exit}
 use Rattle.pb_language.specs.Walk.{going_from, failing_from}
 use Rattle.pb_language.specs.Ordered.{ExitLe}
 use Rattle.pb_language.specs.Nodes.{FlushEnters, Enters, Saved, FlushInner, Inner, Leaves}
-use Rattle.pb_language.specs.Links.{Link, size, flush_entry, entry, links_to, flush_links, saved_entry, links, flush_at, values_at, passed, LinksHold, Into}
-use Rattle.pb_language.specs.Theorem.{handler_places}
+use Rattle.pb_language.specs.Links.{handler_places, Link, size, flush_entry, entry, links_to, flush_links, saved_entry, links, flush_at, values_at, passed, LinksHold, Into}
 
 module _ (st : Setting) (val : ℕ → Exit) where
   split : (xs ys : List Link) → LinksHold st val (xs ++ ys) → LinksHold st val xs × LinksHold st val ys

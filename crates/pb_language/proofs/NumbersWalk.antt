@@ -7,8 +7,7 @@ use Rattle.pb_language.specs.Walk.{walk}
 use Rattle.pb_language.specs.Ordered.{ExitLe}
 use Rattle.pb_language.specs.Wells.{WellViews, WellExit}
 use Rattle.pb_language.specs.Nodes.{FlushValues, Values, FlushLe, ValuesLe, WellFlush, WellValues, values, CoversPlay}
-use Rattle.pb_language.specs.Theorem.{handler_places}
-use Rattle.pb_language.specs.Links.{size, entry, links, flush_at, values_at, flush_numbers, numbered, LinksHold, Into}
+use Rattle.pb_language.specs.Links.{handler_places, size, entry, links, flush_at, values_at, flush_numbers, numbered, LinksHold, Into}
 use Rattle.pb_language.proofs.Walks.{covers_play, least_play, walk_well, values_well}
 use Rattle.pb_language.proofs.Numbers.{numbers_cover, trees_cover}
 use Rattle.pb_language.proofs.Numbered.{less, more, read_row}

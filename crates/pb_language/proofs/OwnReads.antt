@@ -1,18 +1,19 @@
 -- What reads no other host and not who is active comes to the same, whatever others have.
 use Rattle.std.proofs.Common.{◌≡◌, ℕ, List, [], ◌∷◌, Bool, true, false, cond, Option, Some, None, codes, bytes_eq, refl, sym, ap, ◌∙◌}
-use Rattle.pb_semantics.specs.Data.{Data, Fields, rec, field, field_value}
+use Rattle.pb_semantics.specs.Kind.{is_skipped}
+use Rattle.pb_semantics.specs.Data.{Data, Fields, boolean, rec, field, field_value}
 use Rattle.pb_semantics.specs.Keeps.{flag_is}
 use Rattle.pb_semantics.proofs.Bools.{untrue, neither-left, neither-right}
 use Rattle.pb_language.specs.Expression.{Name, Expression, literal, path, hostvars_alone, negation, conjunction, disjunction, comparison, membership, in_batch, defined, undefinable, path_status, value_status, path_or, value_or, length_of, joined_by, concatenation, list_of, record_of, Root, variable, alias, other, member, Expressions, no_expressions, expression, Parts, no_parts, part}
 use Rattle.pb_language.specs.World.{World, member_of}
-use Rattle.pb_language.specs.Evaluation.{stuck, wrong_sort, then_go, found, readable, member_text, read, is_there, or_else, negated, and_then, or_then, compared, found_in, status_of, counted, plain_text, with_text, joined, put_item, put_part, given, eval, look, eval_all, eval_any, eval_text, eval_items, eval_parts}
-use Rattle.pb_language.specs.Give.{Own, keyword_of, own_world, with_own_field, end_own}
+use Rattle.pb_language.specs.Evaluation.{Outcome, value, stuck, wrong_sort, then_go, found, readable, member_text, read, is_there, or_else, negated, and_then, or_then, compared, found_in, status_of, counted, plain_text, with_text, joined, put_item, put_part, given, eval, look, eval_all, eval_any, eval_text, eval_items, eval_parts}
+use Rattle.pb_language.specs.Give.{Own, Results, with_statuses, ended_with, keyword_of, own_world, judged_world, until_of, with_status, with_ended, with_own_field, end_own, end_all}
 use Rattle.pb_language.specs.Machine.{Host, State, outermost, innermost, still_active}
-use Rattle.pb_language.specs.OwnReads.{SameAlone, SameOutcomes, keyword_reads_others, SameResults, SameAtGive}
+use Rattle.pb_language.specs.OwnReads.{SameAlone, SameOutcomes, keyword_reads_others, until_reads_others, SameResults, SameAtGive}
 use Rattle.pb_language.specs.Program.{Inventory, Batch, setting_of}
 use Rattle.pb_language.specs.Rules.{reads_others, root_reads_others, any_reads_others, part_reads_others}
 use Rattle.pb_language.specs.Setting.{named_fields, with_local}
-use Rattle.pb_language.specs.Task.{Task}
+use Rattle.pb_language.specs.Task.{Attempts, Task}
 
 module _ (w v : World) (m : SameAlone w v) where
   mutual
@@ -108,14 +109,34 @@ same_keyword : (w v : World) (k : Option Expressions) (b : Bool) → SameAlone w
 same_keyword w v None b m n = refl
 same_keyword w v (Some es) b m n = same_all w v m es n
 
+judged_alone : (w v : World) (t : Task) (o : Own) (c f : Bool) → SameAlone w v → SameAlone (judged_world w t o c f) (judged_world v t o c f)
+judged_alone w v t o c f m = record {
+  this = m.this;
+  groups = m.groups;
+  mine = λ n h. same_own t.register n (rec (with_statuses c f o.fields)) (with_local (codes "item") o.item w.mine) (with_local (codes "item") o.item v.mine) (same_local (codes "item") n o.item w.mine v.mine (m.mine n h));
+}
+
+same_until : (w v : World) (a : Option Attempts) → SameAlone w v → until_reads_others a ≡ false → until_of w a ≡ until_of v a
+same_until w v None m n = refl
+same_until w v (Some a) m n = same_all w v m a.until n
+
+same_with : (p : Outcome) (f g : Bool → Results) → ((b : Bool) → f b ≡ g b) → with_status p f ≡ with_status p g
+same_with (value (boolean b)) f g h = h b
+same_with (value d) f g h = refl
+same_with (stuck y) f g h = refl
+
 pub same_results : SameResults
-same_results w v t [] m c f = refl
-same_results w v t (o ∷ os) m c f =
+same_results w v t [] m c f u = refl
+same_results w v t (o ∷ os) m c f u =
     let changed = flag_is true (field_value (codes "changed") o.fields) in
     let failed = flag_is true (field_value (codes "failed") o.fields) in
     let own = own_alone w v t o m in
-    ap (end_own w t o) (same_results w v t os m c f)
-    ∙ rw (same_keyword (own_world w t o) (own_world v t o) t.changed_when changed own c, same_keyword (own_world w t o) (own_world v t o) t.failed_when failed own f) refl
+    ap (end_own w t o) (same_results w v t os m c f u)
+    ∙ rw (same_keyword (own_world w t o) (own_world v t o) t.changed_when changed own c, same_keyword (own_world w t o) (own_world v t o) t.failed_when failed own f)
+    (ap (λ r. cond (is_skipped o.shape) (with_ended (ended_with o false false true) (end_all v t os)) r)
+    (same_with (keyword_of (own_world v t o) t.changed_when changed) _ _ (λ x.
+    same_with (keyword_of (own_world v t o) t.failed_when failed) _ _ (λ y.
+    ap (λ p. with_status p (λ z. with_ended (ended_with o x y z) (end_all v t os))) (same_until (judged_world w t o x y) (judged_world v t o x y) t.attempts (judged_alone w v t o x y m) u)))))
 
 -- the worlds of the machine
 module _ (b : Batch) (t : Task) (n : Name) (i : bytes_eq n (codes "ansible_play_batch") ≡ false) where

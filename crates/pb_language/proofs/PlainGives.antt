@@ -84,7 +84,7 @@ module _ (ms : Registry) (h : Name) (r : PlainRun) (t : PlainTask) (ts : List Pl
 
           pub failed_gives : admission m.ok m.failure v ≡ failed (rec fs) → field_value (codes "failed") fs ≡ Some (boolean true) → put_field (codes "failed") (boolean true) (put_field (codes "changed") (boolean c) fs) ≡ fs
               → (message : List ℕ) × (answered ms h r (object v ∷ xs) (t ∷ ts) (a_pass (calls d)) ≡ after_came came_failed (result_writes t.register (rec fs) no_fields) message ts r)
-          failed_gives a y z = (failure_text (field_value (codes "msg") fs), rw (w, e, a, x, y, z) (rw (← results_put t.register (rec fs) no_fields r.variables) refl))
+          failed_gives a y z = (failure_text true (field_value (codes "msg") fs), rw (w, e, a, x, y, z) (rw (← results_put t.register (rec fs) no_fields r.variables) refl))
 
 -- what an admitted result was made of, of that shape, and with that status
 record ShapedAs (f : Bool) (k : KindData) (e : Data) : Type 0 where

@@ -10,15 +10,19 @@ use Rattle.pb_language.specs.Book.{Book, Registry}
 use Rattle.pb_language.specs.Plays.{play_row, program_of}
 use Rattle.pb_language.specs.Notify.{handlers_are}
 use Rattle.pb_language.specs.Start.{Pass, Plan, planned, halted, plan_of}
-use Rattle.pb_language.specs.Give.{Answer, Results, results_are, no_results, Admitted, admitted, breached, unreached, admit_passes, end_all, any_changed, any_failed, message_of, written_variables}
+use Rattle.pb_language.specs.Give.{Answer, Results, results_are, no_results, Admitted, admitted, breached, unreached, admit_passes, Ended, end_all, all_hold, last_attempts, any_changed, any_failed, message_of, written_variables}
 use Rattle.pb_language.specs.Machine as machine
 use Rattle.pb_language.specs.Machine.{Event, start, give, turn, waits, Stage, notified_by, task_recap, Host, State, enabled, step, opening, run_from, run, settled}
 use Rattle.pb_language.specs.plain.Books.{PlainTask, plain_play, lone_host, are_plain_tasks}
 use Rattle.pb_language.specs.plain.Machine as plain
-use Rattle.pb_language.specs.plain.Machine.{plain_world, running_stage, plain_batch, after_failure, Standing, before, inside, PlainRun, plain_rest, plain_ready, plain_host, plain_state, plain_opening, plain_step, plain_is_enabled, plain_run_from}
+use Rattle.pb_language.specs.plain.Machine.{ended_run, plain_world, running_stage, plain_batch, after_failure, Standing, before, inside, PlainRun, plain_rest, plain_ready, plain_host, plain_state, plain_opening, plain_step, plain_is_enabled, plain_run_from}
 use Rattle.pb_language.specs.plain.Pass.{plain_run}
 use Rattle.pb_language.proofs.PlainFlow.{plain_row}
 use Rattle.pb_language.proofs.PlainRows.{plain_tail, plain_play_row}
+
+never_again : (q : Bool) → q && nat_lt 0 0 ≡ false
+never_again true = refl
+never_again false = refl
 
 module _ (ms : Registry) where
   -- the row of the play leaves its tasks to do
@@ -91,11 +95,14 @@ module _ (ms : Registry) where
           abbrev inner : PlainRun
           inner = at (inside ps)
 
-          results_given : (rs : Results) → machine.on_results (whole inner) (plain_batch ms h l all) 0 (plain_host ms h inner) here (plain_rest ms (suc r.place) ts) left rs ≡ whole (plain.on_results here ts rs inner)
-          results_given (no_results s) = refl
-          results_given (results_are es) = rw (none_notified (any_changed es && not (any_failed es))) (way_gone (any_failed es) (message_of None es) (running_stage ms r.place (t ∷ ts) ps) ts (record inner { variables = written_variables here es r.variables; recap = task_recap here es r.recap }))
+          ended_given : (es : List Ended) → machine.on_ended (whole inner) (plain_batch ms h l all) 0 (plain_host ms h inner) here (plain_rest ms (suc r.place) ts) left es ≡ whole (ended_run here ts es inner)
+          ended_given es = rw (none_notified (any_changed es && not (any_failed es))) (way_gone (any_failed es) (message_of None es) (running_stage ms r.place (t ∷ ts) ps) ts (record inner { variables = written_variables here es r.variables; recap = task_recap here es r.recap }))
 
-          answers_given : (a : Admitted) → machine.on_admitted (whole inner) (plain_batch ms h l all) 0 (plain_host ms h inner) here (plain_rest ms (suc r.place) ts) left a ≡ whole (plain.on_admitted h here ts a inner)
+          results_given : (rs : Results) → machine.on_results (whole inner) (plain_batch ms h l all) 0 (plain_host ms h inner) here 0 ps (plain_rest ms (suc r.place) ts) left rs ≡ whole (plain.on_results here ts rs inner)
+          results_given (no_results s) = refl
+          results_given (results_are es) = rw (never_again (not (all_hold es))) (ended_given (last_attempts es))
+
+          answers_given : (a : Admitted) → machine.on_admitted (whole inner) (plain_batch ms h l all) 0 (plain_host ms h inner) here 0 ps (plain_rest ms (suc r.place) ts) left a ≡ whole (plain.on_admitted h here ts a inner)
           answers_given (admitted os) = rw (own_name h) (results_given (end_all (plain_world h r.variables) here os))
           answers_given breached = refl
           answers_given unreached = refl

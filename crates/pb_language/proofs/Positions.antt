@@ -1,5 +1,6 @@
 -- Where a run stands in its program, and what each host owes and knows there.
-use Rattle.std.proofs.Common.{◌≡◌, ◌≤◌, ◌+◌, ℕ, suc, max, List, [], ◌∷◌, Bool, true, false, not, ◌&&◌, ◌||◌, cond, nat_le, Option, Some, None, is_some, refl, arith, true≢false, bytes_eq, ⊎_elim}
+use Rattle.std.proofs.Common.{◌≡◌, ◌≤◌, ◌<◌, ◌+◌, ◌-◌, ◌*◌, ℕ, suc, max, List, [], ◌∷◌, Bool, true, false, not, ◌&&◌, ◌||◌, cond, nat_le, Option, Some, None, is_some, refl, arith, true≢false, bytes_eq, ⊎_elim}
+use Rattle.std.proofs.Math.Nat.{suc-mul}
 use Rattle.pb_semantics.specs.Data.{Data, Fields, field_value}
 use Rattle.pb_semantics.specs.Kind.{Slots, Spot, nowhere, spot, slot_at}
 use Rattle.pb_semantics.specs.Keeps.{is_among, spot_ok, Models}
@@ -14,7 +15,8 @@ use Rattle.pb_language.specs.Judgement.{Exit, dead, live, going_exit, failing_ex
 use Rattle.pb_language.specs.Walk.{Walked, walk}
 use Rattle.pb_language.specs.Program.{Inventory, Play, Program, setting_of}
 use Rattle.pb_language.specs.Tables.{plays_walked, plays_calls, place_calls, place_length, flush_calls, row_calls, has_since, has_all}
-use Rattle.pb_language.specs.Start.{Pass}
+use Rattle.pb_language.specs.Start.{Pass, call_count}
+use Rattle.pb_language.specs.Give.{retries_of}
 use Rattle.pb_language.specs.Machine.{over, gone, begins, Stage, waits, runs, Host, is_marked, unmarked, outermost, innermost, settled, stands_at, is_on_stage}
 use Rattle.pb_language.proofs.Claims.{PassesFine}
 use Rattle.pb_language.proofs.Ways.{Above, WellEnv, VisitFine, Typed}
@@ -63,6 +65,16 @@ all_there (since n r l) p vars env m h x i =
     ⊎_elim (λ y. rw (same_name x n (and-left (bytes_eq x n) (nat_le r p) y)) (certain_there (field_value n vars) (slot_at n env) (m.at n) (and-left (is_certain (slot_at n env)) (has_all l env) h)))
     (λ y. all_there l p vars env m (and-right (is_certain (slot_at n env)) (has_all l env) h) x y) (or-cases (bytes_eq x n && nat_le r p) (is_later l p x) i)
 all_there (every_name r l) p vars env m h x i = untrue h
+
+-- the calls of the attempts that are left after this one
+abbrev pub left_calls : Task → ℕ → List Pass → ℕ
+left_calls t i passes = (retries_of t.attempts - i) * call_count passes
+
+pub first_attempt : (r c : ℕ) → (r - 0) * c + c ≤ suc r * c
+first_attempt r c = let e : r - 0 ≡ r = omega arith in rw e (let l = suc-mul r c in omega (arith, l))
+
+pub next_attempt : (r i c : ℕ) → i < r → (r - suc i) * c + c ≤ (r - i) * c
+next_attempt r i c h = let e : r - i ≡ suc (r - suc i) = omega (arith, h) in rw e (let l = suc-mul (r - suc i) c in omega (arith, l))
 
 -- the name is in one of these batches
 abbrev pub in_any : Name → List (List Name) → Bool
@@ -140,14 +152,15 @@ module _ (views : List View) (inventory : Inventory) (p : Play) (laters : List L
     StageFine n vars (waits over) = Over n vars
     StageFine n vars (waits gone) = Unit {0}
     StageFine n vars (waits (begins t x y)) = (is_among n b ≡ true) × Waiting n vars (next t x y)
-    StageFine n vars (runs t passes x y) = (is_among n b ≡ true) × Running n vars t passes x y
+    StageFine n vars (runs t i passes x y) = (is_among n b ≡ true) × Running n vars t passes x y
 
-    -- the calls that a host may still hand out
+    -- the calls that a host may still hand out: those of the attempts that a job may still make, and of
+    -- what follows
     abbrev pub owes : Name → Stage → ℕ
     owes n (waits over) = cond (in_any n bs) (whole n) (future n)
     owes n (waits gone) = 0
     owes n (waits (begins t x y)) = most n (next t x y) + future n
-    owes n (runs t passes x y) = max (most n x) (most n y) + future n
+    owes n (runs t i passes x y) = left_calls t i passes + (max (most n x) (most n y) + future n)
 
     module _ (n : Name) (here : is_among n b ≡ true) (apart : in_any n bs ≡ false) where
       end_models : (vars : Fields) (env : Slots) (e : Exit) → Models vars env → (high : Slots) × (e ≡ live high) × Above env high → ExitModels vars e
@@ -202,7 +215,7 @@ module _ (views : List View) (inventory : Inventory) (p : Play) (laters : List L
       stage_there q vars (waits (begins t x y)) f i s =
           let y = f.1.typed in
           record { at = since_there (later n) q t.place vars y.0 s (y.1.up vars f.1.models) y.3.since }
-      stage_there q vars (runs t passes x y) f i s = record { at = since_there (later n) q t.place vars f.1.env s f.1.models f.1.visit.since }
+      stage_there q vars (runs t j passes x y) f i s = record { at = since_there (later n) q t.place vars f.1.env s f.1.models f.1.visit.since }
 
   -- a name settles no other thing
   most_next : (c d n a b : ℕ) → a ≤ d + n → b ≤ n → c + max a b ≤ c + (d + n)

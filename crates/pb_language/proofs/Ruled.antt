@@ -5,14 +5,14 @@ use Rattle.pb_language.specs.Expression.{Name, Expression, Expressions, no_expre
 use Rattle.pb_language.specs.Expansion.{expanded, all_expanded, trees}
 use Rattle.pb_language.specs.Notify.{HandlerNames}
 use Rattle.pb_language.specs.Book.{TaskData, Steps, no_steps, task_step, block_step, flush_step, HandlerData, PlayData, Book, Registry}
-use Rattle.pb_language.specs.Plays.{append_parts, append_expressions, expanded_list, Surroundings, task_at, inside, is_given, places_in, handlers_at, row_of, gathering_task, ended_row, section_row, gathered_row, sections_row, play_surroundings, play_row, names_of_handlers, program_of}
+use Rattle.pb_language.specs.Plays.{append_parts, append_expressions, expanded_list, expanded_attempts, Surroundings, task_at, inside, is_given, places_in, handlers_at, row_of, gathering_task, ended_row, section_row, gathered_row, sections_row, play_surroundings, play_row, names_of_handlers, program_of}
 use Rattle.pb_language.specs.Program.{Inventory, Play, Program}
-use Rattle.pb_language.specs.Task.{Task, Handlers, no_handlers, handler, Row, end, task, flush, section, block}
+use Rattle.pb_language.specs.Task.{Attempts, Task, Handlers, no_handlers, handler, Row, end, task, flush, section, block}
 use Rattle.pb_language.specs.Sites.{a_task, Site, site, sites_in, handler_sites, gathering_sites, play_sites, sites_of}
-use Rattle.pb_language.specs.Rules.{any_notifies_up_to, breaks_parameters, breaks_names, vars_names, breaks_chains, breaks_known, breaks_notify, breaks_order, any_reads_others, reads_others, expanded_reads, list_expressions, give_expressions, breaks_give, first_line, too_many_steps, rules_offence}
+use Rattle.pb_language.specs.Rules.{any_notifies_up_to, breaks_parameters, breaks_names, vars_names, breaks_chains, breaks_known, breaks_notify, breaks_order, any_reads_others, reads_others, expanded_reads, list_expressions, until_expressions, give_expressions, breaks_give, first_line, too_many_steps, rules_offence}
 use Rattle.pb_language.specs.Verdict.{Refusal, Verdict, accepted, earlier, flow_verdict, offence_verdict}
 use Rattle.pb_language.specs.Judged.{judged}
-use Rattle.pb_language.specs.OwnReads.{keyword_reads_others}
+use Rattle.pb_language.specs.OwnReads.{keyword_reads_others, until_reads_others}
 use Rattle.pb_language.specs.FlushOrder.{are_numbered}
 use Rattle.pb_language.proofs.Accepted.{earlier_none}
 use Rattle.pb_language.proofs.FlushOrder.{numbered_from}
@@ -168,7 +168,7 @@ module _ (ms : Registry) (f : Task → Bool) (g : List HandlerNames → Handlers
 
 -- `changed_when` and `failed_when` read no others
 abbrev pub reads_alone : Task → Bool
-reads_alone t = not (keyword_reads_others t.changed_when || keyword_reads_others t.failed_when)
+reads_alone t = not (keyword_reads_others t.changed_when || (keyword_reads_others t.failed_when || until_reads_others t.attempts))
 
 abbrev pub handlers_have : (Task → Bool) → Handlers → Bool
 handlers_have f no_handlers = true
@@ -193,11 +193,27 @@ keyword_alone : (f : Name → Option Expression) (o : Option Expressions) → an
 keyword_alone f None h = refl
 keyword_alone f (Some es) h = h
 
+until_alone : (f : Name → Option Expression) (o : Option Attempts) → any_reads_others (all_expanded f (until_expressions o)) ≡ false → until_reads_others (expanded_attempts f o) ≡ false
+until_alone f None h = refl
+until_alone f (Some a) h = h
+
+append_alone : (f : Name → Option Expression) (es gs : Expressions) → any_reads_others (all_expanded f (append_expressions es gs)) ≡ false → (any_reads_others (all_expanded f es) ≡ false) × (any_reads_others (all_expanded f gs) ≡ false)
+append_alone f no_expressions gs h = (refl, h)
+append_alone f (expression e es) gs h =
+    let here = reads_others (expanded f e) in
+    let rest = any_reads_others (all_expanded f (append_expressions es gs)) in
+    let both = append_alone f es gs (neither-right here rest h) in
+    (neither-both here (any_reads_others (all_expanded f es)) (neither-left here rest h) both.0, both.1)
+
 task_alone : (s : Surroundings) (p : ℕ) (t : TaskData) → expanded_reads (trees (append_parts t.vars s.scope)) (give_expressions t) ≡ false → reads_alone (task_at s p t) ≡ true
 task_alone s p t h =
     let f = trees (append_parts t.vars s.scope) in
-    let both = both_alone f (list_expressions t.changed_when) (list_expressions t.failed_when) h in
-    ap not (neither-both (keyword_reads_others (expanded_list f t.changed_when)) (keyword_reads_others (expanded_list f t.failed_when)) (keyword_alone f t.changed_when both.0) (keyword_alone f t.failed_when both.1))
+    let later = append_expressions (list_expressions t.failed_when) (until_expressions t.attempts) in
+    let first = both_alone f (list_expressions t.changed_when) later h in
+    let both = append_alone f (list_expressions t.failed_when) (until_expressions t.attempts) first.1 in
+    let failed = keyword_reads_others (expanded_list f t.failed_when) in
+    let until = until_reads_others (expanded_attempts f t.attempts) in
+    ap not (neither-both (keyword_reads_others (expanded_list f t.changed_when)) (failed || until) (keyword_alone f t.changed_when first.0) (neither-both failed until (keyword_alone f t.failed_when both.0) (until_alone f t.attempts both.1)))
 
 handlers_alone : (play : PlayData) (s : Surroundings) (i p : ℕ) (hs : List HandlerData) → s.scope ≡ play.vars → AllSites (λ x. breaks_give x ≡ false) (handler_sites play i hs) → handlers_have reads_alone (handlers_at s i p hs) ≡ true
 handlers_alone play s i p [] e a = refl

@@ -1,5 +1,7 @@
 -- What every step of a run keeps.
-use Rattle.std.proofs.Common.{◌≡◌, ◌≤◌, ◌+◌, ⊎_elim, ℕ, suc, max, List, [], ◌∷◌, Bool, true, false, not, ◌&&◌, ◌||◌, cond, nat_lt, Some, None, is_some, length, refl, sym, ap, subst, ◌∙◌, arith}
+use Rattle.std.proofs.Common.{◌≡◌, ◌≤◌, ◌<◌, ◌+◌, ◌*◌, ⊎_elim, ℕ, suc, max, List, [], ◌∷◌, Bool, true, false, not, ◌&&◌, ◌||◌, cond, nat_lt, Some, None, is_some, length, refl, sym, ap, subst, ◌∙◌, arith}
+use Rattle.std.proofs.lemmas.Bool.{ltb-true}
+use Rattle.std.proofs.Math.Nat.{mul-le-mul_left}
 use Rattle.pb_semantics.specs.Data.{Fields, no_fields, field_value}
 use Rattle.pb_semantics.specs.Kind.{Slots, no_slots, recs}
 use Rattle.pb_semantics.specs.Keeps.{is_among, Models}
@@ -14,19 +16,19 @@ use Rattle.pb_language.specs.Task.{Action, call_of, debug, set_fact, assertion, 
 use Rattle.pb_language.specs.Rest.{Rest, done, left, next, ask, rescue, hold, release}
 use Rattle.pb_language.specs.Cases.{failing_cases}
 use Rattle.pb_language.specs.Fit.{unknown_handler}
-use Rattle.pb_language.specs.Setting.{Setting, named_slots, start_scope, item_scope, action_scope, give_scope}
-use Rattle.pb_language.specs.Judgement.{Exit, live, task_fault, live_if, has_case, has_going, going_slots, failing_slots, going_exit, failing_exit, loop_fault, conditions_fault, action_fault, keyword_fault}
+use Rattle.pb_language.specs.Setting.{Setting, named_slots, start_scope, item_scope, action_scope, give_scope, until_scope}
+use Rattle.pb_language.specs.Judgement.{Exit, live, task_fault, live_if, has_case, has_going, going_slots, failing_slots, going_exit, failing_exit, loop_fault, conditions_fault, action_fault, keyword_fault, until_fault}
 use Rattle.pb_language.specs.Program.{Inventory, Play, Program, Batch, setting_of}
 use Rattle.pb_language.specs.Tables.{place_calls, place_length}
 use Rattle.pb_language.specs.Theorem.{are_distinct, host_names}
 use Rattle.pb_language.specs.Start.{Pass, Plan, planned, halted, plan_of, call_count}
-use Rattle.pb_language.specs.Give.{Answer, Admitted, admitted, breached, unreached, admit_passes, Ended, Results, results_are, no_results, end_all, any_failed, any_changed, written_variables}
-use Rattle.pb_language.specs.Machine.{over, gone, begins, Stage, waits, runs, Host, Recap, State, is_marked, unmarked, outermost, innermost, settled, still_active, variables_seen, world_of, host_at, put_host, is_out, running, all_stand, can_start, with_host, on_plan, on_start, notified_by, after_task, on_notified, on_results, on_admitted, on_give}
+use Rattle.pb_language.specs.Give.{Answer, Admitted, admitted, breached, unreached, admit_passes, Ended, Results, results_are, no_results, end_all, all_hold, retries_of, asks_again, last_attempts, any_failed, any_changed, written_variables}
+use Rattle.pb_language.specs.Machine.{over, gone, begins, Stage, waits, runs, Host, Recap, State, is_marked, unmarked, outermost, innermost, settled, still_active, variables_seen, world_of, host_at, put_host, is_out, running, all_stand, can_start, with_host, on_plan, on_start, notified_by, after_task, on_notified, on_ended, on_again, on_results, on_admitted, on_give}
 use Rattle.pb_language.proofs.Claims.{Around, StartClaim, GiveClaim, PlanFine, AdmittedFine, ResultsFine, Written, action_calls, more_calls}
 use Rattle.pb_language.proofs.Ways.{WellEnv}
 use Rattle.pb_language.proofs.Named.{named_models}
 use Rattle.pb_language.proofs.Seen.{names_of, names_put, put_at, seen_at, seen, active_at, still_among, all_still, few_still, stand_at, total, total_put}
-use Rattle.pb_language.proofs.Positions.{walked, most, FineVisit, TypedAt, Running, in_any, StageFine, owes, settled_fine, settled_owes, stage_there}
+use Rattle.pb_language.proofs.Positions.{walked, most, FineVisit, TypedAt, Running, in_any, StageFine, owes, settled_fine, settled_owes, stage_there, first_attempt, next_attempt}
 use Rattle.pb_language.proofs.Fits.{no_second, not_asked}
 
 -- the texts that a fit task notifies name handlers
@@ -37,14 +39,21 @@ handlers_named s t env h =
     let c = no_second (action_fault (action_scope s t env) t.action) _ b in
     let d = no_second (keyword_fault (give_scope s t env) t.changed_when) _ c in
     let e = no_second (keyword_fault (give_scope s t env) t.failed_when) _ d in
-    not_asked unknown_handler (names_something (all_notified s.handlers t.notifies)) e
+    let f = no_second (until_fault (until_scope s t env) t.attempts) _ e in
+    not_asked unknown_handler (names_something (all_notified s.handlers t.notifies)) f
 
-calls_at : (vs : List _) (t : Task) (a : Action) → place_calls vs t a ≡ action_calls a (place_length t t.loop vs)
-calls_at vs t (call_of m ps) = refl
-calls_at vs t (debug e) = refl
-calls_at vs t (set_fact ps) = refl
-calls_at vs t (assertion es o) = refl
-calls_at vs t (failure_of o) = refl
+le_itself : (n : ℕ) → n ≤ n
+le_itself n = omega arith
+
+nothing : (r : ℕ) → suc r * 0 ≤ 0
+nothing r = omega arith
+
+calls_at : (vs : List _) (t : Task) (a : Action) → suc (retries_of t.attempts) * action_calls a (place_length t t.loop vs) ≤ place_calls vs t a
+calls_at vs t (call_of m ps) = le_itself (suc (retries_of t.attempts) * place_length t t.loop vs)
+calls_at vs t (debug e) = nothing (retries_of t.attempts)
+calls_at vs t (set_fact ps) = nothing (retries_of t.attempts)
+calls_at vs t (assertion es o) = nothing (retries_of t.attempts)
+calls_at vs t (failure_of o) = nothing (retries_of t.attempts)
 
 -- an exit that is there
 there_exit : (q : Bool) (env : Slots) (Q : Exit → Type 0) → q ≡ true → Q (live_if q env) → Q (live env)
@@ -192,14 +201,19 @@ module _ (inventory : Inventory) (views : List View) (fixed : Fixed inventory vi
           let stage = ap (λ z. owed h.name z) g in
           let few = more_calls t.action _ _ v.few in
           let calls = f.calls in
+          let c = call_count passes in
+          let n = action_calls t.action (place_length t t.loop (walked views inventory p laters exits ps ls h.name).visits) in
+          let low : c ≤ n = omega (arith, few, calls) in
+          let all = mul-le-mul_left (suc (retries_of t.attempts)) low in
+          let attempts = first_attempt (retries_of t.attempts) c in
           let same = calls_at (walked views inventory p laters exits ps ls h.name).visits t t.action in
-          replaced k (call_count passes) h (record h { stage = runs t passes x y }) e refl (kept.models k h e) (here, record { env = env; models = m; well = wl; visit = v; passes_fine = f; going = yx; failing = yy })
-          (omega (arith, stage, few, calls, same))
+          replaced k c h (record h { stage = runs t 0 passes x y }) e refl (kept.models k h e) (here, record { env = env; models = m; well = wl; visit = v; passes_fine = f; going = yx; failing = yy })
+          (omega (arith, stage, all, attempts, same))
 
       pub start_fine : (k : ℕ) (h : Host) (g : Stage) → host_at k s.hosts ≡ Some h → h.stage ≡ g → StandsFine h.name h.variables g → can_start s now g ≡ true → Stepped (on_start s now k h g)
       start_fine k h (waits over) e g f c = untrue c
       start_fine k h (waits gone) e g f c = untrue c
-      start_fine k h (runs t passes x y) e g f c = untrue c
+      start_fine k h (runs t i passes x y) e g f c = untrue c
       start_fine k h (waits (begins t x y)) e g f c =
           let z = f.1.typed in
           let m = z.1.up h.variables f.1.models in
@@ -207,7 +221,7 @@ module _ (inventory : Inventory) (views : List View) (fixed : Fixed inventory vi
           plan_fine k h t x y z.0 (plan_of (world_of s now h t) t t.loop) e g f.0 m z.2 z.3 z.4 z.5
           (start_claim (world_of s now h t) (setting_of inventory p views laters h.name) t z.0 a z.2 (mine_models h t z.0 m) z.3.fit)
 
-      module _ (k : ℕ) (h : Host) (t : Task) (passes : List Pass) (x y : Rest) (e : host_at k s.hosts ≡ Some h) (g : h.stage ≡ runs t passes x y) (here : is_among h.name b ≡ true) (r : Running views inventory p laters exits ps ls h.name h.variables t passes x y) where
+      module _ (k : ℕ) (h : Host) (t : Task) (i : ℕ) (passes : List Pass) (x y : Rest) (e : host_at k s.hosts ≡ Some h) (g : h.stage ≡ runs t i passes x y) (here : is_among h.name b ≡ true) (r : Running views inventory p laters exits ps ls h.name h.variables t passes x y) where
         -- the host goes on after its task
         on_way : (es : List Ended) (ms : List ℕ) (env : Slots) (w : Rest) → Models (written_variables t es h.variables) env → Models (written_variables t es h.variables) (view_of h.name views)
             → TypedAt views inventory p laters exits ps ls h.name (live env) w → most views inventory p laters exits ps ls h.name w ≤ max (most views inventory p laters exits ps ls h.name x) (most views inventory p laters exits ps ls h.name y)
@@ -218,17 +232,17 @@ module _ (inventory : Inventory) (views : List View) (fixed : Fixed inventory vi
             let vars = settled_variables a w in
             let f = settled_fine views inventory p laters exits ps ls b bs h.name here (batch.apart h.name here) w a (written_variables t es h.variables) env m z in
             let l = settled_owes views inventory p laters exits ps ls b bs h.name here (batch.apart h.name here) w a in
-            let stage = ap (λ i. owed h.name i) g in
+            let stage = ap (λ z. owed h.name z) g in
             let lower : owed (settled a w).name (settled a w).stage ≤ owed h.name h.stage = rw name (omega (arith, l, o, stage)) in
             replaced_here k h (settled a w) e name (rw (name, vars) v) (rw (name, vars) f) lower
 
         either_way : (q : Bool) (es : List Ended) (ms : List ℕ) → any_failed es && not t.ignores ≡ q → Written (setting_of inventory p views laters h.name) t r.env es h.variables → Stepped (with_host s k (settled (after_task h t es ms) (cond q y x)))
-        either_way true es ms i w =
-            let z = w.failing i in
+        either_way true es ms j w =
+            let z = w.failing j in
             on_way es ms (failing_slots (setting_of inventory p views laters h.name) t r.env) y z.0 (w.kept (view_of h.name views) (kept.models k h e) r.visit.below)
             (there_exit (has_case (failing_cases t)) (failing_slots (setting_of inventory p views laters h.name) t r.env) (λ j. TypedAt views inventory p laters exits ps ls h.name j y) z.1 r.failing) (grind arith)
-        either_way false es ms i w =
-            let z = w.going i in
+        either_way false es ms j w =
+            let z = w.going j in
             on_way es ms (going_slots (setting_of inventory p views laters h.name) t r.env) x z.0 (w.kept (view_of h.name views) (kept.models k h e) r.visit.below)
             (there_exit (has_going t t.loop) (going_slots (setting_of inventory p views laters h.name) t r.env) (λ j. TypedAt views inventory p laters exits ps ls h.name j x) z.1 r.going) (grind arith)
 
@@ -240,24 +254,38 @@ module _ (inventory : Inventory) (views : List View) (fixed : Fixed inventory vi
         flagged true = handlers_named (setting_of inventory p views laters h.name) t r.env r.visit.fit
         flagged false = refl
 
-        results_fine : (rs : Results) → ResultsFine (setting_of inventory p views laters h.name) t r.env h.variables rs → Stepped (on_results s now k h t x y rs)
+        ended_fine : (es : List Ended) → Written (setting_of inventory p views laters h.name) t r.env es h.variables → Stepped (on_ended s now k h t x y es)
+        ended_fine es f = notified_fine es (notified_by p t (any_changed es && not (any_failed es))) (flagged (any_changed es && not (any_failed es))) f
+
+        -- another attempt is one of those that were counted
+        again_fine : i < retries_of t.attempts → Stepped (on_again s k h t i passes x y)
+        again_fine l =
+            let stage = ap (λ z. owed h.name z) g in
+            let next = next_attempt (retries_of t.attempts) i (call_count passes) l in
+            replaced k (call_count passes) h (record h { stage = runs t (suc i) passes x y }) e refl (kept.models k h e) (here, r) (omega (arith, stage, next))
+
+        attempt_fine : (q : Bool) (es : List Ended) → asks_again t i es ≡ q → Written (setting_of inventory p views laters h.name) t r.env (last_attempts es) h.variables → Stepped (cond q (on_again s k h t i passes x y) (on_ended s now k h t x y (last_attempts es)))
+        attempt_fine true es a f = again_fine (ltb-true i (retries_of t.attempts) (and-right (not (all_hold es)) (nat_lt i (retries_of t.attempts)) a))
+        attempt_fine false es a f = ended_fine (last_attempts es) f
+
+        results_fine : (rs : Results) → ResultsFine (setting_of inventory p views laters h.name) t r.env h.variables rs → Stepped (on_results s now k h t i passes x y rs)
         results_fine (no_results w) f = untrue f
-        results_fine (results_are es) f = notified_fine es (notified_by p t (any_changed es && not (any_failed es))) (flagged (any_changed es && not (any_failed es))) f
+        results_fine (results_are es) f = attempt_fine (asks_again t i es) es refl f
 
         gone_fine : (rc : Recap) → Stepped (with_host s k (record h { stage = waits gone; recap = rc }))
         gone_fine rc = replaced_here k h (record h { stage = waits gone; recap = rc }) e refl (kept.models k h e) tt (omega arith)
 
-        admitted_fine : (ad : Admitted) → AdmittedFine (setting_of inventory p views laters h.name) t r.env (world_of s now h t) h.variables ad → Stepped (on_admitted s now k h t x y ad)
+        admitted_fine : (ad : Admitted) → AdmittedFine (setting_of inventory p views laters h.name) t r.env (world_of s now h t) h.variables ad → Stepped (on_admitted s now k h t i passes x y ad)
         admitted_fine (admitted os) f = results_fine (end_all (world_of s now h t) t os) f
         admitted_fine breached f = gone_fine (record h.recap { failed = suc h.recap.failed })
         admitted_fine unreached f = gone_fine (record h.recap { unreachable = suc h.recap.unreachable })
 
-        given_fine : (xs : List Answer) → Stepped (on_admitted s now k h t x y (admit_passes t.action passes xs))
+        given_fine : (xs : List Answer) → Stepped (on_admitted s now k h t i passes x y (admit_passes t.action passes xs))
         given_fine xs =
-            let a = around_with t.place [] h t (λ n i z j. untrue j) in
+            let a = around_with t.place [] h t (λ n j z l. untrue l) in
             admitted_fine (admit_passes t.action passes xs)
             (give_claim (world_of s now h t) (setting_of inventory p views laters h.name) t r.env h.variables passes xs a r.well r.models (mine_models h t r.env r.models) r.visit.fit r.passes_fine)
 
       pub give_fine : (k : ℕ) (h : Host) (g : Stage) (xs : List Answer) → host_at k s.hosts ≡ Some h → h.stage ≡ g → StandsFine h.name h.variables g → is_out g ≡ true → Stepped (on_give s now k h xs g)
       give_fine k h (waits i) xs e g f o = untrue o
-      give_fine k h (runs t passes x y) xs e g f o = given_fine k h t passes x y e g f.0 f.1 xs
+      give_fine k h (runs t i passes x y) xs e g f o = given_fine k h t i passes x y e g f.0 f.1 xs

@@ -7,17 +7,31 @@ use Rattle.pb_language.specs.World.{HostVariables}
 use Rattle.pb_language.specs.Task.{Task, Handlers, no_handlers, handler, Row, end, task, flush, section, block}
 use Rattle.pb_language.specs.Rest.{Rest, done, left, next, ask, rescue, hold, release, flush_rest, rest_of}
 use Rattle.pb_language.specs.Start.{Pass, Plan, planned, halted, plan_of}
-use Rattle.pb_language.specs.Give.{Answer, Admitted, admitted, breached, unreached, admit_passes, Ended, Results, results_are, no_results, end_all, any_changed, any_failed}
+use Rattle.pb_language.specs.Give.{Answer, Admitted, admitted, breached, unreached, admit_passes, Ended, Results, results_are, no_results, end_all, asks_again, last_attempts, any_changed, any_failed}
 use Rattle.pb_language.specs.Notify.{Notified, handlers_are, names_nothing}
 use Rattle.pb_language.specs.Plays.{program_of}
 use Rattle.pb_language.specs.Program.{Inventory, Play, Program, Batch, batches_of, all_batches}
-use Rattle.pb_language.specs.OwnReads.{keyword_reads_others, gives_none, with_job, GivesReadTheirStart}
-use Rattle.pb_language.specs.Machine.{Event, start, give, turn, stop, over, gone, begins, Stage, waits, runs, Host, State, is_marked, unmarked, outermost, innermost, settled, is_on, world_of, host_at, put_host, can_start, is_idle, of_host, is_possible, enabled, stuck_state, on_plan, on_start, notified_by, after_task, way_on, on_notified, on_results, on_admitted, on_give, any_names, still_active, with_batches, on_host, happened, step, empty_recap, opening_hosts, opening, run_from}
+use Rattle.pb_language.specs.OwnReads.{keyword_reads_others, until_reads_others, with_job, is_out_at, gives_to, stays_out, GivesReadTheirStart}
+use Rattle.pb_language.specs.Machine.{on_again, on_ended, Event, start, give, turn, stop, over, gone, begins, Stage, waits, runs, Host, State, is_marked, unmarked, outermost, innermost, settled, is_on, world_of, host_at, put_host, is_out, can_start, of_host, is_possible, enabled, stuck_state, on_plan, on_start, notified_by, after_task, way_on, on_notified, on_results, on_admitted, on_give, any_names, still_active, with_batches, on_host, happened, step, empty_recap, opening_hosts, opening, run_from}
 use Rattle.pb_language.proofs.OwnReads.{same_results, same_at_give}
 use Rattle.pb_language.proofs.Planned.{start_hands_out}
 use Rattle.pb_language.proofs.Ruled.{row_has, program_has, handlers_have, reads_alone, program_alone}
 use Rattle.pb_language.proofs.Same.{same_number}
 use Rattle.pb_language.proofs.Seen.{put_at, put_here, put_apart, host_begun, idle_at}
+
+-- a host before its next task has no job out
+asked_waits : (q : Bool) (x y : Host) → is_out x.stage ≡ false → is_out y.stage ≡ false → is_out (cond q x y).stage ≡ false
+asked_waits true x y h i = h
+asked_waits false x y h i = i
+
+settled_waits : (h : Host) (r : Rest) → is_out (settled h r).stage ≡ false
+settled_waits h done = refl
+settled_waits h left = refl
+settled_waits h (next t a b) = refl
+settled_waits h (ask n a b) = asked_waits (is_marked n h.marks) (settled (record h { marks = unmarked n h.marks }) a) (settled h b) (settled_waits (record h { marks = unmarked n h.marks }) a) (settled_waits h b)
+settled_waits h (rescue d r) = settled_waits (record h { rescues = h.failure ∷ outermost d h.rescues }) r
+settled_waits h (hold m r) = settled_waits (record h { holds = h.failure ∷ outermost m h.holds }) r
+settled_waits h (release m r) = settled_waits (record h { failure = innermost (outermost (suc m) h.holds) }) r
 
 -- what is so of each task of a play's row is so of each that its hosts come to
 module _ (f : Task → Bool) where
@@ -71,7 +85,7 @@ module _ (f : Task → Bool) where
   stage_has (waits over) = true
   stage_has (waits gone) = true
   stage_has (waits (begins t a b)) = f t && (rest_has a && rest_has b)
-  stage_has (runs t ps a b) = f t && (rest_has a && rest_has b)
+  stage_has (runs t tries ps a b) = f t && (rest_has a && rest_has b)
 
   asked_has : (q : Bool) (x y : Host) → stage_has x.stage ≡ true → stage_has y.stage ≡ true → stage_has (cond q x y).stage ≡ true
   asked_has true x y h i = h
@@ -103,13 +117,13 @@ module _ (f : Task → Bool) where
 
   plan_becomes : (s : State) (k : ℕ) (h : Host) (t : Task) (a b : Rest) (p : Plan) → f t && (rest_has a && rest_has b) ≡ true → Becomes s k (on_plan s k h t a b p)
   plan_becomes s k h t a b (halted y) i = marked
-  plan_becomes s k h t a b (planned ps) i = put (record h { stage = runs t ps a b }) _ i
+  plan_becomes s k h t a b (planned ps) i = put (record h { stage = runs t 0 ps a b }) _ i
 
   start_becomes : (s : State) (b : Batch) (k : ℕ) (h : Host) (g : Stage) → stage_has g ≡ true → Becomes s k (on_start s b k h g)
   start_becomes s b k h (waits over) i = same
   start_becomes s b k h (waits gone) i = same
   start_becomes s b k h (waits (begins t x y)) i = plan_becomes s k h t x y (plan_of (world_of s b h t) t t.loop) i
-  start_becomes s b k h (runs t ps x y) i = same
+  start_becomes s b k h (runs t tries ps x y) i = same
 
   way_has : (q : Bool) (x y : Rest) → rest_has x ≡ true → rest_has y ≡ true → rest_has (cond q y x) ≡ true
   way_has true x y h i = i
@@ -120,20 +134,24 @@ module _ (f : Task → Bool) where
   notified_becomes s k h t x y es (handlers_are ms) i j =
       put (settled (after_task h t es ms) (way_on t es x y)) s.handed (settled_has (after_task h t es ms) (way_on t es x y) (way_has (any_failed es && not t.ignores) x y i j))
 
-  results_become : (s : State) (b : Batch) (k : ℕ) (h : Host) (t : Task) (x y : Rest) (r : Results) → rest_has x ≡ true → rest_has y ≡ true → Becomes s k (on_results s b k h t x y r)
-  results_become s b k h t x y (no_results w) i j = marked
-  results_become s b k h t x y (results_are es) i j = notified_becomes s k h t x y es (notified_by b.play t (any_changed es && not (any_failed es))) i j
+  attempt_becomes : (q : Bool) (s : State) (b : Batch) (k : ℕ) (h : Host) (t : Task) (n : ℕ) (ps : List Pass) (x y : Rest) (es : List Ended) → f t && (rest_has x && rest_has y) ≡ true → Becomes s k (cond q (on_again s k h t n ps x y) (on_ended s b k h t x y es))
+  attempt_becomes true s b k h t n ps x y es i = put (record h { stage = runs t (suc n) ps x y }) _ i
+  attempt_becomes false s b k h t n ps x y es i =
+      let ways = and-right (f t) (rest_has x && rest_has y) i in
+      notified_becomes s k h t x y es (notified_by b.play t (any_changed es && not (any_failed es))) (and-left (rest_has x) (rest_has y) ways) (and-right (rest_has x) (rest_has y) ways)
 
-  admitted_become : (s : State) (b : Batch) (k : ℕ) (h : Host) (t : Task) (x y : Rest) (a : Admitted) → rest_has x ≡ true → rest_has y ≡ true → Becomes s k (on_admitted s b k h t x y a)
-  admitted_become s b k h t x y (admitted os) i j = results_become s b k h t x y (end_all (world_of s b h t) t os) i j
-  admitted_become s b k h t x y breached i j = put _ s.handed refl
-  admitted_become s b k h t x y unreached i j = put _ s.handed refl
+  results_become : (s : State) (b : Batch) (k : ℕ) (h : Host) (t : Task) (n : ℕ) (ps : List Pass) (x y : Rest) (r : Results) → f t && (rest_has x && rest_has y) ≡ true → Becomes s k (on_results s b k h t n ps x y r)
+  results_become s b k h t n ps x y (no_results w) i = marked
+  results_become s b k h t n ps x y (results_are es) i = attempt_becomes (asks_again t n es) s b k h t n ps x y (last_attempts es) i
+
+  admitted_become : (s : State) (b : Batch) (k : ℕ) (h : Host) (t : Task) (n : ℕ) (ps : List Pass) (x y : Rest) (a : Admitted) → f t && (rest_has x && rest_has y) ≡ true → Becomes s k (on_admitted s b k h t n ps x y a)
+  admitted_become s b k h t n ps x y (admitted os) i = results_become s b k h t n ps x y (end_all (world_of s b h t) t os) i
+  admitted_become s b k h t n ps x y breached i = put _ s.handed refl
+  admitted_become s b k h t n ps x y unreached i = put _ s.handed refl
 
   give_becomes : (s : State) (b : Batch) (k : ℕ) (h : Host) (xs : List Answer) (g : Stage) → stage_has g ≡ true → Becomes s k (on_give s b k h xs g)
   give_becomes s b k h xs (waits r) i = same
-  give_becomes s b k h xs (runs t ps x y) i =
-      let ways = and-right (f t) (rest_has x && rest_has y) i in
-      admitted_become s b k h t x y (admit_passes t.action ps xs) (and-left (rest_has x) (rest_has y) ways) (and-right (rest_has x) (rest_has y) ways)
+  give_becomes s b k h xs (runs t tries ps x y) i = admitted_become s b k h t tries ps x y (admit_passes t.action ps xs) i
 
   becomes_only : (s z : State) (k : ℕ) → Becomes s k z → Only s → Only z
   becomes_only s z k same o = o
@@ -200,68 +218,103 @@ module _ (f : Task → Bool) where
       next_only (record { inventory = inventory; forks = forks; hosts = opening_hosts inventory.hosts; batches = []; handed = 0; is_stuck = false; is_stopped = false }) (all_batches ps) (all_have ps h)
       (record { batches = refl; hosts = λ k y e. opening_has k inventory.hosts y e })
 
-  -- while a job is out, the host is as its Start left it
-  module _ (b : Batch) (bs : List Batch) (k : ℕ) (g : Host) (t : Task) (ps : List Pass) (x y : Rest) (out : g.stage ≡ runs t ps x y) (inventory : Inventory) where
+  -- while a job is out, the host is as its Start left it, whichever attempt it is
+  module _ (b : Batch) (bs : List Batch) (k : ℕ) (h : Host) (t : Task) (ps : List Pass) (x y : Rest) (inventory : Inventory) where
     record Out (s : State) : Type 0 where
       inventory_same : s.inventory ≡ inventory
       batch : s.batches ≡ b ∷ bs
-      host : host_at k s.hosts ≡ Some g
+      tries : ℕ
+      host : host_at k s.hosts ≡ Some (with_job h t tries ps x y)
 
     becomes_out : (s z : State) (j : ℕ) → nat_eq j k ≡ false → Becomes s j z → Out s → Out z
     becomes_out s z j e same o = o
-    becomes_out s z j e marked o = record { inventory_same = o.inventory_same; batch = o.batch; host = o.host }
-    becomes_out s z j e (put w c i) o = record { inventory_same = o.inventory_same; batch = o.batch; host = put_apart j k w s.hosts e ∙ o.host }
+    becomes_out s z j e marked o = record { inventory_same = o.inventory_same; batch = o.batch; tries = o.tries; host = o.host }
+    becomes_out s z j e (put w c i) o = record { inventory_same = o.inventory_same; batch = o.batch; tries = o.tries; host = put_apart j k w s.hosts e ∙ o.host }
 
     host_out : (s : State) (j : ℕ) (o : Option Host) (go : Host → State) → nat_eq j k ≡ false → host_at j s.hosts ≡ o → ((h : Host) → stage_has h.stage ≡ true → Becomes s j (go h)) → Only s → Out s → Out (on_host s o go)
     host_out s j None go d e f o u = u
     host_out s j (Some h) go d e f o u = becomes_out s (go h) j d (f h (o.hosts j h e)) u
 
-    not_again : (s : State) (c : Batch) → Out s → of_host (host_at k s.hosts) (λ h. can_start s c h.stage) ≡ true → false ≡ true
-    not_again s c u i = sym (ap (λ o. of_host o (λ h. can_start s c h.stage)) u.host ∙ ap (can_start s c) out) ∙ i
+    no_start : (s : State) (c : Batch) → Out s → of_host (host_at k s.hosts) (λ h. can_start s c h.stage) ≡ true → false ≡ true
+    no_start s c u i = sym (ap (λ o. of_host o (λ h. can_start s c h.stage)) u.host) ∙ i
 
     start_out : (q : Bool) (s : State) (c : Batch) (j : ℕ) → nat_eq j k ≡ q → of_host (host_at j s.hosts) (λ h. can_start s c h.stage) ≡ true → Only s → Out s → Out (on_host s (host_at j s.hosts) (λ h. on_start s c j h h.stage))
-    start_out true s c j d i o u = untrue (not_again s c u (ap (λ n. of_host (host_at n s.hosts) (λ h. can_start s c h.stage)) (sym (same_number j k d)) ∙ i))
+    start_out true s c j d i o u = untrue (no_start s c u (ap (λ n. of_host (host_at n s.hosts) (λ h. can_start s c h.stage)) (sym (same_number j k d)) ∙ i))
     start_out false s c j d i o u = host_out s j (host_at j s.hosts) (λ h. on_start s c j h h.stage) d refl (λ h r. start_becomes s c j h h.stage r) o u
 
-    possible_out : (s : State) (cs : List Batch) (e : Event) → gives_none k (e ∷ []) ≡ true → is_possible s cs e ≡ true → Only s → Out s → Out (happened s cs e)
+    -- of its own Gives, one after which the job isn't out is none of these
+    module _ (s : State) (u : Out s) where
+      abbrev job : Host
+      job = with_job h t u.tries ps x y
+
+      marked_out : Out (stuck_state s)
+      marked_out = record { inventory_same = u.inventory_same; batch = u.batch; tries = u.tries; host = u.host }
+
+      put_in : (w : Host) → is_out w.stage ≡ false → is_out_at k (put_host k w s.hosts) ≡ true → false ≡ true
+      put_in w e i = sym e ∙ sym (ap (λ o. of_host o (λ h. is_out h.stage)) (put_here k w s.hosts job u.host)) ∙ i
+
+      notified_out : (es : List Ended) (r : Notified) → is_out_at k (on_notified s k job t x y es r).hosts ≡ true → Out (on_notified s k job t x y es r)
+      notified_out es names_nothing i = marked_out
+      notified_out es (handlers_are ms) i = untrue (put_in (settled (after_task job t es ms) (way_on t es x y)) (settled_waits (after_task job t es ms) (way_on t es x y)) i)
+
+      attempt_out : (c : Batch) (q : Bool) (es : List Ended) → is_out_at k (cond q (on_again s k job t u.tries ps x y) (on_ended s c k job t x y es)).hosts ≡ true → Out (cond q (on_again s k job t u.tries ps x y) (on_ended s c k job t x y es))
+      attempt_out c true es i = record { inventory_same = u.inventory_same; batch = u.batch; tries = suc u.tries; host = put_here k (with_job h t (suc u.tries) ps x y) s.hosts job u.host }
+      attempt_out c false es i = notified_out es (notified_by c.play t (any_changed es && not (any_failed es))) i
+
+      results_out : (c : Batch) (r : Results) → is_out_at k (on_results s c k job t u.tries ps x y r).hosts ≡ true → Out (on_results s c k job t u.tries ps x y r)
+      results_out c (no_results w) i = marked_out
+      results_out c (results_are es) i = attempt_out c (asks_again t u.tries es) (last_attempts es) i
+
+      admitted_out : (c : Batch) (a : Admitted) → is_out_at k (on_admitted s c k job t u.tries ps x y a).hosts ≡ true → Out (on_admitted s c k job t u.tries ps x y a)
+      admitted_out c (admitted os) i = results_out c (end_all (world_of s c job t) t os) i
+      admitted_out c breached i = untrue (put_in (record job { stage = waits gone; recap = record h.recap { failed = suc h.recap.failed } }) refl i)
+      admitted_out c unreached i = untrue (put_in (record job { stage = waits gone; recap = record h.recap { unreachable = suc h.recap.unreachable } }) refl i)
+
+      found_out : (c : Batch) (xs : List Answer) (o : Option Host) → Some job ≡ o → is_out_at k (on_host s o (λ h. on_give s c k h xs h.stage)).hosts ≡ true → Out (on_host s o (λ h. on_give s c k h xs h.stage))
+      found_out c xs o e i =
+          subst (λ o. Out (on_host s o (λ h. on_give s c k h xs h.stage))) e (admitted_out c (admit_passes t.action ps xs) (ap (λ o. is_out_at k (on_host s o (λ h. on_give s c k h xs h.stage)).hosts) e ∙ i))
+
+    give_out : (q : Bool) (s : State) (c : Batch) (j : ℕ) (xs : List Answer) → nat_eq j k ≡ q → not q || is_out_at k (on_host s (host_at j s.hosts) (λ h. on_give s c j h xs h.stage)).hosts ≡ true → Only s → Out s → Out (on_host s (host_at j s.hosts) (λ h. on_give s c j h xs h.stage))
+    give_out true s c j xs d i o u =
+        let same = sym (same_number j k d) in
+        subst (λ n. Out (on_host s (host_at n s.hosts) (λ h. on_give s c n h xs h.stage))) same
+        (found_out s u c xs (host_at k s.hosts) (sym u.host) (ap (λ n. is_out_at k (on_host s (host_at n s.hosts) (λ h. on_give s c n h xs h.stage)).hosts) same ∙ i))
+    give_out false s c j xs d i o u = host_out s j (host_at j s.hosts) (λ h. on_give s c j h xs h.stage) d refl (λ h r. give_becomes s c j h xs h.stage r) o u
+
+    possible_out : (s : State) (cs : List Batch) (e : Event) → not (gives_to k e) || is_out_at k (happened s cs e).hosts ≡ true → is_possible s cs e ≡ true → Only s → Out s → Out (happened s cs e)
     possible_out s [] e d i o u = u
     possible_out s (c ∷ cs) (start j) d i o u = start_out (nat_eq j k) s c j refl i o u
-    possible_out s (c ∷ cs) (give j xs) d i o u =
-        host_out s j (host_at j s.hosts) (λ h. on_give s c j h xs h.stage) (not-true (nat_eq j k) (and-left (not (nat_eq j k)) true d)) refl (λ h r. give_becomes s c j h xs h.stage r) o u
-    possible_out s (c ∷ cs) turn d i o u = untrue (sym (ap is_idle out) ∙ idle_at k s.hosts g i u.host)
-    possible_out s (c ∷ cs) stop d i o u = record { inventory_same = u.inventory_same; batch = u.batch; host = u.host }
+    possible_out s (c ∷ cs) (give j xs) d i o u = give_out (nat_eq j k) s c j xs refl d o u
+    possible_out s (c ∷ cs) turn d i o u = untrue (idle_at k s.hosts (with_job h t u.tries ps x y) i u.host)
+    possible_out s (c ∷ cs) stop d i o u = record { inventory_same = u.inventory_same; batch = u.batch; tries = u.tries; host = u.host }
 
-    step_out : (q : Bool) (s : State) (e : Event) → enabled s e ≡ q → gives_none k (e ∷ []) ≡ true → Only s → Out s → Out (cond q (happened s s.batches e) s)
+    step_out : (q : Bool) (s : State) (e : Event) → enabled s e ≡ q → not (gives_to k e) || is_out_at k (cond q (happened s s.batches e) s).hosts ≡ true → Only s → Out s → Out (cond q (happened s s.batches e) s)
     step_out true s e i d o u = possible_out s s.batches e d (and-right (not s.is_stopped) (is_possible s s.batches e) i) o u
     step_out false s e i d o u = u
 
-    first_none : (e : Event) (es : List Event) → gives_none k (e ∷ es) ≡ true → (gives_none k (e ∷ []) ≡ true) × (gives_none k es ≡ true)
-    first_none (give j xs) es h =
-        (and-both (not (nat_eq j k)) true (and-left (not (nat_eq j k)) (gives_none k es) h) refl, and-right (not (nat_eq j k)) (gives_none k es) h)
-    first_none (start j) es h = (refl, h)
-    first_none turn es h = (refl, h)
-    first_none stop es h = (refl, h)
-
-    run_out : (es : List Event) (s : State) → gives_none k es ≡ true → Only s → Out s → Out (run_from s es)
+    run_out : (es : List Event) (s : State) → stays_out k s es ≡ true → Only s → Out s → Out (run_from s es)
     run_out [] s d o u = u
     run_out (e ∷ es) s d o u =
-        let none = first_none e es d in
-        run_out es (step s e) none.1 (step_only (enabled s e) s e o) (step_out (enabled s e) s e refl none.0 o u)
+        let first = not (gives_to k e) || is_out_at k (step s e).hosts in
+        let rest = stays_out k (step s e) es in
+        run_out es (step s e) (and-right first rest d) (step_only (enabled s e) s e o) (step_out (enabled s e) s e refl (and-left first rest d) o u)
 
 pub gives_read_their_start : GivesReadTheirStart
 gives_read_their_start ms inventory book n forks es fs s b bs k h t going failing ps accepts reached c d none =
     let program = program_of ms inventory book in
     let only : Only reads_alone s = subst (Only reads_alone) (sym reached) (run_only reads_alone es (opening program inventory forks) (opening_only reads_alone program inventory forks (program_alone ms inventory book n accepts))) in
-    let g = with_job h t ps going failing in
     let begun = start_hands_out s b bs k h t going failing ps c d in
-    let first : Out reads_alone b bs k g t ps going failing refl s.inventory (step s (start k)) = subst (Out reads_alone b bs k g t ps going failing refl s.inventory) (sym begun) (record { inventory_same = refl; batch = c.batch; host = put_here k g s.hosts h c.host }) in
-    let last = run_out reads_alone b bs k g t ps going failing refl s.inventory fs (step s (start k)) none (step_only reads_alone (enabled s (start k)) s (start k) only) first in
+    let first : Out reads_alone b bs k h t ps going failing s.inventory (step s (start k)) = subst (Out reads_alone b bs k h t ps going failing s.inventory) (sym begun) (record { inventory_same = refl; batch = c.batch; tries = 0; host = put_here k (with_job h t 0 ps going failing) s.hosts h c.host }) in
+    let last = run_out reads_alone b bs k h t ps going failing s.inventory fs (step s (start k)) none (step_only reads_alone (enabled s (start k)) s (start k) only) first in
     let alone = and-left (reads_alone t) (rest_has reads_alone going && rest_has reads_alone failing) (sym (ap (stage_has reads_alone) c.next) ∙ only.hosts k h c.host) in
-    let neither = not-true (keyword_reads_others t.changed_when || keyword_reads_others t.failed_when) alone in
+    let later = keyword_reads_others t.failed_when || until_reads_others t.attempts in
+    let neither = not-true (keyword_reads_others t.changed_when || later) alone in
+    let rest = neither-right (keyword_reads_others t.changed_when) later neither in
     let z = run_from (step s (start k)) fs in
     record {
       batch = last.batch;
+      attempts = last.tries;
       host = last.host;
-      results = λ os. same_results (world_of z b g t) (world_of s b h t) t os (same_at_give z s b g h t last.inventory_same refl refl refl)
-          (neither-left (keyword_reads_others t.changed_when) (keyword_reads_others t.failed_when) neither) (neither-right (keyword_reads_others t.changed_when) (keyword_reads_others t.failed_when) neither);
+      results = λ os. same_results (world_of z b (with_job h t last.tries ps going failing) t) (world_of s b h t) t os (same_at_give z s b (with_job h t last.tries ps going failing) h t last.inventory_same refl refl refl)
+          (neither-left (keyword_reads_others t.changed_when) later neither) (neither-left (keyword_reads_others t.failed_when) (until_reads_others t.attempts) rest) (neither-right (keyword_reads_others t.failed_when) (until_reads_others t.attempts) rest);
     }

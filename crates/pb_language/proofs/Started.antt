@@ -21,8 +21,8 @@ use Rattle.pb_language.specs.Knows.{Knows}
 use Rattle.pb_language.specs.Notify.{all_notified, names_something}
 use Rattle.pb_language.specs.Task.{Action, call_of, debug, set_fact, assertion, failure_of, Task}
 use Rattle.pb_language.specs.Cases.{answered_cases, is_conditional, is_certain_to_run, parts_set, action_sets, item_kind, length_bound}
-use Rattle.pb_language.specs.Setting.{Setting, named_slots, start_scope, item_scope, action_scope, give_scope, with_item, loop_kind}
-use Rattle.pb_language.specs.Judgement.{keyword_fault, is_lawful, conditions_fault, loop_fault, text_fault, parameter_kind, arguments_fault, action_fault, task_fault, loop_length}
+use Rattle.pb_language.specs.Setting.{until_scope, Setting, named_slots, start_scope, item_scope, action_scope, give_scope, with_item, loop_kind}
+use Rattle.pb_language.specs.Judgement.{until_fault, keyword_fault, is_lawful, conditions_fault, loop_fault, text_fault, parameter_kind, arguments_fault, action_fault, task_fault, loop_length}
 use Rattle.pb_language.specs.Start.{no_changes, Entry, skips, calls, acts, Pass, Plan, planned, halted, kept_argument, eval_arguments, only_text, eval_text_or, unchanged, unchanged_with, Made, made, unmade, made_with, asserted, all_changes, set_by, eval_action, on_condition, eval_item, with_local_item, with_pass, plan_items, plan_loop, plan_of, is_call, call_count}
 use Rattle.pb_language.specs.Give.{acted}
 use Rattle.pb_language.proofs.Claims.{Around, Follows, action_calls, IsCall, ItemFine, EntryFine, AllPasses, Single, PlanFine, StartClaim, more_calls}
@@ -170,7 +170,8 @@ module _ (st : Setting) (t : Task) (env : Slots) (w : World) (r : Around w st st
   loop_fit = no_first (loop_fault (start_scope st t env) t.loop) _ fit
 
   after_loop : first (conditions_fault (item_scope st t env) t.conditions)
-      (first (action_fault (action_scope st t env) t.action) (first (keyword_fault (give_scope st t env) t.changed_when) (first (keyword_fault (give_scope st t env) t.failed_when) (asks unknown_handler (names_something (all_notified st.handlers t.notifies))))))
+      (first (action_fault (action_scope st t env) t.action) (first (keyword_fault (give_scope st t env) t.changed_when)
+      (first (keyword_fault (give_scope st t env) t.failed_when) (first (until_fault (until_scope st t env) t.attempts) (asks unknown_handler (names_something (all_notified st.handlers t.notifies)))))))
       ≡ None
   after_loop = no_second (loop_fault (start_scope st t env) t.loop) _ fit
 

@@ -100,7 +100,7 @@ module _ (inventory : Inventory) (views : List View) (fixed : Fixed inventory vi
   Resting exits n vars (waits over) = ExitModels vars (exits n)
   Resting exits n vars (waits gone) = Unit {0}
   Resting exits n vars (waits (begins t x y)) = false ≡ true
-  Resting exits n vars (runs t passes x y) = false ≡ true
+  Resting exits n vars (runs t tries passes x y) = false ≡ true
 
   abbrev pub resting_owes : (Name → Exit) → Program → List (List Later) → Name → Stage → ℕ
   resting_owes exits ps ls n (waits over) = plays_calls (plays_walked inventory views n (exits n) ps ls)
@@ -110,21 +110,21 @@ module _ (inventory : Inventory) (views : List View) (fixed : Fixed inventory vi
   resting_same exits exits' same n vars (waits over) r = rw (same n) r
   resting_same exits exits' same n vars (waits gone) r = tt
   resting_same exits exits' same n vars (waits (begins t x y)) r = r
-  resting_same exits exits' same n vars (runs t passes x y) r = r
+  resting_same exits exits' same n vars (runs t tries passes x y) r = r
 
   owes_same : (p : Play) (l : List Later) (exits : Name → Exit) (ps : Program) (ls : List (List Later)) → ((n : Name) → is_among n p.hosts ≡ false) → ((n : Name) → after_play views inventory p l exits ps ls n ≡ exits n) → (n : Name) (z : Stage)
       → resting_owes (after_play views inventory p l exits ps ls) ps ls n z ≤ resting_owes exits (p ∷ ps) (l ∷ ls) n z
   owes_same p l exits ps ls away same n (waits over) = rw (plays_calls_at p l exits ps ls false n (exits n) (away n), same n) (omega arith)
   owes_same p l exits ps ls away same n (waits gone) = omega arith
   owes_same p l exits ps ls away same n (waits (begins t x y)) = omega arith
-  owes_same p l exits ps ls away same n (runs t passes x y) = omega arith
+  owes_same p l exits ps ls away same n (runs t tries passes x y) = omega arith
 
   idle_lower : (p : Play) (l : List Later) (exits : Name → Exit) (ps : Program) (ls : List (List Later)) (bs : List (List Name)) → ((n : Name) → is_among n p.hosts ≡ in_any n bs) → (n : Name) (z : Stage)
       → idle_owes inventory views fixed start_claim give_claim after_claim limit p l exits ps ls bs n z ≤ resting_owes exits (p ∷ ps) (l ∷ ls) n z
   idle_lower p l exits ps ls bs parts n (waits over) = whole_at p l exits ps ls (in_any n bs) n (parts n)
   idle_lower p l exits ps ls bs parts n (waits gone) = omega arith
   idle_lower p l exits ps ls bs parts n (waits (begins t x y)) = omega arith
-  idle_lower p l exits ps ls bs parts n (runs t passes x y) = omega arith
+  idle_lower p l exits ps ls bs parts n (runs t tries passes x y) = omega arith
 
   exit_kept : (e f : Exit) (vars : Fields) → e ≡ f → ExitModels vars f → ExitModels vars e
   exit_kept e f vars i m = rw i m
@@ -134,7 +134,7 @@ module _ (inventory : Inventory) (views : List View) (fixed : Fixed inventory vi
   resting_idle p l exits ps ls bs parts n vars (waits over) r = (λ i. r, λ i. exit_kept (after_play views inventory p l exits ps ls n) (exits n) vars (after_at p l exits ps ls false n (parts n ∙ i)) r)
   resting_idle p l exits ps ls bs parts n vars (waits gone) r = tt
   resting_idle p l exits ps ls bs parts n vars (waits (begins t x y)) r = r
-  resting_idle p l exits ps ls bs parts n vars (runs t passes x y) r = r
+  resting_idle p l exits ps ls bs parts n vars (runs t tries passes x y) r = r
 
   total_lower : (f g : Name → Stage → ℕ) (hs : List Host) → ((n : Name) (z : Stage) → f n z ≤ g n z) → total f hs ≤ total g hs
   total_lower f g [] h = omega arith
@@ -200,28 +200,28 @@ module _ (inventory : Inventory) (views : List View) (fixed : Fixed inventory vi
   stage_idle p l exits ps ls b bs n vars (waits over) i f = (f.before, f.after)
   stage_idle p l exits ps ls b bs n vars (waits gone) i f = tt
   stage_idle p l exits ps ls b bs n vars (waits (begins t x y)) i f = i
-  stage_idle p l exits ps ls b bs n vars (runs t passes x y) i f = i
+  stage_idle p l exits ps ls b bs n vars (runs t tries passes x y) i f = i
 
   idle_resting : (p : Play) (l : List Later) (exits : Name → Exit) (ps : Program) (ls : List (List Later)) (n : Name) (vars : Fields) (z : Stage) → Idle inventory views fixed start_claim give_claim after_claim limit p l exits ps ls [] n vars z
       → Resting (after_play views inventory p l exits ps ls) n vars z
   idle_resting p l exits ps ls n vars (waits over) r = r.1 refl
   idle_resting p l exits ps ls n vars (waits gone) r = tt
   idle_resting p l exits ps ls n vars (waits (begins t x y)) r = r
-  idle_resting p l exits ps ls n vars (runs t passes x y) r = r
+  idle_resting p l exits ps ls n vars (runs t tries passes x y) r = r
 
   idle_no_more : (p : Play) (l : List Later) (exits : Name → Exit) (ps : Program) (ls : List (List Later)) (b : List Name) (bs : List (List Name)) (n : Name) (z : Stage)
       → idle_owes inventory views fixed start_claim give_claim after_claim limit p l exits ps ls bs n z ≤ owes views inventory p l exits ps ls b bs n z
   idle_no_more p l exits ps ls b bs n (waits over) = omega arith
   idle_no_more p l exits ps ls b bs n (waits gone) = omega arith
   idle_no_more p l exits ps ls b bs n (waits (begins t x y)) = omega arith
-  idle_no_more p l exits ps ls b bs n (runs t passes x y) = omega arith
+  idle_no_more p l exits ps ls b bs n (runs t tries passes x y) = omega arith
 
   rest_no_more : (p : Play) (l : List Later) (exits : Name → Exit) (ps : Program) (ls : List (List Later)) (b : List Name) (n : Name) (z : Stage)
       → resting_owes (after_play views inventory p l exits ps ls) ps ls n z ≤ owes views inventory p l exits ps ls b [] n z
   rest_no_more p l exits ps ls b n (waits over) = omega arith
   rest_no_more p l exits ps ls b n (waits gone) = omega arith
   rest_no_more p l exits ps ls b n (waits (begins t x y)) = omega arith
-  rest_no_more p l exits ps ls b n (runs t passes x y) = omega arith
+  rest_no_more p l exits ps ls b n (runs t tries passes x y) = omega arith
 
   module _ (s : State) (kept : Kept inventory views s) (pl : Placed s) where
     idle_all : all_idle s.hosts ≡ true → (k : ℕ) (h : Host) → host_at k s.hosts ≡ Some h → Idle inventory views fixed start_claim give_claim after_claim limit pl.play pl.laters pl.exits pl.plays pl.more pl.others h.name h.variables h.stage

@@ -13,9 +13,9 @@ use Rattle.pb_language.specs.Narrow.{narrow}
 use Rattle.pb_language.specs.Fit.{wrong_kind, unknown_handler, malformed, first, asks, is_any, is_boolean, fault}
 use Rattle.pb_language.specs.Notify.{all_notified, names_something}
 use Rattle.pb_language.specs.Knows.{WellScope}
-use Rattle.pb_language.specs.Task.{Action, call_of, debug, set_fact, assertion, failure_of, Task}
-use Rattle.pb_language.specs.Setting.{Setting, start_scope, item_scope, action_scope, give_scope}
-use Rattle.pb_language.specs.Judgement.{conditions_fault, keyword_fault, loop_fault, parameter_kind, arguments_fault, text_fault, is_lawful, action_fault, task_fault, loop_length}
+use Rattle.pb_language.specs.Task.{Attempts, Action, call_of, debug, set_fact, assertion, failure_of, Task}
+use Rattle.pb_language.specs.Setting.{Setting, start_scope, item_scope, action_scope, give_scope, until_scope}
+use Rattle.pb_language.specs.Judgement.{conditions_fault, keyword_fault, until_fault, loop_fault, parameter_kind, arguments_fault, text_fault, is_lawful, action_fault, task_fault, loop_length}
 use Rattle.pb_language.specs.Ordered.{SlotsLe, ScopeLe, SettingLe}
 use Rattle.pb_language.specs.Wells.{WellViews}
 use Rattle.pb_language.specs.SameBelow.{SameKind}
@@ -23,7 +23,7 @@ use Rattle.pb_language.proofs.WellKinds.{kinds_are_well}
 use Rattle.pb_language.proofs.Known.{well_narrow}
 use Rattle.pb_language.proofs.After.{well_start, well_item_scope, well_action}
 use Rattle.pb_language.proofs.NarrowUp.{narrow_up}
-use Rattle.pb_language.proofs.ExitsUp.{starts_up, items_up, actions_up, gives_up, well_give}
+use Rattle.pb_language.proofs.ExitsUp.{starts_up, items_up, actions_up, gives_up, untils_up, well_give, well_until}
 use Rattle.pb_language.proofs.TestsSame.{any_same, boolean_same, text_same, list_same, length_same}
 use Rattle.pb_language.proofs.FaultsSame.{firsts, kinds_same, not_any, faults_same, fields_same}
 
@@ -40,6 +40,10 @@ conditions_same (expression e es) c d w v l m =
 keyword_same : (o : Option Expressions) (c d : Scope) → WellScope c → WellScope d → ScopeLe c d → ScopeLe d c → keyword_fault c o ≡ keyword_fault d o
 keyword_same None c d w v l m = refl
 keyword_same (Some es) c d w v l m = conditions_same es c d w v l m
+
+until_same : (o : Option Attempts) (c d : Scope) → WellScope c → WellScope d → ScopeLe c d → ScopeLe d c → until_fault c o ≡ until_fault d o
+until_same None c d w v l m = refl
+until_same (Some a) c d w v l m = conditions_same a.until c d w v l m
 
 loop_same : (o : Option Expression) (c d : Scope) → WellScope c → WellScope d → ScopeLe c d → ScopeLe d c → loop_fault c o ≡ loop_fault d o
 loop_same None c d w v l m = refl
@@ -81,7 +85,10 @@ tasks_same st su t ss ts a b w v p l =
     let back = gives_up su st t ts ss b a v w p.1 l.1 in
     let changed = keyword_same t.changed_when (give_scope st t ss) (give_scope su t ts) (well_give st a t ss w) (well_give su b t ts v) up back in
     let failed = keyword_same t.failed_when (give_scope st t ss) (give_scope su t ts) (well_give st a t ss w) (well_give su b t ts v) up back in
+    let until_up = untils_up st su t ss ts a b w v p.0 l.0 in
+    let until_back = untils_up su st t ts ss b a v w p.1 l.1 in
+    let until = until_same t.attempts (until_scope st t ss) (until_scope su t ts) (well_until st a t ss w) (well_until su b t ts v) until_up until_back in
     let handlers = ap (λ z. asks unknown_handler (names_something (all_notified z.handlers t.notifies))) (sym p.0.same) in (
-      firsts _ _ _ _ start (firsts _ _ _ _ item (firsts _ _ _ _ action (firsts _ _ _ _ changed (firsts _ _ _ _ failed handlers)))),
+      firsts _ _ _ _ start (firsts _ _ _ _ item (firsts _ _ _ _ action (firsts _ _ _ _ changed (firsts _ _ _ _ failed (firsts _ _ _ _ until handlers))))),
       lengths_same t.loop st su t ss ts (well_start st a t ss w) (well_start su b t ts v) (starts_up st su t ss ts a b w v p.0 l.0) (starts_up su st t ts ss b a v w p.1 l.1),
     )

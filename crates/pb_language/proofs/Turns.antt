@@ -73,7 +73,7 @@ module _ (inventory : Inventory) (views : List View) (fixed : Fixed inventory vi
     Idle bs n vars (waits over) = (in_any n bs ≡ true → ExitModels vars (exits n)) × (in_any n bs ≡ false → ExitModels vars (after_play views inventory p l exits ps ls n))
     Idle bs n vars (waits gone) = Unit {0}
     Idle bs n vars (waits (begins t x y)) = false ≡ true
-    Idle bs n vars (runs t passes x y) = false ≡ true
+    Idle bs n vars (runs t tries passes x y) = false ≡ true
 
     abbrev pub idle_owes : List (List Name) → Name → Stage → ℕ
     idle_owes bs n (waits over) = cond (in_any n bs) (whole views inventory p l exits ps ls n) (future views inventory p l exits ps ls n)
@@ -179,7 +179,7 @@ module _ (inventory : Inventory) (views : List View) (fixed : Fixed inventory vi
       begun_host h (waits over) e i f = begun_over h (is_on h && is_among h.name b) e refl i f
       begun_host h (waits gone) e i f = begun_gone h (is_on h && is_among h.name b) e refl
       begun_host h (waits (begins t x y)) e i f = untrue i
-      begun_host h (runs t passes x y) e i f = untrue i
+      begun_host h (runs t tries passes x y) e i f = untrue i
 
       begun_name_at : (q : Bool) (h : Host) → (cond q (restarted h) h).name ≡ h.name
       begun_name_at true h = settled_name (record h { marks = []; rescues = []; holds = [] }) (rest_of p.row 0 done left)

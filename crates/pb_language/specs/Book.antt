@@ -2,6 +2,7 @@
 use Rattle.std.specs.Prelude.{ℕ, List, Bool, Option}
 use Rattle.pb_semantics.specs.Signature.{ModuleData}
 use Rattle.pb_language.specs.Expression.{Name, Expression, Expressions, Parts}
+use Rattle.pb_language.specs.Task.{Attempts}
 
 -- the asserted conditions of a task, where they are given and well formed
 pub data Asserted : Type 0 where
@@ -27,6 +28,7 @@ pub record TaskData : Type 0 where
   pub notify : List Name
   pub changed_when : Option Expressions
   pub failed_when : Option Expressions
+  pub attempts : Option Attempts
   pub ignore_errors : Option Bool
 
 pub record BlockData : Type 0 where

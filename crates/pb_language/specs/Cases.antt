@@ -13,7 +13,8 @@ use Rattle.pb_language.specs.Expression.{no_parts, part}
 use Rattle.pb_language.specs.Scope.{Scope, with_slot, with_spot}
 use Rattle.pb_language.specs.Kinds.{kind_of}
 use Rattle.pb_language.specs.Narrow.{results_of, cases_with}
-use Rattle.pb_language.specs.Task.{Action, call_of, debug, set_fact, assertion, failure_of, Task}
+use Rattle.pb_language.specs.Task.{Action, call_of, debug, set_fact, assertion, failure_of}
+use Rattle.pb_language.specs.Task.{Attempts, Task}
 
 abbrev pub action_name : Action → Name
 action_name (call_of m ps) = m.name
@@ -82,9 +83,19 @@ either_status no_cases = no_cases
 either_status (one n sh fl k cs) = one n sh false k (one n sh true k (either_status cs))
 
 -- `failed_when` may give each shape either status
-abbrev pub ended_cases : Action → Option Expressions → Cases
-ended_cases a None = answered_cases a
-ended_cases a (Some es) = either_status (answered_cases a)
+abbrev pub judged_cases : Action → Option Expressions → Cases
+judged_cases a None = answered_cases a
+judged_cases a (Some es) = either_status (answered_cases a)
+
+-- each result may be that of a last attempt, which is failed
+abbrev pub perhaps_failed : Cases → Cases
+perhaps_failed no_cases = no_cases
+perhaps_failed (one n sh true k cs) = one n sh true k (perhaps_failed cs)
+perhaps_failed (one n sh false k cs) = one n sh false k (one n sh true k (perhaps_failed cs))
+
+abbrev pub ended_cases : Option Attempts → Cases → Cases
+ended_cases None cs = cs
+ended_cases (Some a) cs = perhaps_failed cs
 
 abbrev pub skipped_slots : Slots
 skipped_slots = slot (codes "changed") true booleans
@@ -102,7 +113,8 @@ skipped_cases t = cond (is_conditional t.conditions)
 
 -- every result that the task, or one item of it, can have
 abbrev pub all_results : Task → Cases
-all_results t = append_cases (skipped_cases t) (ended_cases t.action t.failed_when)
+all_results t =
+    append_cases (skipped_cases t) (ended_cases t.attempts (judged_cases t.action t.failed_when))
 
 -- those with which it goes on, and those with which it fails
 abbrev pub going_cases : Task → Cases

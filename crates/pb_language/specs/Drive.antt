@@ -1,9 +1,9 @@
 -- Which host starts next, and a run whose jobs are answered one after the other (Ansible's page on
 -- strategies; one job at a time is this project's own).
-use Rattle.std.specs.Prelude.{ℕ, zero, suc, List, [], ◌∷◌, nat_lt, cond, Option, Some, None, take}
-use Rattle.std.specs.Prelude.{drop}
+use Rattle.std.specs.Prelude.{ℕ, zero, suc, ◌-◌, List, [], ◌∷◌, nat_lt, cond, Option, Some, None}
+use Rattle.std.specs.Prelude.{take, drop}
 use Rattle.pb_language.specs.Start.{call_count}
-use Rattle.pb_language.specs.Give.{Answer}
+use Rattle.pb_language.specs.Give.{Answer, retries_of}
 use Rattle.pb_language.specs.Machine.{start, give, turn, begins, Stage, waits, runs, Host, State}
 use Rattle.pb_language.specs.Machine.{host_at, enabled, step}
 
@@ -33,7 +33,7 @@ next_start s = first_starting s 0 s.hosts
 -- the calls of the job that is out
 abbrev pub stage_calls : Stage → ℕ
 stage_calls (waits r) = 0
-stage_calls (runs t ps a b) = call_count ps
+stage_calls (runs t n ps a b) = call_count ps
 
 abbrev pub calls_out : Option Host → ℕ
 calls_out None = 0
@@ -58,8 +58,23 @@ abbrev pub given_next : ℕ → ℕ → List (List Answer) → State → Driven
 given_next k n xss s =
     record { state = step s (give k (take n (answers_at k xss))); answers = answers_used k n xss }
 
+-- the answers of one attempt after the other, while the host's job is out
+abbrev pub attempts_out : Stage → ℕ
+attempts_out (waits r) = 0
+attempts_out (runs t n ps a b) = suc (retries_of t.attempts - n)
+
+abbrev pub attempts_at : Option Host → ℕ
+attempts_at None = 0
+attempts_at (Some h) = attempts_out h.stage
+
+abbrev pub given_all : ℕ → ℕ → Driven → Driven
+given_all zero k d = d
+given_all (suc m) k d = cond (nat_lt 0 (attempts_at (host_at k d.state.hosts)))
+    (given_all m k (given_next k (calls_out (host_at k d.state.hosts)) d.answers d.state)) d
+
 abbrev pub started_next : ℕ → List (List Answer) → State → Driven
-started_next k xss s = given_next k (calls_out (host_at k s.hosts)) xss s
+started_next k xss s =
+    given_all (attempts_at (host_at k s.hosts)) k (record { state = s; answers = xss })
 
 abbrev pub drive_start : Option Starting → Driven → Driven
 drive_start None d = d

@@ -1,7 +1,7 @@
 -- What is made of the answers to a task's calls (Ansible's pages on return values and on error
 -- handling; admission is this project's own).
-use Rattle.std.specs.Prelude.{ℕ, List, [], ◌∷◌, Bool, true, false, not, ◌&&◌, ◌||◌, cond, Option}
-use Rattle.std.specs.Prelude.{Some, None, codes}
+use Rattle.std.specs.Prelude.{ℕ, nat_lt, List, [], ◌∷◌, Bool, true, false, not, ◌&&◌, ◌||◌, cond}
+use Rattle.std.specs.Prelude.{Option, Some, None, codes}
 use Rattle.pb_semantics.specs.Data.{Data, Items, Fields, boolean, text, list, rec, no_items, item}
 use Rattle.pb_semantics.specs.Data.{no_fields, field, field_value, put_field}
 use Rattle.pb_semantics.specs.Kind.{Slots, Spot, recs, no_slots, slot, spot, slot_at, Shape}
@@ -12,7 +12,7 @@ use Rattle.pb_semantics.specs.Signature.{ModuleData}
 use Rattle.pb_language.specs.Expression.{Name, Expression, Expressions}
 use Rattle.pb_language.specs.World.{World}
 use Rattle.pb_language.specs.Evaluation.{Stuck, wrong_sort, Outcome, value, stuck, eval_all}
-use Rattle.pb_language.specs.Task.{Action, call_of, Task}
+use Rattle.pb_language.specs.Task.{Action, call_of, Attempts, Task}
 use Rattle.pb_language.specs.Cases.{after_prefix, fact_prefix, is_setup, shape_slots}
 use Rattle.pb_language.specs.Setting.{with_local}
 use Rattle.pb_language.specs.Start.{Changes, no_changes, change, Entry, skips, calls, acts, Pass}
@@ -122,19 +122,25 @@ pub record Ended : Type 0 where
   pub sets : Changes
   pub changed : Bool
   pub failed : Bool
+  -- what `until` says of it
+  pub holds : Bool
 
 pub data Results : Type 0 where
   results_are : List Ended → Results
   no_results : Stuck → Results
 
-abbrev pub ended_with : Own → Bool → Bool → Ended
-ended_with o c f = record {
+abbrev pub with_statuses : Bool → Bool → Fields → Fields
+with_statuses c f fs =
+    put_field (codes "failed") (boolean f) (put_field (codes "changed") (boolean c) fs)
+
+abbrev pub ended_with : Own → Bool → Bool → Bool → Ended
+ended_with o c f u = record {
   shape = o.shape;
-  fields =
-      put_field (codes "failed") (boolean f) (put_field (codes "changed") (boolean c) o.fields);
+  fields = with_statuses c f o.fields;
   sets = o.sets;
   changed = c;
   failed = f;
+  holds = u;
 }
 
 -- what a keyword says, or without it the field
@@ -146,9 +152,20 @@ abbrev pub with_own_field : Option Name → Data → Fields → Fields
 with_own_field None d fs = fs
 with_own_field (Some n) d fs = field n d fs
 
+abbrev pub result_world : World → Task → Option Data → Fields → World
+result_world w t i fs =
+    record w { mine = with_own_field t.register (rec fs) (with_local (codes "item") i w.mine) }
+
 abbrev pub own_world : World → Task → Own → World
-own_world w t o = record w
-    { mine = with_own_field t.register (rec o.fields) (with_local (codes "item") o.item w.mine) }
+own_world w t o = result_world w t o.item o.fields
+
+-- `until` sees the result with its statuses
+abbrev pub judged_world : World → Task → Own → Bool → Bool → World
+judged_world w t o c f = result_world w t o.item (with_statuses c f o.fields)
+
+abbrev pub until_of : World → Option Attempts → Outcome
+until_of w None = value (boolean true)
+until_of w (Some a) = eval_all w a.until
 
 abbrev pub with_status : Outcome → (Bool → Results) → Results
 with_status (value (boolean b)) go = go b
@@ -159,19 +176,43 @@ abbrev pub with_ended : Ended → Results → Results
 with_ended e (results_are es) = results_are (e ∷ es)
 with_ended e (no_results s) = no_results s
 
--- `changed_when` and `failed_when` are evaluated for each item that wasn't skipped
+-- `changed_when`, `failed_when` and `until` are evaluated for each item that wasn't skipped
 abbrev pub end_own : World → Task → Own → Results → Results
 end_own w t o rs =
-    cond (is_skipped o.shape) (with_ended (ended_with o false false) rs)
+    cond (is_skipped o.shape) (with_ended (ended_with o false false true) rs)
     (with_status (keyword_of (own_world w t o) t.changed_when
     (flag_is true (field_value (codes "changed") o.fields))) (λ c.
     with_status (keyword_of (own_world w t o) t.failed_when
     (flag_is true (field_value (codes "failed") o.fields))) (λ f.
-    with_ended (ended_with o c f) rs)))
+    with_status (until_of (judged_world w t o c f) t.attempts) (λ u.
+    with_ended (ended_with o c f u) rs))))
 
 abbrev pub end_all : World → Task → List Own → Results
 end_all w t [] = results_are []
 end_all w t (o ∷ os) = end_own w t o (end_all w t os)
+
+abbrev pub all_hold : List Ended → Bool
+all_hold [] = true
+all_hold (e ∷ es) = e.holds && all_hold es
+
+-- how often the calls are repeated at most
+abbrev pub retries_of : Option Attempts → ℕ
+retries_of None = 0
+retries_of (Some a) = a.retries
+
+-- after so many attempts before this one: where `until` doesn't hold, the calls are made again as
+-- long as they may be
+abbrev pub asks_again : Task → ℕ → List Ended → Bool
+asks_again t n es = not (all_hold es) && nat_lt n (retries_of t.attempts)
+
+-- a last attempt of which it doesn't hold is failed
+abbrev pub last_attempt : Ended → Ended
+last_attempt e =
+    cond e.holds e (record e { fields = with_statuses e.changed true e.fields; failed = true })
+
+abbrev pub last_attempts : List Ended → List Ended
+last_attempts [] = []
+last_attempts (e ∷ es) = last_attempt e ∷ last_attempts es
 
 abbrev pub any_changed : List Ended → Bool
 any_changed [] = false
@@ -205,13 +246,14 @@ abbrev pub registered_fields : Option Expression → List Ended → Fields
 registered_fields None es = first_fields es
 registered_fields (Some l) es = looped_fields es
 
-abbrev pub failure_text : Option Data → List ℕ
-failure_text (Some (text s)) = s
-failure_text o = codes "failed_when condition was true"
+abbrev pub failure_text : Bool → Option Data → List ℕ
+failure_text u (Some (text s)) = s
+failure_text u o =
+    cond u (codes "failed_when condition was true") (codes "until condition was not met")
 
 -- the text of the failure
 abbrev pub message_of : Option Expression → List Ended → List ℕ
-message_of None es = failure_text (field_value (codes "msg") (first_fields es))
+message_of None es = failure_text (all_hold es) (field_value (codes "msg") (first_fields es))
 message_of (Some l) es = codes "One or more items failed"
 
 abbrev pub with_change : Name → Option Data → Fields → Fields

@@ -14,12 +14,13 @@ use Rattle.pb_language.specs.Narrow.{narrow}
 use Rattle.pb_language.specs.Fit.{Fault, wrong_kind, unknown_handler, malformed, first, asks}
 use Rattle.pb_language.specs.Fit.{is_any, is_boolean, is_text, is_list, fault, fields_fault}
 use Rattle.pb_language.specs.Notify.{all_notified, names_something}
-use Rattle.pb_language.specs.Task.{Action, call_of, debug, set_fact, assertion, failure_of, Task}
+use Rattle.pb_language.specs.Task.{Action, call_of, debug, set_fact, assertion, failure_of}
+use Rattle.pb_language.specs.Task.{Attempts, Task}
 use Rattle.pb_language.specs.Cases.{Sets, no_sets, sets, append_sets, action_sets, going_cases}
 use Rattle.pb_language.specs.Cases.{failing_cases, registered_kind, with_register, with_sets}
 use Rattle.pb_language.specs.Cases.{length_bound, is_lawful_shape}
 use Rattle.pb_language.specs.Setting.{Setting, start_scope, loop_kind, item_scope, action_scope}
-use Rattle.pb_language.specs.Setting.{give_scope}
+use Rattle.pb_language.specs.Setting.{give_scope, until_scope}
 
 -- each condition where those before it hold
 abbrev pub conditions_fault : Scope → Expressions → Option Fault
@@ -63,8 +64,12 @@ action_fault c (set_fact ps) = fields_fault c ps
 action_fault c (assertion es o) = first (text_fault c o) (conditions_fault c es)
 action_fault c (failure_of o) = text_fault c o
 
--- the loop, the conditions, the arguments, `changed_when`, `failed_when`; then the texts that are
--- notified
+abbrev pub until_fault : Scope → Option Attempts → Option Fault
+until_fault c None = None
+until_fault c (Some a) = conditions_fault c a.until
+
+-- the loop, the conditions, the arguments, `changed_when`, `failed_when`, `until`; then the texts
+-- that are notified
 abbrev pub task_fault : Setting → Task → Slots → Option Fault
 task_fault st t env =
     first (loop_fault (start_scope st t env) t.loop)
@@ -72,7 +77,8 @@ task_fault st t env =
     (first (action_fault (action_scope st t env) t.action)
     (first (keyword_fault (give_scope st t env) t.changed_when)
     (first (keyword_fault (give_scope st t env) t.failed_when)
-    (asks unknown_handler (names_something (all_notified st.handlers t.notifies)))))))
+    (first (until_fault (until_scope st t env) t.attempts)
+    (asks unknown_handler (names_something (all_notified st.handlers t.notifies))))))))
 
 -- the environment after an exit, if there is one
 pub data Exit : Type 0 where

@@ -6,7 +6,6 @@ use Rattle.pb_language.specs.Task.{section, block}
 use Rattle.pb_language.specs.Setting.{Setting}
 use Rattle.pb_language.specs.Judgement.{Exit, dead}
 use Rattle.pb_language.specs.Walk.{going_from, failing_from, walk}
-use Rattle.pb_language.specs.Theorem.{handler_places}
 use Rattle.pb_language.specs.Wells.{WellExit, WellViews}
 use Rattle.pb_language.specs.Ordered.{ExitLe}
 use Rattle.pb_language.specs.Nodes.{FlushValues, Values, CoversPlay, ValuesLe, values}
@@ -18,7 +17,11 @@ pub record Link : Type 0 where
   pub goes : Bool
   pub target : ℕ
 
--- how many nodes a row has
+-- how many nodes a flush has, and how many a row
+abbrev pub handler_places : Handlers → ℕ
+handler_places no_handlers = 0
+handler_places (handler n t hs) = suc (handler_places hs)
+
 abbrev pub size : Row → ℕ
 size end = 0
 size (task t row) = suc (size row)

@@ -13,7 +13,8 @@ use Rattle.pb_language.specs.Setting.{named_fields}
 use Rattle.pb_language.specs.Start.{Pass, Plan, planned, halted, plan_of, call_count}
 use Rattle.pb_language.specs.Give.{Answer, Admitted, admitted, breached, unreached, admit_passes}
 use Rattle.pb_language.specs.Give.{Ended, Results, results_are, no_results, end_all, any_changed}
-use Rattle.pb_language.specs.Give.{any_failed, all_skipped, message_of, written_variables}
+use Rattle.pb_language.specs.Give.{any_failed, all_skipped, asks_again, last_attempts, message_of}
+use Rattle.pb_language.specs.Give.{written_variables}
 use Rattle.pb_language.specs.Notify.{Notified, handlers_are, names_nothing, all_notified}
 use Rattle.pb_language.specs.Program.{Inventory, Play, Program, Batch, all_batches, setting_of}
 
@@ -30,10 +31,10 @@ pub data Ready : Type 0 where
   gone : Ready
   begins : Task → Rest → Rest → Ready
 
--- it waits, or a job of it is out
+-- it waits, or a job of it is out, with the number of attempts before it
 pub data Stage : Type 0 where
   waits : Ready → Stage
-  runs : Task → List Pass → Rest → Rest → Stage
+  runs : Task → ℕ → List Pass → Rest → Rest → Stage
 
 -- what the host's tasks came to
 pub record Recap : Type 0 where
@@ -100,7 +101,7 @@ abbrev pub is_on_stage : Stage → Bool
 is_on_stage (waits over) = true
 is_on_stage (waits gone) = false
 is_on_stage (waits (begins t a b)) = true
-is_on_stage (runs t ps a b) = true
+is_on_stage (runs t n ps a b) = true
 
 -- a host is active until it leaves
 abbrev pub is_on : Host → Bool
@@ -142,7 +143,7 @@ put_host (suc k) x (h ∷ hs) = h ∷ put_host k x hs
 
 abbrev pub is_out : Stage → Bool
 is_out (waits r) = false
-is_out (runs t ps a b) = true
+is_out (runs t n ps a b) = true
 
 abbrev pub running : List Host → ℕ
 running [] = 0
@@ -153,7 +154,7 @@ abbrev pub stands_at : ℕ → Stage → Bool
 stands_at p (waits over) = true
 stands_at p (waits gone) = true
 stands_at p (waits (begins t a b)) = nat_le p t.place
-stands_at p (runs t ps a b) = nat_le p t.place
+stands_at p (runs t n ps a b) = nat_le p t.place
 
 abbrev pub all_stand : ℕ → List Host → Bool
 all_stand p [] = true
@@ -169,7 +170,7 @@ abbrev pub is_idle : Stage → Bool
 is_idle (waits over) = true
 is_idle (waits gone) = true
 is_idle (waits (begins t a b)) = false
-is_idle (runs t ps a b) = false
+is_idle (runs t n ps a b) = false
 
 abbrev pub all_idle : List Host → Bool
 all_idle [] = true
@@ -199,7 +200,7 @@ stuck_state s = record s { is_stuck = true }
 abbrev pub on_plan : State → ℕ → Host → Task → Rest → Rest → Plan → State
 on_plan s k h t a b (halted y) = stuck_state s
 on_plan s k h t a b (planned ps) = record s {
-  hosts = put_host k (record h { stage = runs t ps a b }) s.hosts;
+  hosts = put_host k (record h { stage = runs t 0 ps a b }) s.hosts;
   handed = s.handed
       + call_count ps;
 }
@@ -252,17 +253,31 @@ on_notified s k h t a b es (handlers_are ms) =
     with_host s k (settled (after_task h t es ms) (way_on t es a b))
 
 -- a task notifies where it is changed and not failed
-abbrev pub on_results : State → Batch → ℕ → Host → Task → Rest → Rest → Results → State
-on_results s b k h t x y (no_results w) = stuck_state s
-on_results s b k h t x y (results_are es) =
+abbrev pub on_ended : State → Batch → ℕ → Host → Task → Rest → Rest → List Ended → State
+on_ended s b k h t x y es =
     on_notified s k h t x y es (notified_by b.play t (any_changed es && not (any_failed es)))
 
+-- the same calls again: nothing is counted, registered or notified
+abbrev pub on_again : State → ℕ → Host → Task → ℕ → List Pass → Rest → Rest → State
+on_again s k h t n ps x y = record s {
+  hosts = put_host k (record h { stage = runs t (suc n) ps x y }) s.hosts;
+  handed = s.handed + call_count ps;
+}
+
+abbrev pub on_results : State → Batch → ℕ → Host → Task → ℕ → List Pass → Rest → Rest → Results
+    → State
+on_results s b k h t n ps x y (no_results w) = stuck_state s
+on_results s b k h t n ps x y (results_are es) = cond (asks_again t n es)
+    (on_again s k h t n ps x y) (on_ended s b k h t x y (last_attempts es))
+
 -- a host that can't be reached or that breaks its module's word leaves at once
-abbrev pub on_admitted : State → Batch → ℕ → Host → Task → Rest → Rest → Admitted → State
-on_admitted s b k h t x y (admitted os) = on_results s b k h t x y (end_all (world_of s b h t) t os)
-on_admitted s b k h t x y breached = with_host s k
+abbrev pub on_admitted : State → Batch → ℕ → Host → Task → ℕ → List Pass → Rest → Rest → Admitted
+    → State
+on_admitted s b k h t n ps x y (admitted os) =
+    on_results s b k h t n ps x y (end_all (world_of s b h t) t os)
+on_admitted s b k h t n ps x y breached = with_host s k
     (record h { stage = waits gone; recap = record h.recap { failed = suc h.recap.failed } })
-on_admitted s b k h t x y unreached = with_host s k
+on_admitted s b k h t n ps x y unreached = with_host s k
     (record h {
       stage = waits gone;
       recap = record h.recap
@@ -271,7 +286,8 @@ on_admitted s b k h t x y unreached = with_host s k
 
 abbrev pub on_give : State → Batch → ℕ → Host → List Answer → Stage → State
 on_give s b k h xs (waits r) = s
-on_give s b k h xs (runs t ps x y) = on_admitted s b k h t x y (admit_passes t.action ps xs)
+on_give s b k h xs (runs t n ps x y) =
+    on_admitted s b k h t n ps x y (admit_passes t.action ps xs)
 
 -- an active host of the batch begins its play
 abbrev pub begun : Batch → Host → Host

@@ -12,7 +12,8 @@ use Rattle.pb_language.specs.Expression.{expression, Parts, no_parts, part}
 use Rattle.pb_language.specs.Expansion.{expanded, all_expanded, parts_expanded, part_named, trees}
 use Rattle.pb_language.specs.World.{Group, HostVariables}
 use Rattle.pb_language.specs.Notify.{HandlerNames}
-use Rattle.pb_language.specs.Task.{Action, call_of, debug, set_fact, assertion, failure_of, Task}
+use Rattle.pb_language.specs.Task.{Action, call_of, debug, set_fact, assertion, failure_of}
+use Rattle.pb_language.specs.Task.{Attempts, Task}
 use Rattle.pb_language.specs.Task.{Handlers, no_handlers, handler, Row, end, task, flush, section}
 use Rattle.pb_language.specs.Task.{block}
 use Rattle.pb_language.specs.Book.{Asserted, not_given, not_well_formed, conditions_are, Work}
@@ -65,6 +66,11 @@ abbrev pub expanded_list : (Name → Option Expression) → Option Expressions �
 expanded_list f None = None
 expanded_list f (Some es) = Some (all_expanded f es)
 
+abbrev pub expanded_attempts : (Name → Option Expression) → Option Attempts → Option Attempts
+expanded_attempts f None = None
+expanded_attempts f (Some a) =
+    Some (record { until = all_expanded f a.until; retries = a.retries })
+
 abbrev pub action_of : Registry → (Name → Option Expression) → Work → Action
 action_of ms f (module_work n ps) = call_of (module_named n ms) (parts_expanded f ps)
 action_of ms f (debug_work ps) = debug (expanded f (argument_or (part_named (codes "msg") ps)))
@@ -83,6 +89,7 @@ task_with s p t f = record {
   register = t.register;
   changed_when = expanded_list f t.changed_when;
   failed_when = expanded_list f t.failed_when;
+  attempts = expanded_attempts f t.attempts;
   ignores = unwrap_or t.ignore_errors s.ignores;
   notifies = t.notify;
   rescued = s.rescued;
@@ -162,6 +169,7 @@ gathering_task l = record {
   notify = [];
   changed_when = None;
   failed_when = None;
+  attempts = None;
   ignore_errors = None;
 }
 

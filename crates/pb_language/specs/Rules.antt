@@ -19,6 +19,7 @@ use Rattle.pb_language.specs.Notify.{HandlerNames, notified, all_notified, names
 use Rattle.pb_language.specs.Book.{Asserted, not_given, not_well_formed, conditions_are, Work}
 use Rattle.pb_language.specs.Book.{module_work, debug_work, set_fact_work, assert_work, fail_work}
 use Rattle.pb_language.specs.Book.{TaskData, Book, Registry}
+use Rattle.pb_language.specs.Task.{Attempts}
 use Rattle.pb_language.specs.Plays.{append_expressions, module_named, group_named, word_hosts}
 use Rattle.pb_language.specs.Plays.{is_host, names_of_handlers}
 use Rattle.pb_language.specs.Program.{Inventory}
@@ -180,10 +181,14 @@ work_expressions (assert_work a ps) =
     append_expressions (part_expressions ps) (asserted_expressions a)
 work_expressions (fail_work ps) = part_expressions ps
 
--- what `changed_when` and `failed_when` read
+abbrev pub until_expressions : Option Attempts → Expressions
+until_expressions None = no_expressions
+until_expressions (Some a) = a.until
+
+-- what `changed_when`, `failed_when` and `until` read
 abbrev pub give_expressions : TaskData → Expressions
-give_expressions t =
-    append_expressions (list_expressions t.changed_when) (list_expressions t.failed_when)
+give_expressions t = append_expressions (list_expressions t.changed_when)
+    (append_expressions (list_expressions t.failed_when) (until_expressions t.attempts))
 
 abbrev pub task_expressions : Expressions → TaskData → Expressions
 task_expressions cs t = append_expressions (option_expressions t.loop)
@@ -295,7 +300,7 @@ abbrev pub breaks_order : Site → Thing → Bool
 breaks_order s (a_handler i t) = any_notifies_up_to i (names_of_handlers s.play.handlers) t.notify
 breaks_order s x = false
 
--- V09: `changed_when` or `failed_when` reads `hostvars` or `ansible_play_batch`
+-- V09: `changed_when`, `failed_when` or `until` reads `hostvars` or `ansible_play_batch`
 abbrev mutual
   pub reads_others : Expression → Bool
   reads_others (literal d) = false

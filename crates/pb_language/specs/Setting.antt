@@ -13,7 +13,7 @@ use Rattle.pb_language.specs.Kinds.{kind_of}
 use Rattle.pb_language.specs.Narrow.{results_of, narrow_each}
 use Rattle.pb_language.specs.Notify.{HandlerNames}
 use Rattle.pb_language.specs.Task.{Task}
-use Rattle.pb_language.specs.Cases.{answered_cases, item_kind}
+use Rattle.pb_language.specs.Cases.{answered_cases, judged_cases, item_kind}
 
 -- a host in a play
 pub record Setting : Type 0 where
@@ -88,12 +88,20 @@ abbrev pub with_own_result : Option Name → Cases → Slots → Slots
 with_own_result None cs env = env
 with_own_result (Some n) cs env = with_slot n true (results_of cs) env
 
--- what `changed_when` and `failed_when` see: the item's own result under the name that the task
--- registers, and nothing of the batch
-abbrev pub give_scope : Setting → Task → Slots → Scope
-give_scope st t env = scope_at st [] t.place
-    (with_own_result t.register (answered_cases t.action)
+-- what is asked of a result sees it under the name that the task registers, and nothing of the
+-- batch
+abbrev pub own_scope : Setting → Task → Cases → Slots → Scope
+own_scope st t cs env = scope_at st [] t.place
+    (with_own_result t.register cs
     (with_item (loop_kind (start_scope st t env) t.loop) (named_slots st t.depth env)))
+
+-- `changed_when` and `failed_when` see the item's own result as it was answered, `until` sees it
+-- with its statuses
+abbrev pub give_scope : Setting → Task → Slots → Scope
+give_scope st t env = own_scope st t (answered_cases t.action) env
+
+abbrev pub until_scope : Setting → Task → Slots → Scope
+until_scope st t env = own_scope st t (judged_cases t.action t.failed_when) env
 
 abbrev pub names_list : List Name → Items
 names_list [] = no_items

@@ -139,6 +139,6 @@ StartHandsOut = (s : State) (b : Batch) (bs : List Batch) (k : ℕ) (h : Host) (
     (going failing : Rest) (ps : List Pass) → CanStart s b bs k h t going failing
     → Starts (world_of s b h t) t t.loop (planned ps)
     → step s (start k) ≡ record s {
-      hosts = put_host k (record h { stage = runs t ps going failing }) s.hosts;
+      hosts = put_host k (record h { stage = runs t 0 ps going failing }) s.hosts;
       handed = s.handed + call_count ps;
     }

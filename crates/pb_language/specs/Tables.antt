@@ -1,7 +1,7 @@
 -- What the walks of all hosts give: each host's variables as others see them, what a host has at
 -- its later places, and how long loops are (this project's own).
-use Rattle.std.specs.Prelude.{ℕ, zero, suc, ◌+◌, max, List, [], ◌∷◌, Bool, true, false, not, ◌&&◌}
-use Rattle.std.specs.Prelude.{◌||◌, nat_le, nat_eq, cond, Option, Some, None}
+use Rattle.std.specs.Prelude.{ℕ, zero, suc, ◌+◌, ◌*◌, max, List, [], ◌∷◌, Bool, true, false, not}
+use Rattle.std.specs.Prelude.{◌&&◌, ◌||◌, nat_le, nat_eq, cond, Option, Some, None}
 use Rattle.pb_semantics.specs.Kind.{KindData, Slots, Spot, no_slots, slot, nowhere, spot, slot_at}
 use Rattle.pb_semantics.specs.Join.{join}
 use Rattle.pb_semantics.specs.Below.{below}
@@ -15,6 +15,7 @@ use Rattle.pb_language.specs.Task.{Action, call_of, debug, set_fact, assertion, 
 use Rattle.pb_language.specs.Task.{Handlers, no_handlers, handler, Row, end, task, flush, section}
 use Rattle.pb_language.specs.Task.{block}
 use Rattle.pb_language.specs.Cases.{Sets, no_sets, sets}
+use Rattle.pb_language.specs.Give.{retries_of}
 use Rattle.pb_language.specs.Judgement.{Exit, dead, live, task_writes, loop_length}
 use Rattle.pb_language.specs.Walk.{Visit, Walked, walk}
 use Rattle.pb_language.specs.Program.{Inventory, Play, Program, setting_of}
@@ -199,9 +200,9 @@ abbrev pub place_length : Task → Option Expression → List Visit → ℕ
 place_length t None vs = 1
 place_length t (Some e) vs = greatest_length t.place e vs
 
--- the calls that a place may hand out
+-- the calls that a place may hand out: those of an attempt, as often as there may be attempts
 abbrev pub place_calls : List Visit → Task → Action → ℕ
-place_calls vs t (call_of m ps) = place_length t t.loop vs
+place_calls vs t (call_of m ps) = suc (retries_of t.attempts) * place_length t t.loop vs
 place_calls vs t (debug e) = 0
 place_calls vs t (set_fact ps) = 0
 place_calls vs t (assertion es o) = 0

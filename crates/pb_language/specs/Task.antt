@@ -12,6 +12,11 @@ pub data Action : Type 0 where
   assertion : Expressions → Option Expression → Action
   failure_of : Option Expression → Action
 
+-- what has to hold for a task to end, and how often its calls are repeated at most until it does
+pub record Attempts : Type 0 where
+  pub until : Expressions
+  pub retries : ℕ
+
 pub record Task : Type 0 where
   pub line : ℕ
   pub place : ℕ
@@ -22,6 +27,7 @@ pub record Task : Type 0 where
   pub register : Option Name
   pub changed_when : Option Expressions
   pub failed_when : Option Expressions
+  pub attempts : Option Attempts
   pub ignores : Bool
   pub notifies : List Name
   -- it stands in the `block` part of a block with a `rescue`

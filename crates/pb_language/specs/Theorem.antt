@@ -7,8 +7,9 @@ use Rattle.pb_language.specs.World.{HostVariables}
 use Rattle.pb_language.specs.Book.{Book, Registry}
 use Rattle.pb_language.specs.Plays.{program_of}
 use Rattle.pb_language.specs.Program.{Inventory, Program, Batch, all_batches}
-use Rattle.pb_language.specs.Task.{Handlers, no_handlers, handler, Row, end, task, flush, section}
-use Rattle.pb_language.specs.Task.{block}
+use Rattle.pb_language.specs.Give.{retries_of}
+use Rattle.pb_language.specs.Task.{Task, Handlers, no_handlers, handler, Row, end, task, flush}
+use Rattle.pb_language.specs.Task.{section, block}
 use Rattle.pb_language.specs.Tables.{all_walked, views_after}
 use Rattle.pb_language.specs.Verdict.{accepted, all_have, found_laters}
 use Rattle.pb_language.specs.Judged.{judged}
@@ -55,32 +56,36 @@ Progress = (ms : Registry) (inventory : Inventory) (b : Book) (forks : ℕ) (es 
     → 1 ≤ forks → (s : State) → s ≡ run_of ms inventory b forks es → s.is_stopped ≡ false
     → (s.batches ≡ [] → false ≡ true) → none_out s.hosts ≡ true → CanGoOn s
 
--- the places of a row: one for each task, and at each flush one for each handler; an `always` part
--- has one set of places for both its modes, and so has a flush that is forced
-abbrev pub handler_places : Handlers → ℕ
-handler_places no_handlers = 0
-handler_places (handler n t hs) = suc (handler_places hs)
+-- the events of an occurrence: one Start, and a Give for each attempt
+abbrev pub task_events : Task → ℕ
+task_events t = suc (suc (retries_of t.attempts))
 
-abbrev pub places_of : Row → ℕ
-places_of end = 0
-places_of (task t row) = suc (places_of row)
-places_of (flush hs row) = handler_places hs + places_of row
-places_of (section body hs row) = places_of body + (handler_places hs + places_of row)
-places_of (block d body saves rescued always row) =
-    places_of body + (places_of rescued + (places_of always + places_of row))
+abbrev pub handler_events : Handlers → ℕ
+handler_events no_handlers = 0
+handler_events (handler n t hs) = task_events t + handler_events hs
+
+-- those of the places of a row: one for each task, and at each flush one for each handler; an
+-- `always` part has one set of places for both its modes, and so has a flush that is forced
+abbrev pub row_events : Row → ℕ
+row_events end = 0
+row_events (task t row) = task_events t + row_events row
+row_events (flush hs row) = handler_events hs + row_events row
+row_events (section body hs row) = row_events body + (handler_events hs + row_events row)
+row_events (block d body saves rescued always row) =
+    row_events body + (row_events rescued + (row_events always + row_events row))
 
 -- an occurrence is a host of a batch and a place of its play
-abbrev pub occurrences : List Batch → ℕ
-occurrences [] = 0
-occurrences (b ∷ bs) = length b.members * places_of b.play.row + occurrences bs
+abbrev pub occurrence_events : List Batch → ℕ
+occurrence_events [] = 0
+occurrence_events (b ∷ bs) = length b.members * row_events b.play.row + occurrence_events bs
 
--- whatever the events, few of them are enabled: two for each occurrence, one for each batch, and
+-- whatever the events, few of them are enabled: those of each occurrence, one for each batch, and
 -- one Stop
 abbrev pub ShortHistory : Type 0
 ShortHistory = (ms : Registry) (inventory : Inventory) (b : Book) (n forks : ℕ) (es : List Event)
     → are_distinct (host_names inventory.hosts) ≡ true → judged ms inventory b ≡ accepted n
-    → length (history (opening (program_of ms inventory b) inventory forks) es) ≤ 2
-    * occurrences (all_batches (program_of ms inventory b))
+    → length (history (opening (program_of ms inventory b) inventory forks) es)
+    ≤ occurrence_events (all_batches (program_of ms inventory b))
     + length (all_batches (program_of ms inventory b)) + 1
 
 -- what the first walk says of later places is so in the walk with each table; so this never keeps a

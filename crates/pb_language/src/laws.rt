@@ -4,9 +4,9 @@ ghost use Rattle.pb_language.specs.Evaluates.{DerivedAreOutcomes, OutcomesAreDer
 ghost use Rattle.pb_language.specs.FlushOrder.{AcceptedRepeats, AskingRepeats, FlushAsks};
 ghost use Rattle.pb_language.specs.FlushOrder.{HandlersAreNumbered, OrderNotifiesLater};
 ghost use Rattle.pb_language.specs.FlushOrder.{RepeatingAsks};
-ghost use Rattle.pb_language.specs.GiveRules.{DerivedAreNotified, DerivedAreResults, GiveSettles};
-ghost use Rattle.pb_language.specs.GiveRules.{NotifiedAreDerived, ResultsAreDerived};
-ghost use Rattle.pb_language.specs.GiveRules.{StuckGiveMarks};
+ghost use Rattle.pb_language.specs.GiveRules.{AskedOnce, DerivedAreNotified, DerivedAreResults};
+ghost use Rattle.pb_language.specs.GiveRules.{GiveAsksAgain, GiveSettles, NotifiedAreDerived};
+ghost use Rattle.pb_language.specs.GiveRules.{ResultsAreDerived, StuckGiveMarks};
 ghost use Rattle.pb_language.specs.Knows.{FitHasValue, KindsAreWell, TestTeaches, ValueKeepsKind};
 ghost use Rattle.pb_language.specs.OwnReads.{GivesReadTheirStart, SameAtGive, SameOutcomes};
 ghost use Rattle.pb_language.specs.OwnReads.{SameResults};
@@ -60,8 +60,8 @@ pub fn progress()
     ensures { Progress }
 {}
 
-/// Few events of a run of an accepted book are enabled: at most two for each host of a batch and
-/// each place of its play, one for each batch, and one Stop.
+/// Few events of a run of an accepted book are enabled: for each host of a batch and each place of
+/// its play one Start and a Give for each attempt, one for each batch, and one Stop.
 pub fn short_history()
     ensures { ShortHistory }
 {}
@@ -93,20 +93,27 @@ pub fn start_is_derived()
     ensures fine { StartHandsOut }
 {}
 
-/// What a Give comes to is results and notified handlers, or it is stuck and why, exactly as the
-/// rules say. The step of the machine ends the task with these, or marks the state and changes
-/// nothing else.
+/// What the keywords of a Give come to is results, or why it is stuck, exactly as the rules say;
+/// and so are the handlers that it notifies.
 pub fn give_is_derived()
     ensures derived { ResultsAreDerived }
     ensures read { DerivedAreResults }
     ensures handlers_derived { NotifiedAreDerived }
     ensures handlers_read { DerivedAreNotified }
-    ensures stuck { StuckGiveMarks }
-    ensures fine { GiveSettles }
 {}
 
-/// What reads no other host and not who is active, as V09 asks it of `changed_when` and
-/// `failed_when`, comes to the same at the Give as at the Start. So it is in every run of an
+/// The machine's Give does what these come to: it hands out the same calls again, ends the task
+/// with its results and handlers, or marks the state, and changes nothing else. A task without
+/// `until` never asks again.
+pub fn give_is_stepped()
+    ensures stuck { StuckGiveMarks }
+    ensures again { GiveAsksAgain }
+    ensures fine { GiveSettles }
+    ensures once { AskedOnce }
+{}
+
+/// What reads no other host and not who is active, as V09 asks it of `changed_when`, `failed_when`
+/// and `until`, comes to the same at each Give as at the Start. So it is in every run of an
 /// accepted book, whatever happens to other hosts in between.
 pub fn give_reads_its_start()
     ensures outcomes { SameOutcomes }

@@ -10,7 +10,7 @@ use Rattle.pb_rows.specs.Recaps.{recaps_of}
 
 -- groups_001: deeper groups win
 abbrev groups_001_book : Book
-groups_001_book = (record { line = 1; pattern = ((codes "all") ∷ []); gathering = None; vars = (no_parts); is_linear = true; serial = ([]); pre_tasks = (no_steps); tasks = (task_step (record { line = 2; work = (assert_work (conditions_are (expression (comparison equal (path (variable (codes "p")) ([])) (literal (text (codes "w2")))) (no_expressions))) (no_parts)); condition = (no_expressions); loop = None; register = None; vars = (no_parts); notify = ([]); changed_when = None; failed_when = None; ignore_errors = (Some true) }) (task_step (record { line = 3; work = (assert_work (conditions_are (expression (comparison equal (path (variable (codes "q")) ([])) (literal (text (codes "all")))) (no_expressions))) (no_parts)); condition = (no_expressions); loop = None; register = None; vars = (no_parts); notify = ([]); changed_when = None; failed_when = None; ignore_errors = (Some true) }) (no_steps))); post_tasks = (no_steps); handlers = ([]); forces = false } ∷ [])
+groups_001_book = (record { line = 1; pattern = ((codes "all") ∷ []); gathering = None; vars = (no_parts); is_linear = true; serial = ([]); pre_tasks = (no_steps); tasks = (task_step (record { line = 2; work = (assert_work (conditions_are (expression (comparison equal (path (variable (codes "p")) ([])) (literal (text (codes "w2")))) (no_expressions))) (no_parts)); condition = (no_expressions); loop = None; register = None; vars = (no_parts); notify = ([]); changed_when = None; failed_when = None; attempts = None; ignore_errors = (Some true) }) (task_step (record { line = 3; work = (assert_work (conditions_are (expression (comparison equal (path (variable (codes "q")) ([])) (literal (text (codes "all")))) (no_expressions))) (no_parts)); condition = (no_expressions); loop = None; register = None; vars = (no_parts); notify = ([]); changed_when = None; failed_when = None; attempts = None; ignore_errors = (Some true) }) (no_steps))); post_tasks = (no_steps); handlers = ([]); forces = false } ∷ [])
 
 abbrev groups_001_inventory : Inventory
 groups_001_inventory = record { hosts = (record { name = (codes "h2"); variables = (field (codes "p") (text (codes "w2")) (field (codes "q") (text (codes "all")) (no_fields))) } ∷ record { name = (codes "h1"); variables = (field (codes "p") (text (codes "w2")) (field (codes "q") (text (codes "all")) (no_fields))) } ∷ []); groups = (record { name = (codes "all"); hosts = ((codes "h2") ∷ (codes "h1") ∷ []) } ∷ record { name = (codes "ungrouped"); hosts = ([]) } ∷ record { name = (codes "w2"); hosts = ((codes "h2") ∷ (codes "h1") ∷ []) } ∷ record { name = (codes "web"); hosts = ((codes "h1") ∷ (codes "h2") ∷ []) } ∷ []) }
@@ -24,7 +24,7 @@ groups_001 = refl
 
 -- groups_003: by name within a depth
 abbrev groups_003_book : Book
-groups_003_book = (record { line = 1; pattern = ((codes "all") ∷ []); gathering = None; vars = (no_parts); is_linear = true; serial = ([]); pre_tasks = (no_steps); tasks = (task_step (record { line = 2; work = (assert_work (conditions_are (expression (comparison equal (path (variable (codes "p")) ([])) (literal (int (pos 2)))) (no_expressions))) (no_parts)); condition = (no_expressions); loop = None; register = None; vars = (no_parts); notify = ([]); changed_when = None; failed_when = None; ignore_errors = (Some true) }) (no_steps)); post_tasks = (no_steps); handlers = ([]); forces = false } ∷ [])
+groups_003_book = (record { line = 1; pattern = ((codes "all") ∷ []); gathering = None; vars = (no_parts); is_linear = true; serial = ([]); pre_tasks = (no_steps); tasks = (task_step (record { line = 2; work = (assert_work (conditions_are (expression (comparison equal (path (variable (codes "p")) ([])) (literal (int (pos 2)))) (no_expressions))) (no_parts)); condition = (no_expressions); loop = None; register = None; vars = (no_parts); notify = ([]); changed_when = None; failed_when = None; attempts = None; ignore_errors = (Some true) }) (no_steps)); post_tasks = (no_steps); handlers = ([]); forces = false } ∷ [])
 
 abbrev groups_003_inventory : Inventory
 groups_003_inventory = record { hosts = (record { name = (codes "h1"); variables = (field (codes "p") (int (pos 2)) (no_fields)) } ∷ []); groups = (record { name = (codes "a"); hosts = ((codes "h1") ∷ []) } ∷ record { name = (codes "all"); hosts = ((codes "h1") ∷ []) } ∷ record { name = (codes "b"); hosts = ((codes "h1") ∷ []) } ∷ record { name = (codes "ungrouped"); hosts = ([]) } ∷ []) }
@@ -38,7 +38,7 @@ groups_003 = refl
 
 -- groups_004: by bytes of the name
 abbrev groups_004_book : Book
-groups_004_book = (record { line = 1; pattern = ((codes "all") ∷ []); gathering = None; vars = (no_parts); is_linear = true; serial = ([]); pre_tasks = (no_steps); tasks = (task_step (record { line = 2; work = (assert_work (conditions_are (expression (comparison equal (path (variable (codes "p")) ([])) (literal (int (pos 1)))) (no_expressions))) (no_parts)); condition = (no_expressions); loop = None; register = None; vars = (no_parts); notify = ([]); changed_when = None; failed_when = None; ignore_errors = (Some true) }) (no_steps)); post_tasks = (no_steps); handlers = ([]); forces = false } ∷ [])
+groups_004_book = (record { line = 1; pattern = ((codes "all") ∷ []); gathering = None; vars = (no_parts); is_linear = true; serial = ([]); pre_tasks = (no_steps); tasks = (task_step (record { line = 2; work = (assert_work (conditions_are (expression (comparison equal (path (variable (codes "p")) ([])) (literal (int (pos 1)))) (no_expressions))) (no_parts)); condition = (no_expressions); loop = None; register = None; vars = (no_parts); notify = ([]); changed_when = None; failed_when = None; attempts = None; ignore_errors = (Some true) }) (no_steps)); post_tasks = (no_steps); handlers = ([]); forces = false } ∷ [])
 
 abbrev groups_004_inventory : Inventory
 groups_004_inventory = record { hosts = (record { name = (codes "h1"); variables = (field (codes "p") (int (pos 1)) (no_fields)) } ∷ []); groups = (record { name = (codes "B"); hosts = ((codes "h1") ∷ []) } ∷ record { name = (codes "a"); hosts = ((codes "h1") ∷ []) } ∷ record { name = (codes "all"); hosts = ((codes "h1") ∷ []) } ∷ record { name = (codes "ungrouped"); hosts = ([]) } ∷ []) }
@@ -52,7 +52,7 @@ groups_004 = refl
 
 -- groups_007: the greatest depth of the parents counts
 abbrev groups_007_book : Book
-groups_007_book = (record { line = 1; pattern = ((codes "all") ∷ []); gathering = None; vars = (no_parts); is_linear = true; serial = ([]); pre_tasks = (no_steps); tasks = (task_step (record { line = 2; work = (assert_work (conditions_are (expression (comparison equal (path (variable (codes "p")) ([])) (literal (text (codes "zz")))) (no_expressions))) (no_parts)); condition = (no_expressions); loop = None; register = None; vars = (no_parts); notify = ([]); changed_when = None; failed_when = None; ignore_errors = (Some true) }) (task_step (record { line = 3; work = (assert_work (conditions_are (expression (comparison equal (path (variable (codes "p")) ([])) (literal (text (codes "x")))) (no_expressions))) (no_parts)); condition = (no_expressions); loop = None; register = None; vars = (no_parts); notify = ([]); changed_when = None; failed_when = None; ignore_errors = (Some true) }) (no_steps))); post_tasks = (no_steps); handlers = ([]); forces = false } ∷ [])
+groups_007_book = (record { line = 1; pattern = ((codes "all") ∷ []); gathering = None; vars = (no_parts); is_linear = true; serial = ([]); pre_tasks = (no_steps); tasks = (task_step (record { line = 2; work = (assert_work (conditions_are (expression (comparison equal (path (variable (codes "p")) ([])) (literal (text (codes "zz")))) (no_expressions))) (no_parts)); condition = (no_expressions); loop = None; register = None; vars = (no_parts); notify = ([]); changed_when = None; failed_when = None; attempts = None; ignore_errors = (Some true) }) (task_step (record { line = 3; work = (assert_work (conditions_are (expression (comparison equal (path (variable (codes "p")) ([])) (literal (text (codes "x")))) (no_expressions))) (no_parts)); condition = (no_expressions); loop = None; register = None; vars = (no_parts); notify = ([]); changed_when = None; failed_when = None; attempts = None; ignore_errors = (Some true) }) (no_steps))); post_tasks = (no_steps); handlers = ([]); forces = false } ∷ [])
 
 abbrev groups_007_inventory : Inventory
 groups_007_inventory = record { hosts = (record { name = (codes "h1"); variables = (field (codes "p") (text (codes "zz")) (no_fields)) } ∷ []); groups = (record { name = (codes "a"); hosts = ((codes "h1") ∷ []) } ∷ record { name = (codes "all"); hosts = ((codes "h1") ∷ []) } ∷ record { name = (codes "b"); hosts = ((codes "h1") ∷ []) } ∷ record { name = (codes "c"); hosts = ((codes "h1") ∷ []) } ∷ record { name = (codes "ungrouped"); hosts = ([]) } ∷ record { name = (codes "x"); hosts = ((codes "h1") ∷ []) } ∷ record { name = (codes "y"); hosts = ((codes "h1") ∷ []) } ∷ record { name = (codes "z"); hosts = ((codes "h1") ∷ []) } ∷ record { name = (codes "zz"); hosts = ((codes "h1") ∷ []) } ∷ []) }
@@ -66,7 +66,7 @@ groups_007 = refl
 
 -- groups_008: a child of all alone has depth 1
 abbrev groups_008_book : Book
-groups_008_book = (record { line = 1; pattern = ((codes "all") ∷ []); gathering = None; vars = (no_parts); is_linear = true; serial = ([]); pre_tasks = (no_steps); tasks = (task_step (record { line = 2; work = (assert_work (conditions_are (expression (comparison equal (path (variable (codes "p")) ([])) (literal (text (codes "z")))) (no_expressions))) (no_parts)); condition = (no_expressions); loop = None; register = None; vars = (no_parts); notify = ([]); changed_when = None; failed_when = None; ignore_errors = (Some true) }) (no_steps)); post_tasks = (no_steps); handlers = ([]); forces = false } ∷ [])
+groups_008_book = (record { line = 1; pattern = ((codes "all") ∷ []); gathering = None; vars = (no_parts); is_linear = true; serial = ([]); pre_tasks = (no_steps); tasks = (task_step (record { line = 2; work = (assert_work (conditions_are (expression (comparison equal (path (variable (codes "p")) ([])) (literal (text (codes "z")))) (no_expressions))) (no_parts)); condition = (no_expressions); loop = None; register = None; vars = (no_parts); notify = ([]); changed_when = None; failed_when = None; attempts = None; ignore_errors = (Some true) }) (no_steps)); post_tasks = (no_steps); handlers = ([]); forces = false } ∷ [])
 
 abbrev groups_008_inventory : Inventory
 groups_008_inventory = record { hosts = (record { name = (codes "h1"); variables = (field (codes "p") (text (codes "z")) (no_fields)) } ∷ []); groups = (record { name = (codes "a"); hosts = ((codes "h1") ∷ []) } ∷ record { name = (codes "all"); hosts = ((codes "h1") ∷ []) } ∷ record { name = (codes "ungrouped"); hosts = ([]) } ∷ record { name = (codes "z"); hosts = ((codes "h1") ∷ []) } ∷ []) }
@@ -80,7 +80,7 @@ groups_008 = refl
 
 -- groups_014: host order: groups by bytes
 abbrev groups_014_book : Book
-groups_014_book = (record { line = 1; pattern = ((codes "all") ∷ []); gathering = None; vars = (no_parts); is_linear = true; serial = ([]); pre_tasks = (no_steps); tasks = (task_step (record { line = 2; work = (assert_work (conditions_are (expression (comparison equal (path (variable (codes "groups")) ((codes "all") ∷ [])) (list_of (expression (literal (text (codes "h9"))) (expression (literal (text (codes "h3"))) (expression (literal (text (codes "h1"))) (expression (literal (text (codes "h2"))) (no_expressions))))))) (no_expressions))) (no_parts)); condition = (no_expressions); loop = None; register = None; vars = (no_parts); notify = ([]); changed_when = None; failed_when = None; ignore_errors = (Some true) }) (no_steps)); post_tasks = (no_steps); handlers = ([]); forces = false } ∷ [])
+groups_014_book = (record { line = 1; pattern = ((codes "all") ∷ []); gathering = None; vars = (no_parts); is_linear = true; serial = ([]); pre_tasks = (no_steps); tasks = (task_step (record { line = 2; work = (assert_work (conditions_are (expression (comparison equal (path (variable (codes "groups")) ((codes "all") ∷ [])) (list_of (expression (literal (text (codes "h9"))) (expression (literal (text (codes "h3"))) (expression (literal (text (codes "h1"))) (expression (literal (text (codes "h2"))) (no_expressions))))))) (no_expressions))) (no_parts)); condition = (no_expressions); loop = None; register = None; vars = (no_parts); notify = ([]); changed_when = None; failed_when = None; attempts = None; ignore_errors = (Some true) }) (no_steps)); post_tasks = (no_steps); handlers = ([]); forces = false } ∷ [])
 
 abbrev groups_014_inventory : Inventory
 groups_014_inventory = record { hosts = (record { name = (codes "h9"); variables = (no_fields) } ∷ record { name = (codes "h3"); variables = (no_fields) } ∷ record { name = (codes "h1"); variables = (no_fields) } ∷ record { name = (codes "h2"); variables = (no_fields) } ∷ []); groups = (record { name = (codes "B"); hosts = ((codes "h9") ∷ []) } ∷ record { name = (codes "a"); hosts = ((codes "h3") ∷ (codes "h1") ∷ []) } ∷ record { name = (codes "all"); hosts = ((codes "h9") ∷ (codes "h3") ∷ (codes "h1") ∷ (codes "h2") ∷ []) } ∷ record { name = (codes "b"); hosts = ((codes "h1") ∷ (codes "h2") ∷ []) } ∷ record { name = (codes "ungrouped"); hosts = ([]) } ∷ []) }
@@ -94,7 +94,7 @@ groups_014 = refl
 
 -- groups_016: own hosts, then those of the children
 abbrev groups_016_book : Book
-groups_016_book = (record { line = 1; pattern = ((codes "all") ∷ []); gathering = None; vars = (no_parts); is_linear = true; serial = ([]); pre_tasks = (no_steps); tasks = (task_step (record { line = 2; work = (assert_work (conditions_are (expression (comparison equal (path (variable (codes "groups")) ((codes "p") ∷ [])) (list_of (expression (literal (text (codes "h5"))) (expression (literal (text (codes "h2"))) (expression (literal (text (codes "h1"))) (no_expressions)))))) (no_expressions))) (no_parts)); condition = (no_expressions); loop = None; register = None; vars = (no_parts); notify = ([]); changed_when = None; failed_when = None; ignore_errors = (Some true) }) (no_steps)); post_tasks = (no_steps); handlers = ([]); forces = false } ∷ [])
+groups_016_book = (record { line = 1; pattern = ((codes "all") ∷ []); gathering = None; vars = (no_parts); is_linear = true; serial = ([]); pre_tasks = (no_steps); tasks = (task_step (record { line = 2; work = (assert_work (conditions_are (expression (comparison equal (path (variable (codes "groups")) ((codes "p") ∷ [])) (list_of (expression (literal (text (codes "h5"))) (expression (literal (text (codes "h2"))) (expression (literal (text (codes "h1"))) (no_expressions)))))) (no_expressions))) (no_parts)); condition = (no_expressions); loop = None; register = None; vars = (no_parts); notify = ([]); changed_when = None; failed_when = None; attempts = None; ignore_errors = (Some true) }) (no_steps)); post_tasks = (no_steps); handlers = ([]); forces = false } ∷ [])
 
 abbrev groups_016_inventory : Inventory
 groups_016_inventory = record { hosts = (record { name = (codes "h1"); variables = (no_fields) } ∷ record { name = (codes "h5"); variables = (no_fields) } ∷ record { name = (codes "h2"); variables = (no_fields) } ∷ []); groups = (record { name = (codes "all"); hosts = ((codes "h1") ∷ (codes "h5") ∷ (codes "h2") ∷ []) } ∷ record { name = (codes "c1"); hosts = ((codes "h1") ∷ (codes "h5") ∷ []) } ∷ record { name = (codes "c2"); hosts = ((codes "h2") ∷ (codes "h1") ∷ []) } ∷ record { name = (codes "p"); hosts = ((codes "h5") ∷ (codes "h2") ∷ (codes "h1") ∷ []) } ∷ record { name = (codes "ungrouped"); hosts = ([]) } ∷ []) }
@@ -108,7 +108,7 @@ groups_016 = refl
 
 -- groups_017: a host twice in a list
 abbrev groups_017_book : Book
-groups_017_book = (record { line = 1; pattern = ((codes "all") ∷ []); gathering = None; vars = (no_parts); is_linear = true; serial = ([]); pre_tasks = (no_steps); tasks = (task_step (record { line = 2; work = (assert_work (conditions_are (expression (comparison equal (path (variable (codes "groups")) ((codes "a") ∷ [])) (list_of (expression (literal (text (codes "h1"))) (no_expressions)))) (no_expressions))) (no_parts)); condition = (no_expressions); loop = None; register = None; vars = (no_parts); notify = ([]); changed_when = None; failed_when = None; ignore_errors = (Some true) }) (no_steps)); post_tasks = (no_steps); handlers = ([]); forces = false } ∷ [])
+groups_017_book = (record { line = 1; pattern = ((codes "all") ∷ []); gathering = None; vars = (no_parts); is_linear = true; serial = ([]); pre_tasks = (no_steps); tasks = (task_step (record { line = 2; work = (assert_work (conditions_are (expression (comparison equal (path (variable (codes "groups")) ((codes "a") ∷ [])) (list_of (expression (literal (text (codes "h1"))) (no_expressions)))) (no_expressions))) (no_parts)); condition = (no_expressions); loop = None; register = None; vars = (no_parts); notify = ([]); changed_when = None; failed_when = None; attempts = None; ignore_errors = (Some true) }) (no_steps)); post_tasks = (no_steps); handlers = ([]); forces = false } ∷ [])
 
 abbrev groups_017_inventory : Inventory
 groups_017_inventory = record { hosts = (record { name = (codes "h1"); variables = (no_fields) } ∷ []); groups = (record { name = (codes "a"); hosts = ((codes "h1") ∷ []) } ∷ record { name = (codes "all"); hosts = ((codes "h1") ∷ []) } ∷ record { name = (codes "ungrouped"); hosts = ([]) } ∷ []) }
@@ -122,7 +122,7 @@ groups_017 = refl
 
 -- groups_019: groups: unknown under a test
 abbrev groups_019_book : Book
-groups_019_book = (record { line = 1; pattern = ((codes "all") ∷ []); gathering = None; vars = (no_parts); is_linear = true; serial = ([]); pre_tasks = (no_steps); tasks = (task_step (record { line = 2; work = (assert_work (conditions_are (expression (negation (defined (variable (codes "groups")) ((codes "zz") ∷ []))) (no_expressions))) (no_parts)); condition = (no_expressions); loop = None; register = None; vars = (no_parts); notify = ([]); changed_when = None; failed_when = None; ignore_errors = (Some true) }) (task_step (record { line = 3; work = (assert_work (conditions_are (expression (negation (defined (member (codes "zz") 0) ([]))) (no_expressions))) (no_parts)); condition = (no_expressions); loop = None; register = None; vars = (no_parts); notify = ([]); changed_when = None; failed_when = None; ignore_errors = (Some true) }) (task_step (record { line = 4; work = (assert_work (conditions_are (expression (negation (defined (member (codes "all") 1) ([]))) (no_expressions))) (no_parts)); condition = (no_expressions); loop = None; register = None; vars = (no_parts); notify = ([]); changed_when = None; failed_when = None; ignore_errors = (Some true) }) (task_step (record { line = 5; work = (assert_work (conditions_are (expression (comparison equal (path (member (codes "all") 0) ([])) (literal (text (codes "h1")))) (no_expressions))) (no_parts)); condition = (no_expressions); loop = None; register = None; vars = (no_parts); notify = ([]); changed_when = None; failed_when = None; ignore_errors = (Some true) }) (no_steps))))); post_tasks = (no_steps); handlers = ([]); forces = false } ∷ [])
+groups_019_book = (record { line = 1; pattern = ((codes "all") ∷ []); gathering = None; vars = (no_parts); is_linear = true; serial = ([]); pre_tasks = (no_steps); tasks = (task_step (record { line = 2; work = (assert_work (conditions_are (expression (negation (defined (variable (codes "groups")) ((codes "zz") ∷ []))) (no_expressions))) (no_parts)); condition = (no_expressions); loop = None; register = None; vars = (no_parts); notify = ([]); changed_when = None; failed_when = None; attempts = None; ignore_errors = (Some true) }) (task_step (record { line = 3; work = (assert_work (conditions_are (expression (negation (defined (member (codes "zz") 0) ([]))) (no_expressions))) (no_parts)); condition = (no_expressions); loop = None; register = None; vars = (no_parts); notify = ([]); changed_when = None; failed_when = None; attempts = None; ignore_errors = (Some true) }) (task_step (record { line = 4; work = (assert_work (conditions_are (expression (negation (defined (member (codes "all") 1) ([]))) (no_expressions))) (no_parts)); condition = (no_expressions); loop = None; register = None; vars = (no_parts); notify = ([]); changed_when = None; failed_when = None; attempts = None; ignore_errors = (Some true) }) (task_step (record { line = 5; work = (assert_work (conditions_are (expression (comparison equal (path (member (codes "all") 0) ([])) (literal (text (codes "h1")))) (no_expressions))) (no_parts)); condition = (no_expressions); loop = None; register = None; vars = (no_parts); notify = ([]); changed_when = None; failed_when = None; attempts = None; ignore_errors = (Some true) }) (no_steps))))); post_tasks = (no_steps); handlers = ([]); forces = false } ∷ [])
 
 abbrev groups_019_inventory : Inventory
 groups_019_inventory = record { hosts = (record { name = (codes "h1"); variables = (no_fields) } ∷ []); groups = (record { name = (codes "all"); hosts = ((codes "h1") ∷ []) } ∷ record { name = (codes "ungrouped"); hosts = ((codes "h1") ∷ []) } ∷ []) }

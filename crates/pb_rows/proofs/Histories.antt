@@ -1,18 +1,17 @@
 -- Cuts of batches, counts of steps, a budget of deep blocks, and histories, computed.
-use Rattle.std.specs.Prelude.{◌≡◌, refl, ℕ, zero, suc, List, [], ◌∷◌, true, false, Some, None, codes, map, length}
-use Rattle.pb_semantics.specs.Data.{text, rec, no_fields, field}
+use Rattle.std.specs.Prelude.{◌≡◌, refl, ℕ, zero, suc, List, [], ◌∷◌, Some, None, codes, map, length}
 use Rattle.pb_language.specs.Expression.{no_expressions, no_parts}
-use Rattle.pb_language.specs.Book.{module_work, TaskData, Steps, no_steps, task_step, block_step, host_count, percentage, PlayData, Book}
+use Rattle.pb_language.specs.Book.{Steps, no_steps, task_step, block_step, host_count, percentage, Book}
 use Rattle.pb_language.specs.Builtins.{builtins}
 use Rattle.pb_language.specs.Drive.{next_start}
-use Rattle.pb_language.specs.Give.{Answer, object}
 use Rattle.pb_language.specs.Judged.{judged}
 use Rattle.pb_language.specs.Machine.{start, give, turn, stop, State, history, opening, run_from}
 use Rattle.pb_language.specs.Plays.{batches_for, program_of}
-use Rattle.pb_language.specs.Program.{Inventory, all_batches}
+use Rattle.pb_language.specs.Program.{all_batches}
 use Rattle.pb_language.specs.Sites.{steps_of}
-use Rattle.pb_language.specs.Theorem.{occurrences}
+use Rattle.pb_language.specs.Theorem.{occurrence_events}
 use Rattle.pb_language.specs.Verdict.{accepted}
+use Rattle.pb_rows.specs.Small.{ping, play, one_host, two_hosts, pinged}
 
 abbrev five : List (List ℕ)
 five = codes "a" ∷ codes "b" ∷ codes "c" ∷ codes "d" ∷ codes "e" ∷ []
@@ -31,35 +30,6 @@ small_cuts = refl
 no_cuts : batches_for [] [] ≡ []
 no_cuts = refl
 
-abbrev ping : ℕ → TaskData
-ping l = record {
-  line = l;
-  work = module_work (codes "ping") no_parts;
-  condition = no_expressions;
-  loop = None;
-  register = None;
-  vars = no_parts;
-  notify = [];
-  changed_when = None;
-  failed_when = None;
-  ignore_errors = None;
-}
-
-abbrev play : Steps → PlayData
-play ss = record {
-  line = 1;
-  pattern = codes "all" ∷ [];
-  gathering = None;
-  vars = no_parts;
-  is_linear = true;
-  serial = [];
-  pre_tasks = no_steps;
-  tasks = ss;
-  post_tasks = no_steps;
-  handlers = [];
-  forces = false;
-}
-
 abbrev nested : ℕ → Steps → Steps
 nested zero ss = ss
 nested (suc n) ss = block_step (record { line = 2; condition = no_expressions; vars = no_parts; ignore_errors = None }) no_steps no_steps (nested n ss) no_steps
@@ -68,27 +38,15 @@ nested (suc n) ss = block_step (record { line = 2; condition = no_expressions; v
 steps : steps_of (play (nested 12 (task_step (ping 14) (task_step (ping 15) no_steps)))) ≡ 8192
 steps = refl
 
-abbrev one_host : Inventory
-one_host = record { hosts = record { name = codes "h1"; variables = no_fields } ∷ []; groups = record { name = codes "all"; hosts = codes "h1" ∷ [] } ∷ [] }
-
 -- each task has one place, however many modes it has
 deep_budget : judged builtins one_host (play (nested 12 (task_step (ping 14) (task_step (ping 15) no_steps))) ∷ []) ≡ accepted 2
 deep_budget = refl
-
-abbrev two : Inventory
-two = record {
-  hosts = record { name = codes "db1"; variables = no_fields } ∷ record { name = codes "web1"; variables = no_fields } ∷ [];
-  groups = record { name = codes "all"; hosts = codes "db1" ∷ codes "web1" ∷ [] } ∷ [];
-}
-
-abbrev pinged : Answer
-pinged = object (rec (field (codes "ping") (text (codes "pong")) no_fields))
 
 abbrev pings : Book
 pings = play (task_step (ping 2) (task_step (ping 3) no_steps)) ∷ []
 
 abbrev opened : ℕ → State
-opened forks = opening (program_of builtins two pings) two forks
+opened forks = opening (program_of builtins two_hosts pings) two_hosts forks
 
 -- with two forks both hosts start; then nobody can until both gave, since under `linear` nobody runs ahead
 both_start : next_start (run_from (opened 2) (start 0 ∷ start 1 ∷ [])) ≡ None
@@ -118,11 +76,11 @@ one_ping = play (task_step (ping 2) no_steps) ∷ []
 ends : history (opening (program_of builtins one_host one_ping) one_host 1) (start 0 ∷ give 0 (pinged ∷ []) ∷ turn ∷ turn ∷ stop ∷ []) ≡ start 0 ∷ give 0 (pinged ∷ []) ∷ turn ∷ []
 ends = refl
 
--- an occurrence is a host of a batch and a place of its play, whatever its modes
-two_places_of_two_hosts : occurrences (all_batches (program_of builtins two pings)) ≡ 4
+-- an occurrence is a host of a batch and a place of its play, whatever its modes; it has one Start and one Give
+two_places_of_two_hosts : occurrence_events (all_batches (program_of builtins two_hosts pings)) ≡ 8
 two_places_of_two_hosts = refl
 
-two_places_of_one_host : occurrences (all_batches (program_of builtins one_host (play (nested 12 (task_step (ping 14) (task_step (ping 15) no_steps))) ∷ []))) ≡ 2
+two_places_of_one_host : occurrence_events (all_batches (program_of builtins one_host (play (nested 12 (task_step (ping 14) (task_step (ping 15) no_steps))) ∷ []))) ≡ 4
 two_places_of_one_host = refl
 
 -- as many events as there can be: two for each occurrence, and one for each batch, where a Stop can stand in place of the last Turn

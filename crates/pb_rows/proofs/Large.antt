@@ -1,11 +1,10 @@
 -- A loop over as many lines as an answer may have, and as many hosts as an inventory may have, computed.
-use Rattle.std.specs.Prelude.{◌≡◌, refl, ℕ, zero, suc, pos, List, [], ◌∷◌, true, false, Some, None, codes, replicate, ◌/◌, ◌%◌}
-use Rattle.pb_semantics.specs.Data.{Items, boolean, int, text, list, rec, no_items, item, no_fields, field}
-use Rattle.pb_language.specs.Expression.{literal, path, variable, no_expressions, no_parts, part}
-use Rattle.pb_language.specs.Book.{module_work, TaskData, no_steps, task_step, Book}
+use Rattle.std.specs.Prelude.{◌≡◌, refl, ℕ, zero, suc, List, [], ◌∷◌, Some, None, codes, replicate, ◌/◌, ◌%◌}
+use Rattle.pb_semantics.specs.Data.{no_fields}
+use Rattle.pb_language.specs.Expression.{path, variable}
+use Rattle.pb_language.specs.Book.{TaskData, no_steps, task_step, Book}
 use Rattle.pb_language.specs.Builtins.{builtins}
 use Rattle.pb_language.specs.Drive.{next_start, drive}
-use Rattle.pb_language.specs.Give.{Answer, object}
 use Rattle.pb_language.specs.Judged.{judged}
 use Rattle.pb_language.specs.Machine.{Event, start, give, State, history, opening, run_from}
 use Rattle.pb_language.specs.Plays.{program_of}
@@ -14,16 +13,7 @@ use Rattle.pb_language.specs.Theorem.{host_names}
 use Rattle.pb_language.specs.Verdict.{accepted}
 use Rattle.pb_language.specs.World.{HostVariables}
 use Rattle.pb_rows.specs.Recaps.{all_recaps}
-
-abbrev lines : ℕ → Items
-lines zero = no_items
-lines (suc n) = item (text (codes "a")) (lines n)
-
-abbrev answer : ℕ → Answer
-answer n = object (rec (field (codes "changed") (boolean true) (field (codes "rc") (int (pos 0)) (field (codes "stderr") (text []) (field (codes "stderr_lines") (list no_items) (field (codes "stdout") (text (codes "a")) (field (codes "stdout_lines") (list (lines n)) no_fields)))))))
-
-abbrev command : ℕ → TaskData
-command l = record { line = l; work = module_work (codes "command") (part (codes "cmd") (literal (text (codes "x"))) no_parts); condition = no_expressions; loop = None; register = None; vars = no_parts; notify = []; changed_when = None; failed_when = None; ignore_errors = None }
+use Rattle.pb_rows.specs.Small.{command, ping, play, one_host, well_with, well, pinged}
 
 abbrev first_task : TaskData
 first_task = record (command 2) { register = Some (codes "out") }
@@ -32,13 +22,10 @@ abbrev second_task : TaskData
 second_task = record (command 3) { loop = Some (path (variable (codes "out")) (codes "stdout_lines" ∷ [])) }
 
 abbrev book : Book
-book = record { line = 1; pattern = codes "all" ∷ []; gathering = None; vars = no_parts; is_linear = true; serial = []; pre_tasks = no_steps; tasks = task_step first_task (task_step second_task no_steps); post_tasks = no_steps; handlers = []; forces = false } ∷ []
-
-abbrev one_host : Inventory
-one_host = record { hosts = record { name = codes "h1"; variables = no_fields } ∷ []; groups = record { name = codes "all"; hosts = codes "h1" ∷ [] } ∷ [] }
+book = play (task_step first_task (task_step second_task no_steps)) ∷ []
 
 abbrev after : ℕ → State
-after n = (drive 6 (record { state = opening (program_of builtins one_host book) one_host 1; answers = (answer n ∷ replicate n (answer 1)) ∷ [] })).state
+after n = (drive 6 (record { state = opening (program_of builtins one_host book) one_host 1; answers = (well_with n ∷ replicate n well) ∷ [] })).state
 
 -- a loop over the lines of an answer makes one call for each
 few : (after 3).handed ≡ 4
@@ -60,11 +47,8 @@ hosts_from n (suc k) = record { name = 104 ∷ n / 256 ∷ n % 256 ∷ []; varia
 abbrev inventory : ℕ → Inventory
 inventory n = record { hosts = hosts_from 0 n; groups = record { name = codes "all"; hosts = host_names (hosts_from 0 n) } ∷ [] }
 
-abbrev ping : TaskData
-ping = record (command 2) { work = module_work (codes "ping") no_parts }
-
 abbrev one_ping : Book
-one_ping = record { line = 1; pattern = codes "all" ∷ []; gathering = None; vars = no_parts; is_linear = true; serial = []; pre_tasks = no_steps; tasks = task_step ping no_steps; post_tasks = no_steps; handlers = []; forces = false } ∷ []
+one_ping = play (task_step (ping 2) no_steps) ∷ []
 
 -- as many hosts as an inventory may have
 many_budget : judged builtins (inventory 1024) one_ping ≡ accepted 1024
@@ -93,5 +77,5 @@ none_more : next_start started ≡ None
 none_more = refl
 
 -- one that gave makes room for the next
-next_one : next_start (run_from started (give 255 (object (rec (field (codes "ping") (text (codes "pong")) no_fields)) ∷ []) ∷ [])) ≡ Some (record { number = 256; place = 0 })
+next_one : next_start (run_from started (give 255 (pinged ∷ []) ∷ [])) ≡ Some (record { number = 256; place = 0 })
 next_one = refl

@@ -25,6 +25,16 @@ pub mod Random05
 pub mod Random06
 pub mod Random07
 pub mod Random08
+pub mod Random09
+pub mod Random10
+pub mod Random11
+pub mod Random12
+pub mod Random13
+pub mod Random14
+pub mod Random15
+pub mod Random16
+pub mod Random17
+pub mod Random18
 pub mod Row01
 pub mod Row02
 pub mod Row03
@@ -33,6 +43,7 @@ pub mod Row05
 pub mod Row06
 pub mod Row07
 pub mod Row08
+pub mod Row09
 pub mod Rules01
 pub mod Rules02
 pub mod Rules03
@@ -41,6 +52,7 @@ pub mod Rules05
 pub mod Run01
 pub mod Run02
 pub mod Run03
+pub mod Run04
 pub mod Serial01
 pub mod Signatures01
 pub mod Steps01
@@ -54,7 +66,10 @@ pub mod Stuck01
 pub mod Stuck02
 pub mod Stuck03
 pub mod Stuck04
+pub mod Stuck05
+pub mod Stuck06
 mod Texts
+pub mod Untidy
 pub mod Trees01
 pub mod Trees02
 pub mod Trees03

@@ -1,1 +1,2 @@
 pub mod Recaps
+pub mod Small

@@ -1,9 +1,10 @@
 -- What the hosts of a book's run come to.
-use Rattle.std.specs.Prelude.{ℕ, List, [], ◌∷◌, Bool}
+use Rattle.std.specs.Prelude.{ℕ, List, [], ◌∷◌, Bool, false}
 use Rattle.pb_language.specs.Book.{Book, Registry}
 use Rattle.pb_language.specs.Drive.{drive}
 use Rattle.pb_language.specs.Give.{Answer}
-use Rattle.pb_language.specs.Machine.{Recap, Host, State, is_out, opening}
+use Rattle.pb_language.specs.Machine.{Event, Recap, Host, State, is_out, opening, run_from}
+use Rattle.pb_language.specs.Machine.{history}
 use Rattle.pb_language.specs.Plays.{program_of}
 use Rattle.pb_language.specs.Program.{Inventory}
 
@@ -43,3 +44,21 @@ after_of s = record {
 
 abbrev pub run_after : Registry → Inventory → Book → ℕ → List (List Answer) → After
 run_after ms inventory b forks answers = after_of (driven 20 ms inventory b forks answers)
+
+-- the events of a list that happen, and what they come to
+pub record Told : Type 0 where
+  pub events : List Event
+  pub after : After
+
+abbrev pub told_from : State → List Event → Told
+told_from s es = record { events = history s es; after = after_of (run_from s es) }
+
+abbrev pub told : Registry → Inventory → Book → ℕ → List Event → Told
+told ms inventory b forks es = told_from (opening (program_of ms inventory b) inventory forks) es
+
+-- these happen, and nothing gets stuck
+abbrev pub tells : List Event → ℕ → List Bool → List Recap → Told
+tells es n out recaps = record {
+  events = es;
+  after = record { is_stuck = false; handed = n; out = out; recaps = recaps };
+}

@@ -1,5 +1,5 @@
 -- A run of plain tasks: the next Start, what an enabled Start and Give come to, its places, and how few events it has.
-use Rattle.std.proofs.Common.{◌≡◌, ◌≤◌, ◌+◌, ◌*◌, ℕ, suc, List, [], ◌∷◌, Bool, true, false, ◌&&◌, nat_lt, cond, Some, None, length, refl, ap, ◌∙◌, arith, true≢false}
+use Rattle.std.proofs.Common.{◌≡◌, ◌≤◌, ◌+◌, ℕ, suc, List, [], ◌∷◌, Bool, true, false, ◌&&◌, nat_lt, cond, Some, None, length, refl, ap, ◌∙◌, arith, true≢false}
 use Rattle.std.proofs.Math.Bool.{and-false}
 use Rattle.pb_semantics.proofs.Bools.{and-right}
 use Rattle.pb_language.specs.Expression.{Name}
@@ -12,7 +12,7 @@ use Rattle.pb_language.specs.Machine.{Event, start, give, opening, history}
 use Rattle.pb_language.specs.Drive.{Starting, lower, next_start}
 use Rattle.pb_language.specs.Verdict.{accepted}
 use Rattle.pb_language.specs.Judged.{judged}
-use Rattle.pb_language.specs.Theorem.{host_names, are_distinct, occurrences}
+use Rattle.pb_language.specs.Theorem.{host_names, are_distinct, occurrence_events}
 use Rattle.pb_language.specs.plain.Books.{PlainTask}
 use Rattle.pb_language.specs.plain.Machine.{Standing, before, inside, PlainRun, plain_state, plain_world, on_plan, started, answered, is_before, are_left, is_inside, can_begin, is_going, given_to, plain_step, plain_is_enabled}
 use Rattle.pb_language.specs.plain.Pass.{plain_run}
@@ -92,7 +92,7 @@ module _ (ms : Registry) (h : Name) (forks : ℕ) where
 
 -- a history of an accepted book is short
 pub few_events : (ms : Registry) (inventory : Inventory) (b : Book) (n forks : ℕ) (es : List Event) → are_distinct (host_names inventory.hosts) ≡ true → judged ms inventory b ≡ accepted n
-    → history (opening (program_of ms inventory b) inventory forks) es ≡ es → length es ≤ 2 * occurrences (all_batches (program_of ms inventory b)) + length (all_batches (program_of ms inventory b)) + 1
+    → history (opening (program_of ms inventory b) inventory forks) es ≡ es → length es ≤ occurrence_events (all_batches (program_of ms inventory b)) + length (all_batches (program_of ms inventory b)) + 1
 few_events ms inventory b n forks es d ok e =
     let i = short_history_from (never_stuck_from after_claim start_claim give_claim) ms inventory b n forks es d ok in
     let j = ap length e in

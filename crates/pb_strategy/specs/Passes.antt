@@ -34,7 +34,7 @@ pass_calls k host m (p ∷ ps) n = entry_calls k host m p.entry (pass_calls k ho
 
 abbrev pub stage_calls : ℕ → Name → ℕ → Stage → List CallData
 stage_calls k host n (waits r) = []
-stage_calls k host n (runs t ps a b) = pass_calls k host (action_name t.action) ps n
+stage_calls k host n (runs t i ps a b) = pass_calls k host (action_name t.action) ps n
 
 abbrev pub host_calls : ℕ → ℕ → Option Host → List CallData
 host_calls k n None = []

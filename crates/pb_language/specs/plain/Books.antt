@@ -26,6 +26,7 @@ task_data t = record {
   notify = [];
   changed_when = None;
   failed_when = None;
+  attempts = None;
   ignore_errors = None;
 }
 

@@ -13,7 +13,7 @@ use Rattle.pb_language.specs.Setting.{named_fields}
 use Rattle.pb_language.specs.Start.{Pass, Plan, planned, halted, plan_of, call_count}
 use Rattle.pb_language.specs.Give.{Answer, Ended, Results, results_are, no_results, Admitted}
 use Rattle.pb_language.specs.Give.{admitted, breached, unreached, admit_passes, end_all, any_failed}
-use Rattle.pb_language.specs.Give.{message_of, written_variables}
+use Rattle.pb_language.specs.Give.{last_attempts, message_of, written_variables}
 use Rattle.pb_language.specs.Machine.{Event, start, give, turn, stop, Ready, over, begins, Stage}
 use Rattle.pb_language.specs.Machine.{waits, runs, Recap, Host, State, gone, empty_recap}
 use Rattle.pb_language.specs.Machine.{task_recap}
@@ -50,7 +50,7 @@ plain_ready ms p (t ∷ ts) = begins (plain_run ms p t) (plain_rest ms (suc p) t
 
 abbrev pub running_stage : Registry → ℕ → List PlainTask → List Pass → Stage
 running_stage ms p [] ps = waits over
-running_stage ms p (t ∷ ts) ps = runs (plain_run ms p t) ps (plain_rest ms (suc p) ts) left
+running_stage ms p (t ∷ ts) ps = runs (plain_run ms p t) 0 ps (plain_rest ms (suc p) ts) left
 
 abbrev pub plain_stage : Registry → ℕ → List PlainTask → Standing → Stage
 plain_stage ms p ts before = waits (plain_ready ms p ts)
@@ -140,7 +140,7 @@ ended_run t ts es r =
 
 abbrev pub on_results : Task → List PlainTask → Results → PlainRun → PlainRun
 on_results t ts (no_results s) r = stuck_run r
-on_results t ts (results_are es) r = ended_run t ts es r
+on_results t ts (results_are es) r = ended_run t ts (last_attempts es) r
 
 abbrev pub on_admitted : Name → Task → List PlainTask → Admitted → PlainRun → PlainRun
 on_admitted h t ts (admitted os) r = on_results t ts (end_all (plain_world h r.variables) t os) r

@@ -32,6 +32,7 @@ plain_run ms p t = record {
   register = t.register;
   changed_when = None;
   failed_when = None;
+  attempts = None;
   ignores = false;
   notifies = [];
   rescued = false;

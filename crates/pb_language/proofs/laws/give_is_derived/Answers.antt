@@ -1,4 +1,4 @@
-use Rattle.pb_language.proofs.Ended.{results_are_derived, derived_are_results, notified_are_derived, derived_are_notified, stuck_give_marks, give_settles}
+use Rattle.pb_language.proofs.Ended.{results_are_derived, derived_are_results, notified_are_derived, derived_are_notified}
 use Rattle.pb_language.proofs.laws.give_is_derived.Goals as goal
 
 pub returns-clause-derived : goal.returns-clause-derived
@@ -12,9 +12,3 @@ returns-clause-handlers_derived c = notified_are_derived
 
 pub returns-clause-handlers_read : goal.returns-clause-handlers_read
 returns-clause-handlers_read c = derived_are_notified
-
-pub returns-clause-stuck : goal.returns-clause-stuck
-returns-clause-stuck c = stuck_give_marks
-
-pub returns-clause-fine : goal.returns-clause-fine
-returns-clause-fine c = give_settles

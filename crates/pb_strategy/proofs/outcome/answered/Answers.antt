@@ -1,12 +1,10 @@
-use Rattle.std.proofs.Common.{List, ap, ◌∙◌}
-use Rattle.std.specs.List.{slice_get}
+use Rattle.std.proofs.Common.{ap}
 use Rattle.pb_language.specs.Give.{unreachable, broken, object}
 use Rattle.pb_language.proofs.PlainGives.{unreached_gives, broken_gives}
 use Rattle.pb_value.specs.View.{view}
 use Rattle.pb_sig.specs.Modules.{modules_of}
 use Rattle.pb_book.specs.Meaning.{plain_task}
 use Rattle.pb_strategy.specs.Events.{answer_data}
-use Rattle.pb_strategy.specs.declared.answer.Answer.{Answer}
 use Rattle.pb_strategy.proofs.Finishes.{first_comes, none_comes}
 use Rattle.pb_strategy.proofs.outcome.answered.Goals as goal
 

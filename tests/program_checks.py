@@ -31,6 +31,7 @@ def program_checks(top):
         *not_json(),
         *odd_json(),
         *answer_shapes(),
+        *grown_values(),
         *random_files(),
         *examples(top / "examples"),
     ]
@@ -290,6 +291,46 @@ def answer_shapes():
         files = {**FILES, "book": book, "answers": "["}
         checks.append(Check(f"answers-after-{code}", RUN, refused(code, line), files))
     return checks
+
+
+# Values that the lines of a book build up.
+
+
+def nested(lines):
+    """30 lists more round a variable at each of so many lines."""
+    value = json.loads("[" * 30 + '"{{ x }}"' + "]" * 30)
+    return [{"set_fact": {"x": 1}}] + [{"set_fact": {"x": value}}] * lines
+
+
+def doubled(lines, twice):
+    """A variable that has the one before it twice, at each of so many lines."""
+    first = [{"set_fact": {"a0": 1}}]
+    return first + [{"set_fact": {f"a{n + 1}": twice("{{ a%d }}" % n)}} for n in range(lines)]
+
+
+def grown_values():
+    as_list = lambda text: [text, text]
+    as_record = lambda text: {"f": text, "g": text}
+    accepted = exactly("accepted budget 0\n", 0)
+    books = [
+        ("510-levels", nested(17), CHECK, accepted),
+        ("540-levels", nested(18), CHECK, no_memory),
+        ("69000-levels", nested(2_300), CHECK, no_memory),
+        ("records-doubled-12-times", doubled(12, as_record), CHECK, accepted),
+        ("records-doubled-24-times", doubled(24, as_record), CHECK, no_memory),
+        ("lists-doubled-40-times", doubled(40, as_list), CHECK, accepted),
+        ("lists-doubled-40-times-run", doubled(40, as_list), RUN, no_memory),
+    ]
+    return [Check(f"values-{name}", words, judge, {**FILES, "book": book_of(tasks)}) for name, tasks, words, judge in books]
+
+
+def book_of(tasks):
+    return json.dumps([{"hosts": "all", "tasks": tasks}])
+
+
+def no_memory(outcome):
+    is_so = outcome.status == 3 and outcome.stdout == b"" and outcome.stderr == b"playcheck: want of memory\n"
+    return "" if is_so else "want of memory"
 
 
 # Random files, the same ones each time.

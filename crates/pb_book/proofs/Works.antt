@@ -10,6 +10,7 @@ use Rattle.pb_language.specs.Expression.{Name, Expressions, Parts}
 use Rattle.pb_value.specs.View.{view, fields_view}
 use Rattle.pb_value.specs.declared.value.Value as Value-of
 use Rattle.pb_value.specs.declared.value.Value.{Value}
+use Rattle.pb_value.specs.declared.weight.Weighed.{Weighed}
 use Rattle.pb_book.specs.Reading.{condition_of, few_tasks, free_form, given_arguments, is_named, is_play, play_of, register_of, task_of, task_with, work_of, work_with, works_of, lone}
 use Rattle.pb_value.proofs.Views.{view-fields}
 
@@ -39,14 +40,14 @@ work_of-lone ms (field l e no_fields) k d h =
 work_of-lone ms (field l e (field m f fs)) k d h = absurd (cc)
 
 -- a task whose name may stand has its work, its condition and its register
-pub task_of-named : (ms : List ModuleData) (l : ℕ) (v : Value) (fields : Arc Map Global) (m : Map) (b : Bool) → v ≡ Value-of.Rec fields → m ≡ fields.value
+pub task_of-named : (ms : List ModuleData) (l : ℕ) (v : Value) (fields : Arc (Weighed Map) Global) (m : Map) (b : Bool) → v ≡ Value-of.Rec fields → m ≡ fields.value.parts
     → b ≡ is_named (field_value (codes "name") (fields_view m.entries)) → b ≡ true
-    → task_of ms l (view v) ≡ task_with l (work_of ms (works_of (fields_view fields.value.entries))) (condition_of (field_value (codes "when") (fields_view fields.value.entries))) (register_of (field_value (codes "register") (fields_view fields.value.entries)))
+    → task_of ms l (view v) ≡ task_with l (work_of ms (works_of (fields_view fields.value.parts.entries))) (condition_of (field_value (codes "when") (fields_view fields.value.parts.entries))) (register_of (field_value (codes "register") (fields_view fields.value.parts.entries)))
 task_of-named ms l v fields m b is behind e h =
     let named : is_named (field_value (codes "name") (fields_view m.entries)) ≡ true = sym e ∙ h in
     ap (task_of ms l) (view-fields v fields m is behind) ∙ rw (named, behind)
 
-pub task_of-unnamed : (ms : List ModuleData) (l : ℕ) (v : Value) (fields : Arc Map Global) (m : Map) (b : Bool) → v ≡ Value-of.Rec fields → m ≡ fields.value
+pub task_of-unnamed : (ms : List ModuleData) (l : ℕ) (v : Value) (fields : Arc (Weighed Map) Global) (m : Map) (b : Bool) → v ≡ Value-of.Rec fields → m ≡ fields.value.parts
     → b ≡ is_named (field_value (codes "name") (fields_view m.entries)) → b ≡ false → task_of ms l (view v) ≡ None
 task_of-unnamed ms l v fields m b is behind e h =
     let unnamed : is_named (field_value (codes "name") (fields_view m.entries)) ≡ false = sym e ∙ h in
@@ -62,13 +63,13 @@ no_register l (Some w) None = refl
 no_register l (Some w) (Some es) = refl
 
 -- a play has the tasks of its field
-pub play_of-play : (ms : List ModuleData) (v : Value) (fields : Arc Map Global) (m : Map) (b : Bool) → v ≡ Value-of.Rec fields → m ≡ fields.value → b ≡ is_play (fields_view m.entries) → b ≡ true
-    → play_of ms (view v) ≡ few_tasks ms (field_value (codes "tasks") (fields_view fields.value.entries))
+pub play_of-play : (ms : List ModuleData) (v : Value) (fields : Arc (Weighed Map) Global) (m : Map) (b : Bool) → v ≡ Value-of.Rec fields → m ≡ fields.value.parts → b ≡ is_play (fields_view m.entries) → b ≡ true
+    → play_of ms (view v) ≡ few_tasks ms (field_value (codes "tasks") (fields_view fields.value.parts.entries))
 play_of-play ms v fields m b is behind e h =
     let play : is_play (fields_view m.entries) ≡ true = sym e ∙ h in
     ap (play_of ms) (view-fields v fields m is behind) ∙ rw (play, behind)
 
-pub play_of-other : (ms : List ModuleData) (v : Value) (fields : Arc Map Global) (m : Map) (b : Bool) → v ≡ Value-of.Rec fields → m ≡ fields.value → b ≡ is_play (fields_view m.entries) → b ≡ false
+pub play_of-other : (ms : List ModuleData) (v : Value) (fields : Arc (Weighed Map) Global) (m : Map) (b : Bool) → v ≡ Value-of.Rec fields → m ≡ fields.value.parts → b ≡ is_play (fields_view m.entries) → b ≡ false
     → play_of ms (view v) ≡ None
 play_of-other ms v fields m b is behind e h =
     let other : is_play (fields_view m.entries) ≡ false = sym e ∙ h in

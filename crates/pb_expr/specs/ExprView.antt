@@ -1,8 +1,8 @@
 -- The expression that an `Expr` stands for.
-use Rattle.std.specs.Prelude.{ℕ, List, [], ◌∷◌, map, String, string_bytes, Bool, true, false}
+use Rattle.std.specs.Prelude.{ℕ, List, [], ◌∷◌, map, String, string_bytes}
 use Rattle.std.specs.Prelude.{Option, None}
 use Rattle.std.specs.declared.alloc.Global.{Global}
-use Rattle.pb_semantics.specs.Data.{Data, rec, opaque, field_value}
+use Rattle.pb_semantics.specs.Data.{Data, rec, field_value}
 use Rattle.pb_language.specs.Expression.{Name, equal, Expression, literal, path, negation}
 use Rattle.pb_language.specs.Expression.{conjunction, disjunction, comparison, membership, list_of}
 use Rattle.pb_language.specs.Expression.{record_of, variable, Expressions, no_expressions}

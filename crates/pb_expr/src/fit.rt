@@ -25,7 +25,6 @@ use pb_value::join::join;
 use pb_value::{Case, Fields, Kind, Slot, Slots, Value, put_slot};
 use std::alloc::{AllocError, AllocFailed, Global};
 use std::collections::BTreeMap;
-use std::sync::Arc;
 use thiserror::Error;
 
 /// Why an expression isn't fit.
@@ -150,7 +149,7 @@ fn list_kind(alloc: Global, items: &[Expr], slots: &Slots) -> Result<Kind, KindF
         kinds.push(kind)?;
     }
     let joined = join_all(alloc, kinds)?;
-    Ok(Kind::List(Arc::new(alloc, joined)?, items.len()))
+    Ok(Kind::of_item(alloc, joined, items.len())?)
 }
 
 #[cycle(kind_of)]
@@ -170,7 +169,7 @@ fn record_kind(
         let kind = part_kind(alloc, field, slots)?;
         put(&mut kinds, name, kind)?;
     }
-    Ok(Kind::Rec(Arc::new(alloc, kinds)?))
+    Ok(Kind::of_slots(alloc, kinds)?)
 }
 
 // The kind of an item or a field, which isn't `Any`.
@@ -439,7 +438,7 @@ fn literal_items(alloc: Global, items: &[Value]) -> Result<Kind, AllocError>
         let kind = literal_kind(alloc, &items[index])?;
         joined = joined_kind(alloc, kind, joined)?;
     }
-    Ok(Kind::List(Arc::new(alloc, joined)?, items.len()))
+    Kind::of_item(alloc, joined, items.len())
 }
 
 fn joined_kind(alloc: Global, kind: Kind, joined: Kind) -> Result<Kind, AllocError>
@@ -457,5 +456,5 @@ fn literal_fields(alloc: Global, fields: &Fields) -> Result<Kind, AllocError>
         let kind = literal_kind(alloc, field)?;
         put(&mut kinds, name, kind)?;
     }
-    Ok(Kind::Rec(Arc::new(alloc, kinds)?))
+    Kind::of_slots(alloc, kinds)
 }

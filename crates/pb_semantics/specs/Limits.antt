@@ -55,3 +55,13 @@ most_hosts = 1024
 -- the lines of what a program prints
 abbrev pub most_output_lines : ℕ
 most_output_lines = 65536
+
+-- of what a value and a kind weigh, and how many lists and records nest in one
+abbrev pub most_value_weight : ℕ
+most_value_weight = 16777216
+
+abbrev pub most_kind_weight : ℕ
+most_kind_weight = 4194304
+
+abbrev pub most_weight_levels : ℕ
+most_weight_levels = 512

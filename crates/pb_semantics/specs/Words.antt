@@ -17,8 +17,9 @@ pub use Rattle.pb_semantics.specs.Kind.{Cases, booleans, hosts, is_listed, lists
 pub use Rattle.pb_semantics.specs.Kind.{no_slots, ok_shape, one, put_slot, recs, results, shape_eq}
 pub use Rattle.pb_semantics.specs.Kind.{skipped_shape, slot_at, spot, texts}
 pub use Rattle.pb_semantics.specs.Limits.{most_answer_bytes, most_book_bytes, most_hosts}
-pub use Rattle.pb_semantics.specs.Limits.{most_inventory_bytes, most_levels, most_nesting}
-pub use Rattle.pb_semantics.specs.Limits.{most_output_lines, most_path_steps, most_tasks}
+pub use Rattle.pb_semantics.specs.Limits.{most_inventory_bytes, most_kind_weight, most_levels}
+pub use Rattle.pb_semantics.specs.Limits.{most_nesting, most_output_lines, most_path_steps}
+pub use Rattle.pb_semantics.specs.Limits.{most_tasks, most_value_weight, most_weight_levels}
 pub use Rattle.pb_semantics.specs.Project.{projected, projected_fields, projected_items}
 pub use Rattle.pb_semantics.specs.Render.{is_plain, rendered}
 pub use Rattle.pb_semantics.specs.Signature.{ModuleData, is_failure_shape, is_shape}

@@ -7,7 +7,7 @@ ghost use Rattle.pb_sig.specs.AdmissionView.{admission_view};
 
 use crate::signature::Module;
 use pb_value::project::project;
-use pb_value::{Fields, Kind, Value, field_of, own_fields, put_field};
+use pb_value::{Fields, Kind, Value, Weighed, field_of, own_fields, put_field};
 use std::alloc::{AllocError, Global};
 use std::sync::Arc;
 
@@ -43,11 +43,11 @@ pub fn admit<M: Module>(alloc: Global, source: &M, answer: &Value) -> Result<Adm
 fn ended_in(
     alloc: Global,
     failed: bool,
-    fields: &Arc<Fields>,
+    fields: &Arc<Weighed<Fields>>,
     shape: &Kind,
 ) -> Result<Admission, AllocError>
     ensures { IfOk result (λ a. admission_view a ≡ ended failed
-        (projected (rec (changed_fields (fields_view fields.now.value.entries)))
+        (projected (rec (changed_fields (fields_view fields.now.value.parts.entries)))
         (kind_view shape.now))) }
 {
     let whole = with_changed(alloc, fields)?;
@@ -65,9 +65,9 @@ fn failed_in(fields: &Fields) -> Option<bool>
 }
 
 // The record with `changed`, false where it was absent.
-fn with_changed(alloc: Global, fields: &Arc<Fields>) -> Result<Value, AllocError>
+fn with_changed(alloc: Global, fields: &Arc<Weighed<Fields>>) -> Result<Value, AllocError>
     ensures { IfOk result (λ v. view v
-        ≡ rec (changed_fields (fields_view fields.now.value.entries))) }
+        ≡ rec (changed_fields (fields_view fields.now.value.parts.entries))) }
 {
     if field_of(fields, "changed").is_some() {
         return Ok(Value::Rec(fields.clone()?));

@@ -92,7 +92,7 @@ fn perhaps_skipped_kind(
     let known = join(alloc, &skipped.fields, ended)?;
     let ran = case_of(action, Shape::Ok, false, ended)?;
     let cases = vec![in alloc; skipped, ran]?;
-    result_of(alloc, cases, known)
+    Kind::of_cases(alloc, cases, known)
 }
 
 fn skipped_case(alloc: Global, action: &Arc<String>) -> Result<Case<Kind>, AllocError>
@@ -115,15 +115,7 @@ fn result_of_case(alloc: Global, case: Case<Kind>) -> Result<Kind, AllocError>
 {
     let known = case.fields.clone()?;
     let cases = vec![in alloc; case]?;
-    result_of(alloc, cases, known)
-}
-
-fn result_of(alloc: Global, cases: Vec<Case<Kind>>, known: Kind) -> Result<Kind, AllocError>
-    ensures { IfOk result (λ k. kind_view k ≡ results (cases_view cases.items) (kind_view known)) }
-{
-    let cases = Arc::new(alloc, cases)?;
-    let known = Arc::new(alloc, known)?;
-    Ok(Kind::Result(cases, known))
+    Kind::of_cases(alloc, cases, known)
 }
 
 fn case_of(
@@ -150,8 +142,8 @@ fn ended_record(alloc: Global, shape: &Slots) -> Result<Kind, AllocError>
     requires { is_listed (codes "failed") (slots_view shape.now.entries) ≡ false }
     ensures { IfOk result (λ k. kind_view k ≡ ended_kind (slots_view shape.now.entries)) }
 {
-    let slots = Arc::new(alloc, ended_slots(alloc, shape)?)?;
-    Ok(Kind::Rec(slots))
+    let slots = ended_slots(alloc, shape)?;
+    Kind::of_slots(alloc, slots)
 }
 
 // The fields of a shape with the final status.

@@ -8,7 +8,6 @@ ghost use Rattle.pb_sig.specs.Rows.{row_parameter, with_rows};
 use crate::signature::Parameter;
 use pb_value::{Kind, Presence, Slot, Slots, put_slot};
 use std::alloc::{AllocError, Global};
-use std::sync::Arc;
 
 /// The most lines that one answer gives.
 const MOST_LINES: usize = 65_536;
@@ -34,7 +33,7 @@ pub fn shape_of(alloc: Global, rows: &[Row<'_>]) -> Result<Kind, AllocError>
         };
         put_slot(&mut fields, name, slot)?;
     }
-    Ok(Kind::Rec(Arc::new(alloc, fields)?))
+    Kind::of_slots(alloc, fields)
 }
 
 /// The parameters in the order of the rows.
@@ -82,5 +81,5 @@ pub fn may(name: &str, kind: Kind) -> Row<'_>
 pub fn lines(alloc: Global) -> Result<Kind, AllocError>
     ensures { IfOk result (λ k. kind_view k ≡ lists texts most_output_lines) }
 {
-    Ok(Kind::List(Arc::new(alloc, Kind::Text)?, MOST_LINES))
+    Kind::of_item(alloc, Kind::Text, MOST_LINES)
 }

@@ -19,7 +19,7 @@ IsPending pending.Skipped ps = ps ≡ a_pass skips
 IsPending pending.Call ps = (d : Data) × (ps ≡ a_pass (calls d))
 IsPending pending.Debug ps = ps ≡ a_pass (acts ok_shape unchanged no_changes)
 IsPending (pending.Facts facts) ps =
-    ps ≡ a_pass (acts ok_shape unchanged (all_changes (fields_view facts.value.entries)))
+    ps ≡ a_pass (acts ok_shape unchanged (all_changes (fields_view facts.value.parts.entries)))
 
 abbrev pub entry_calls : ℕ → Name → Name → Entry → (ℕ → List CallData) → ℕ → List CallData
 entry_calls k host m (calls d) more n =

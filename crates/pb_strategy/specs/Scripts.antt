@@ -74,7 +74,7 @@ scripted fs host n = entry_answer (entry_of n (field_value host fs))
 
 -- the answers that a runner has, by the hosts' names
 abbrev pub answers_in : ScriptRunner → Fields
-answers_in r = fields_view r.answers.value.entries
+answers_in r = fields_view r.answers.value.parts.entries
 
 -- it is that answer; where there is none, it says so
 abbrev pub Answers : Answer → language.Answer → Type 0

@@ -15,7 +15,7 @@ use crate::recap::{Ending, Recap};
 use indexmap::IndexMap;
 use pb_expr::Vars;
 use pb_inventory::Inventory;
-use pb_value::{Fields, Value};
+use pb_value::{Fields, Value, Weighed};
 use std::alloc::{AllocError, Global};
 use std::sync::Arc;
 
@@ -67,7 +67,7 @@ pub enum Pending {
     /// A message was shown.
     Debug,
     /// These values are set.
-    Facts(Arc<Fields>),
+    Facts(Arc<Weighed<Fields>>),
 }
 
 /// Where a host stands.

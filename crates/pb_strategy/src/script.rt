@@ -11,7 +11,7 @@ ghost use Rattle.pb_strategy.specs.Scripts.{says_unreachable, script_fault, scri
 
 use crate::answer::{Answer, Call, Why};
 use crate::drive::Runner;
-use pb_value::{Fields, JsonFault, Value, field_of, read_json};
+use pb_value::{Fields, JsonFault, Value, Weighed, field_of, read_json};
 use std::alloc::{AllocError, Global};
 use std::sync::Arc;
 use thiserror::Error;
@@ -51,7 +51,7 @@ impl From<JsonFault> for ScriptFault {
 /// Answers the call numbered n of a host with entry n of the host's list.
 #[derive(Drop)]
 pub struct ScriptRunner {
-    answers: Arc<Fields>,
+    answers: Arc<Weighed<Fields>>,
     made: u64,
     is_short: bool,
 }

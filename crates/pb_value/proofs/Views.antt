@@ -14,24 +14,25 @@ use Rattle.pb_value.specs.declared.kind.Kind as Kind-of
 use Rattle.pb_value.specs.declared.value.Value.{the_lemmas as value_lemmas}
 use Rattle.pb_value.specs.declared.kind.Kind.{the_lemmas as kind_lemmas}
 use Rattle.std.proofs.Common.{rules}
+use Rattle.pb_value.specs.declared.weight.Weighed.{Weighed}
 
-pub view-List : (v : Arc (Vec Value Global) Global) → view (Value-of.List v) ≡ list (items_view v.value.items)
+pub view-List : (v : Arc (Weighed (Vec Value Global)) Global) → view (Value-of.List v) ≡ list (items_view v.value.parts.items)
 view-List v = search (rules, value_lemmas)
 
-pub view-Rec : (m : Arc (BTreeMap (String Global) Value) Global) → view (Value-of.Rec m) ≡ rec (fields_view m.value.entries)
+pub view-Rec : (m : Arc (Weighed (BTreeMap (String Global) Value)) Global) → view (Value-of.Rec m) ≡ rec (fields_view m.value.parts.entries)
 view-Rec m = search (rules, value_lemmas)
 
 -- the record that a value is, read from its block
-pub view-fields : (v : Value) (fields : Arc (BTreeMap (String Global) Value) Global) (m : BTreeMap (String Global) Value) → v ≡ Value-of.Rec fields → m ≡ fields.value → view v ≡ rec (fields_view m.entries)
+pub view-fields : (v : Value) (fields : Arc (Weighed (BTreeMap (String Global) Value)) Global) (m : BTreeMap (String Global) Value) → v ≡ Value-of.Rec fields → m ≡ fields.value.parts → view v ≡ rec (fields_view m.entries)
 view-fields v fields m is behind = ap view is ∙ view-Rec fields ∙ ap (λ (x : BTreeMap (String Global) Value). rec (fields_view x.entries)) (sym behind)
 
-pub kind_view-List : (k : Arc Kind Global) (n : ℕ) → kind_view (Kind-of.List k n) ≡ lists (kind_view k.value) n
+pub kind_view-List : (k : Arc (Weighed Kind) Global) (n : ℕ) → kind_view (Kind-of.List k n) ≡ lists (kind_view k.value.parts) n
 kind_view-List k n = search (rules, kind_lemmas)
 
-pub kind_view-Rec : (m : Arc (BTreeMap (String Global) (Slot Kind)) Global) → kind_view (Kind-of.Rec m) ≡ recs (slots_view m.value.entries)
+pub kind_view-Rec : (m : Arc (Weighed (BTreeMap (String Global) (Slot Kind))) Global) → kind_view (Kind-of.Rec m) ≡ recs (slots_view m.value.parts.entries)
 kind_view-Rec m = search (rules, kind_lemmas)
 
-pub kind_view-Result : (cs : Arc (Vec (Case Kind) Global) Global) (r : Arc Kind Global) → kind_view (Kind-of.Result cs r) ≡ results (cases_view cs.value.items) (kind_view r.value)
+pub kind_view-Result : (cs : Arc (Weighed (Vec (Case Kind) Global)) Global) (r : Arc Kind Global) → kind_view (Kind-of.Result cs r) ≡ results (cases_view cs.value.parts.items) (kind_view r.value)
 kind_view-Result cs r = search (rules, kind_lemmas)
 
 pub view-Text : (s : Arc (String Global) Global) → view (Value-of.Text s) ≡ text (string_bytes s.value)

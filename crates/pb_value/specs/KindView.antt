@@ -40,9 +40,9 @@ kind_step Kind-F.Bool = booleans
 kind_step Kind-F.Int = ints
 kind_step Kind-F.Text = texts
 kind_step (Kind-F.Host s) = hosts (map (λ n. string_bytes n) s.value.keys)
-kind_step (Kind-F.List k n) = lists k.value n
-kind_step (Kind-F.Rec m) = recs (slots_of m.value.entries)
-kind_step (Kind-F.Result cs r) = results (cases_of cs.value.items) r.value
+kind_step (Kind-F.List k n) = lists k.value.parts n
+kind_step (Kind-F.Rec m) = recs (slots_of m.value.parts.entries)
+kind_step (Kind-F.Result cs r) = results (cases_of cs.value.parts.items) r.value
 kind_step Kind-F.Any = anything
 
 abbrev pub kind_view : Kind → KindData

@@ -4,3 +4,6 @@ pub mod FromJson
 pub mod Found
 pub mod Append
 pub mod Words
+pub mod Weights
+pub mod ValueWeight
+pub mod KindWeight

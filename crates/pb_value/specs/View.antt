@@ -20,8 +20,8 @@ view_step Value-F.Null = null
 view_step (Value-F.Bool b) = boolean b
 view_step (Value-F.Int n) = int n
 view_step (Value-F.Text s) = text (string_bytes s.value)
-view_step (Value-F.List v) = list (items_of v.value.items)
-view_step (Value-F.Rec m) = rec (fields_of m.value.entries)
+view_step (Value-F.List v) = list (items_of v.value.parts.items)
+view_step (Value-F.Rec m) = rec (fields_of m.value.parts.entries)
 view_step Value-F.Opaque = opaque
 
 abbrev pub view : Value → Data

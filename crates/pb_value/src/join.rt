@@ -2,7 +2,7 @@
 ghost use Rattle.std.specs.Prelude.{[], ◌&&◌, ◌∷◌, ◌≡◌, IfOk, OnOk, false, map, max, string_bytes};
 ghost use Rattle.pb_semantics.specs.Words.{add_cases as both_cases, add_names, append_cases, hosts};
 ghost use Rattle.pb_semantics.specs.Words.{join as join_of, join_slots as both_slots, joined};
-ghost use Rattle.pb_semantics.specs.Words.{kind_with, lists, new_cases, presence_with, put_slot};
+ghost use Rattle.pb_semantics.specs.Words.{kind_with, new_cases, presence_with, put_slot};
 ghost use Rattle.pb_semantics.specs.Words.{record_with, recs, results, with_others};
 ghost use Rattle.pb_value.specs.KindView.{cases_view, is_always as is_certain, kind_view};
 ghost use Rattle.pb_value.specs.KindView.{slots_view};
@@ -10,6 +10,7 @@ ghost use Rattle.pb_value.specs.Found.{spot_view};
 
 use crate::below::{find, has_field, is_covered};
 use crate::kind::{Case, Kind, Presence, Slot, Slots, put_slot};
+use crate::weight::Weighed;
 use std::alloc::{AllocError, Global};
 use std::collections::{BTreeMap, BTreeSet};
 use std::sync::Arc;
@@ -37,7 +38,7 @@ pub fn join(alloc: Global, first: &Kind, second: &Kind) -> Result<Kind, AllocErr
         (Kind::Host(few), Kind::Host(more)) => join_hosts(alloc, few, more),
         (Kind::List(item, most), Kind::List(other, count)) => {
             let item = join(alloc, item, other)?;
-            list_of(alloc, item, larger(*most, *count))
+            Kind::of_item(alloc, item, larger(*most, *count))
         }
         (Kind::Rec(slots), Kind::Rec(others)) => join_records(alloc, slots, others),
         (Kind::Rec(slots), Kind::Result(_, record)) => join_with_record(alloc, slots, record),
@@ -56,12 +57,6 @@ fn larger(first: usize, second: usize) -> usize
     if first < second { second } else { first }
 }
 
-fn list_of(alloc: Global, item: Kind, most: usize) -> Result<Kind, AllocError>
-    ensures { IfOk result (λ k. kind_view k ≡ lists (kind_view item) most) }
-{
-    Ok(Kind::List(Arc::new(alloc, item)?, most))
-}
-
 // A result with the cases of both.
 fn result_of(
     alloc: Global,
@@ -72,21 +67,8 @@ fn result_of(
     ensures { IfOk result (λ k. kind_view k ≡ results
         (both_cases (cases_view cases.now) (cases_view others.now)) (kind_view known)) }
 {
-    let known = Arc::new(alloc, known)?;
-    let cases = share_cases(alloc, cases, others)?;
-    Ok(Kind::Result(cases, known))
-}
-
-fn share_cases(
-    alloc: Global,
-    cases: &[Case<Kind>],
-    others: &[Case<Kind>],
-) -> Result<Arc<Vec<Case<Kind>>>, AllocError>
-    ensures { IfOk result (λ a. cases_view a.value.items
-        ≡ both_cases (cases_view cases.now) (cases_view others.now)) }
-{
     let all = add_cases(alloc, cases, others)?;
-    Ok(Arc::new(alloc, all)?)
+    Kind::of_cases(alloc, all, known)
 }
 
 fn join_hosts(
@@ -117,9 +99,14 @@ fn add_all(few: &BTreeSet<String>, more: &BTreeSet<String>) -> Result<BTreeSet<S
 
 // A record and what is known of all cases of a result.
 #[cycle(join)]
-fn join_with_record(alloc: Global, slots: &Arc<Slots>, fields: &Kind) -> Result<Kind, AllocError>
-    ensures { IfOk result (λ k. kind_view k ≡ record_with (slots_view slots.now.value.entries)
-        (λ ts. joined (slots_view slots.now.value.entries) ts) (kind_view fields.now)) }
+fn join_with_record(
+    alloc: Global,
+    slots: &Arc<Weighed<Slots>>,
+    fields: &Kind,
+) -> Result<Kind, AllocError>
+    ensures { IfOk result (λ k. kind_view k ≡ record_with
+        (slots_view slots.now.value.parts.entries)
+        (λ ts. joined (slots_view slots.now.value.parts.entries) ts) (kind_view fields.now)) }
 {
     match fields {
         Kind::Never => Ok(Kind::Rec(slots.clone()?)),
@@ -134,7 +121,7 @@ fn join_records(alloc: Global, first: &Slots, second: &Slots) -> Result<Kind, Al
         ≡ recs (both_slots (slots_view first.now.entries) (slots_view second.now.entries))) }
 {
     let slots = join_slots(alloc, first, second)?;
-    Ok(Kind::Rec(Arc::new(alloc, slots)?))
+    Kind::of_slots(alloc, slots)
 }
 
 /// What is known where two environments meet: a field that only one of them lists is uncertain.

@@ -1,11 +1,18 @@
 // A kind: which values a variable can hold.
-ghost use Rattle.std.specs.Prelude.{◌≡◌, OnOk, string_bytes};
-ghost use Rattle.pb_semantics.specs.Words.{is_any, is_boolean, put_slot};
-ghost use Rattle.pb_value.specs.KindView.{is_always, kind_view, slots_view};
+ghost use Rattle.std.specs.Prelude.{◌≡◌, IfOk, OnOk, string_bytes};
+ghost use Rattle.pb_semantics.specs.Words.{is_any, is_boolean, lists, most_kind_weight, put_slot};
+ghost use Rattle.pb_semantics.specs.Words.{recs, results};
+ghost use Rattle.pb_value.specs.KindView.{cases_view, is_always, kind_view, slots_view};
+ghost use Rattle.pb_value.specs.KindWeight.{cases_onto, kind_weight, slots_onto};
+ghost use Rattle.pb_value.specs.Weights.{IsWithin, above, nothing};
 
-use std::alloc::AllocError;
+use crate::weight::{Weighed, Weight};
+use std::alloc::{AllocError, Global};
 use std::collections::{BTreeMap, BTreeSet};
 use std::sync::Arc;
+
+/// What a kind weighs at most.
+pub const MOST_KIND: u64 = 4_194_304;
 
 /// Whether a field, or a variable, is certainly there.
 #[derive(Clone, Copy, PartialEq, Eq, Debug)]
@@ -102,15 +109,51 @@ pub enum Kind {
     /// A text that is one of these names.
     Host(Arc<BTreeSet<String>>),
     /// A list of at most so many items of that kind.
-    List(Arc<Kind>, usize),
-    Rec(Arc<Slots>),
+    List(Arc<Weighed<Kind>>, usize),
+    Rec(Arc<Weighed<Slots>>),
     /// One of these cases, and beside them the least record above each, `Never` where there is no
     /// case.
-    Result(Arc<Vec<Case<Kind>>>, Arc<Kind>),
+    Result(Arc<Weighed<Vec<Case<Kind>>>>, Arc<Kind>),
     Any,
 }
 
 impl Kind {
+    /// A list of at most so many items of that kind.
+    ///
+    /// # Errors
+    ///
+    /// Want of memory, also where it would weigh more than `MOST_KIND` or nest too deep.
+    pub fn of_item(alloc: Global, item: Kind, most: usize) -> Result<Kind, AllocError>
+        ensures { IfOk result (λ k. kind_view k ≡ lists (kind_view item) most) }
+    {
+        Ok(Kind::List(Arc::new(alloc, weighed_item(item)?)?, most))
+    }
+
+    /// A record with those fields.
+    ///
+    /// # Errors
+    ///
+    /// Want of memory, also where it would weigh more than `MOST_KIND` or nest too deep.
+    pub fn of_slots(alloc: Global, slots: Slots) -> Result<Kind, AllocError>
+        ensures { IfOk result (λ k. kind_view k ≡ recs (slots_view slots.entries)) }
+    {
+        Ok(Kind::Rec(Arc::new(alloc, weighed_slots(slots)?)?))
+    }
+
+    /// A result of one of those cases, and beside them what is known of each.
+    ///
+    /// # Errors
+    ///
+    /// Want of memory, also where it would weigh more than `MOST_KIND` or nest too deep.
+    pub fn of_cases(alloc: Global, cases: Vec<Case<Kind>>, known: Kind) -> Result<Kind, AllocError>
+        ensures { IfOk result (λ k. kind_view k
+            ≡ results (cases_view cases.items) (kind_view known)) }
+    {
+        let cases = weighed_cases(cases, &known)?;
+        let known = Arc::new(alloc, known)?;
+        Ok(Kind::Result(Arc::new(alloc, cases)?, known))
+    }
+
     /// Whether it is the kind of all values.
     pub fn is_any(&self) -> bool
         ensures { result ≡ is_any (kind_view self.now) }
@@ -149,4 +192,69 @@ impl Clone for Kind {
             Kind::Any => Ok(Kind::Any),
         }
     }
+}
+
+// What is read off it: nothing below it is looked at.
+fn weight(kind: &Kind) -> Weight
+    ensures { result ≡ kind_weight kind.now }
+{
+    match kind {
+        Kind::Host(names) => Weight::of_names(names.len()),
+        Kind::List(item, _) => item.weight(),
+        Kind::Rec(slots) => slots.weight(),
+        Kind::Result(cases, _) => cases.weight(),
+        _ => Weight::leaf(),
+    }
+}
+
+fn weighed_item(item: Kind) -> Result<Weighed<Kind>, AllocError>
+    ensures parts { IfOk result (λ w. w.parts ≡ item) }
+    ensures weighs { IfOk result (λ w. w.weight ≡ above (kind_weight item)) }
+    ensures within { IfOk result (λ w. IsWithin most_kind_weight w.weight) }
+{
+    let weight = weight(&item).nest(MOST_KIND)?;
+    Ok(Weighed::new(weight, item))
+}
+
+fn weighed_slots(slots: Slots) -> Result<Weighed<Slots>, AllocError>
+    ensures parts { IfOk result (λ w. w.parts ≡ slots) }
+    ensures weighs { IfOk result (λ w. w.weight ≡ above (slots_onto nothing slots.entries)) }
+    ensures within { IfOk result (λ w. IsWithin most_kind_weight w.weight) }
+{
+    let weight = slots_weight(&slots)?.nest(MOST_KIND)?;
+    Ok(Weighed::new(weight, slots))
+}
+
+fn weighed_cases(
+    cases: Vec<Case<Kind>>,
+    known: &Kind,
+) -> Result<Weighed<Vec<Case<Kind>>>, AllocError>
+    ensures parts { IfOk result (λ w. w.parts ≡ cases) }
+    ensures weighs { IfOk result (λ w. w.weight
+        ≡ above (cases_onto (kind_weight known.now) cases.items)) }
+    ensures within { IfOk result (λ w. IsWithin most_kind_weight w.weight) }
+{
+    let weight = cases_weight(weight(known), &cases)?.nest(MOST_KIND)?;
+    Ok(Weighed::new(weight, cases))
+}
+
+fn slots_weight(slots: &Slots) -> Result<Weight, AllocError>
+    ensures { IfOk result (λ w. w ≡ slots_onto nothing slots.now.entries) }
+{
+    let mut total = Weight::nothing();
+    for (name, slot) in slots.iter() {
+        let named = total.with(Weight::of_text(name.len()), MOST_KIND)?;
+        total = named.with(weight(&slot.kind), MOST_KIND)?;
+    }
+    Ok(total)
+}
+
+fn cases_weight(known: Weight, cases: &[Case<Kind>]) -> Result<Weight, AllocError>
+    ensures { IfOk result (λ w. w ≡ cases_onto known cases.now) }
+{
+    let mut total = known;
+    for case in cases {
+        total = total.with(weight(&case.fields), MOST_KIND)?;
+    }
+    Ok(total)
 }

@@ -3,7 +3,7 @@
 //     let value = read_json(alloc, b"{\"rc\": 0}")?;
 //     let mut slots = Slots::new(alloc);
 //     put_slot(&mut slots, String::from_str(alloc, "rc")?, Slot::always(Kind::Int))?;
-//     let kind = Kind::Rec(Arc::new(alloc, slots)?);
+//     let kind = Kind::of_slots(alloc, slots)?;
 //     assert!(rt; keeps(&value, &kind));
 //     let text = render(&Value::Int(7))?; // 7
 #![tactic(auto)]
@@ -17,8 +17,10 @@ pub mod project;
 pub mod read;
 pub mod render;
 pub mod value;
+pub mod weight;
 
 pub use join::join_slots;
 pub use kind::{Case, Kind, Presence, Shape, Slot, Slots, put_slot};
 pub use read::{JsonFault, read_json};
 pub use value::{Fields, Value, field_of, own_fields, own_items, put_field};
+pub use weight::Weighed;

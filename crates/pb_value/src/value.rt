@@ -1,11 +1,18 @@
 // A value of a variable, its inner parts shared.
 ghost use Rattle.std.specs.Prelude.{◌≡◌, IfOk, OnOk, option_map, string_bytes};
-ghost use Rattle.pb_semantics.specs.Words.{field_value, list, put_field, rec, text};
+ghost use Rattle.pb_semantics.specs.Words.{field_value, list, most_value_weight, put_field, rec};
+ghost use Rattle.pb_semantics.specs.Words.{text};
+ghost use Rattle.pb_value.specs.ValueWeight.{fields_onto, items_onto, weight_of};
 ghost use Rattle.pb_value.specs.View.{fields_view, items_view, truth, view};
+ghost use Rattle.pb_value.specs.Weights.{IsWithin, above, nothing};
 
+use crate::weight::{Weighed, Weight};
 use std::alloc::{AllocError, Global};
 use std::collections::BTreeMap;
 use std::sync::Arc;
+
+/// What a value weighs at most.
+pub const MOST_VALUE: u64 = 16_777_216;
 
 /// The fields of a record, in the order of their names' bytes.
 pub type Fields = BTreeMap<String, Value>;
@@ -17,8 +24,8 @@ pub enum Value {
     Bool(bool),
     Int(i64),
     Text(Arc<String>),
-    List(Arc<Vec<Value>>),
-    Rec(Arc<Fields>),
+    List(Arc<Weighed<Vec<Value>>>),
+    Rec(Arc<Weighed<Fields>>),
     /// What may stand and may not be read, as a number that is no `i64`.
     Opaque,
 }
@@ -49,10 +56,10 @@ pub fn put_field(fields: &mut Fields, name: String, value: Value) -> Result<(), 
 /// # Errors
 ///
 /// Want of memory.
-pub fn own_items(items: Arc<Vec<Value>>) -> Result<Vec<Value>, AllocError>
-    ensures { IfOk result (λ own. items_view own.items ≡ items_view items.value.items) }
+pub fn own_items(items: Arc<Weighed<Vec<Value>>>) -> Result<Vec<Value>, AllocError>
+    ensures { IfOk result (λ own. items_view own.items ≡ items_view items.value.parts.items) }
 {
-    Arc::unwrap_or_clone(items)
+    Ok(Arc::unwrap_or_clone(items)?.into_parts())
 }
 
 /// The fields, out of the block that their copies share.
@@ -60,10 +67,11 @@ pub fn own_items(items: Arc<Vec<Value>>) -> Result<Vec<Value>, AllocError>
 /// # Errors
 ///
 /// Want of memory.
-pub fn own_fields(fields: Arc<Fields>) -> Result<Fields, AllocError>
-    ensures { IfOk result (λ own. fields_view own.entries ≡ fields_view fields.value.entries) }
+pub fn own_fields(fields: Arc<Weighed<Fields>>) -> Result<Fields, AllocError>
+    ensures { IfOk result (λ own. fields_view own.entries
+        ≡ fields_view fields.value.parts.entries) }
 {
-    Arc::unwrap_or_clone(fields)
+    Ok(Arc::unwrap_or_clone(fields)?.into_parts())
 }
 
 impl Clone for Value {
@@ -91,17 +99,25 @@ impl Value {
     }
 
     /// A list, in a block that its copies share.
+    ///
+    /// # Errors
+    ///
+    /// Want of memory, also where it would weigh more than `MOST_VALUE` or nest too deep.
     pub fn of_items(alloc: Global, items: Vec<Value>) -> Result<Value, AllocError>
         ensures { IfOk result (λ v. view v ≡ list (items_view items.items)) }
     {
-        Ok(Value::List(Arc::new(alloc, items)?))
+        Ok(Value::List(Arc::new(alloc, weighed_items(items)?)?))
     }
 
     /// A record, in a block that its copies share.
+    ///
+    /// # Errors
+    ///
+    /// Want of memory, also where it would weigh more than `MOST_VALUE` or nest too deep.
     pub fn of_fields(alloc: Global, fields: Fields) -> Result<Value, AllocError>
         ensures { IfOk result (λ v. view v ≡ rec (fields_view fields.entries)) }
     {
-        Ok(Value::Rec(Arc::new(alloc, fields)?))
+        Ok(Value::Rec(Arc::new(alloc, weighed_fields(fields)?)?))
     }
 
     /// The truth value, where it is one.
@@ -113,4 +129,55 @@ impl Value {
             _ => None,
         }
     }
+}
+
+// What is read off it: nothing below it is looked at.
+fn weight(value: &Value) -> Weight
+    ensures { result ≡ weight_of value.now }
+{
+    match value {
+        Value::Text(text) => Weight::of_text(text.len()),
+        Value::List(items) => items.weight(),
+        Value::Rec(fields) => fields.weight(),
+        _ => Weight::leaf(),
+    }
+}
+
+fn weighed_items(items: Vec<Value>) -> Result<Weighed<Vec<Value>>, AllocError>
+    ensures parts { IfOk result (λ w. w.parts ≡ items) }
+    ensures weighs { IfOk result (λ w. w.weight ≡ above (items_onto nothing items.items)) }
+    ensures within { IfOk result (λ w. IsWithin most_value_weight w.weight) }
+{
+    let weight = items_weight(&items)?.nest(MOST_VALUE)?;
+    Ok(Weighed::new(weight, items))
+}
+
+fn items_weight(items: &[Value]) -> Result<Weight, AllocError>
+    ensures { IfOk result (λ w. w ≡ items_onto nothing items.now) }
+{
+    let mut total = Weight::nothing();
+    for item in items {
+        total = total.with(weight(item), MOST_VALUE)?;
+    }
+    Ok(total)
+}
+
+fn weighed_fields(fields: Fields) -> Result<Weighed<Fields>, AllocError>
+    ensures parts { IfOk result (λ w. w.parts ≡ fields) }
+    ensures weighs { IfOk result (λ w. w.weight ≡ above (fields_onto nothing fields.entries)) }
+    ensures within { IfOk result (λ w. IsWithin most_value_weight w.weight) }
+{
+    let weight = fields_weight(&fields)?.nest(MOST_VALUE)?;
+    Ok(Weighed::new(weight, fields))
+}
+
+fn fields_weight(fields: &Fields) -> Result<Weight, AllocError>
+    ensures { IfOk result (λ w. w ≡ fields_onto nothing fields.now.entries) }
+{
+    let mut total = Weight::nothing();
+    for (name, value) in fields.iter() {
+        let named = total.with(Weight::of_text(name.len()), MOST_VALUE)?;
+        total = named.with(weight(value), MOST_VALUE)?;
+    }
+    Ok(total)
 }

@@ -155,7 +155,7 @@ pub fn opening(alloc: Global, name: &str, groups: usize) -> Result<Slots, AllocE
     let mut environment = Slots::new(alloc);
     let host = host_kind(alloc, name)?;
     put_certain(alloc, "inventory_hostname", host, &mut environment)?;
-    let names = Kind::List(Arc::new(alloc, Kind::Text)?, groups);
+    let names = Kind::of_item(alloc, Kind::Text, groups)?;
     put_certain(alloc, "group_names", names, &mut environment)?;
     Ok(environment)
 }

@@ -6,6 +6,7 @@ use Rattle.pb_language.specs.Simple.{are_simple, parts_simple}
 use Rattle.pb_value.specs.View.{view, items_view, fields_view}
 use Rattle.pb_value.specs.declared.value.Value as Value-of
 use Rattle.pb_value.specs.declared.value.Value.{Value}
+use Rattle.pb_value.specs.declared.weight.Weighed.{Weighed}
 use Rattle.pb_expr.specs.ExprView.{expr_view, exprs_view, parts_view}
 use Rattle.pb_expr.specs.declared.expr.Expr as Expr-of
 use Rattle.pb_expr.specs.declared.expr.Expr.{Expr, the_lemmas}
@@ -17,7 +18,7 @@ use Rattle.pb_book.proofs.Ordered.{entry_names}
 use Rattle.pb_book.proofs.Plain.{parts_simple-insert}
 use Rattle.pb_book.proofs.argument.+expr_of.Goals as goal
 
-record_of-holding : (v : Value) (fields : Arc (BTreeMap (String Global) Value) Global) (m : BTreeMap (String Global) Value) (b : Bool) → v ≡ Value-of.Rec fields → m ≡ fields.value → b ≡ holds_opening (view v) → b ≡ true
+record_of-holding : (v : Value) (fields : Arc (Weighed (BTreeMap (String Global) Value)) Global) (m : BTreeMap (String Global) Value) (b : Bool) → v ≡ Value-of.Rec fields → m ≡ fields.value.parts → b ≡ holds_opening (view v) → b ≡ true
     → value_of (view v) ≡ as_record (parts_of (fields_view m.entries))
 record_of-holding v fields m b is behind e h =
     let known = view-fields v fields m is behind in
@@ -30,14 +31,14 @@ view-Record m = search (rules, the_lemmas)
 pub expr_of-returns-in_err-record_of-in-Rec-clause-given :
     goal.expr_of-returns-in_err-record_of-in-Rec-clause-given
 expr_of-returns-in_err-record_of-in-Rec-clause-given t c =
-    let holding = record_of-holding c.args.value.now _ _ _ c.in-Rec.is c.deref-in-Rec.ensures c.holds_template.ensures c.if-not-holds_template.false in
+    let holding = record_of-holding c.args.value.now _ _ _ c.in-Rec.is (c.deref-in-Rec-2.ensures ∙ ap (λ w. w.parts) c.deref-in-Rec.ensures) c.holds_template.ensures c.if-not-holds_template.false in
     refused-exit expr_view _ _ _ _ c.from_residual-in_err-record_of-in-Rec.ensures.1 c.in_err-record_of-in-Rec.ensures.given
     (λ none. holding ∙ ap as_record none)
 
 pub expr_of-returns-in_ok-record_of-in-Rec-clause-given :
     goal.expr_of-returns-in_ok-record_of-in-Rec-clause-given
 expr_of-returns-in_ok-record_of-in-Rec-clause-given t c =
-    let holding = record_of-holding c.args.value.now _ _ _ c.in-Rec.is c.deref-in-Rec.ensures c.holds_template.ensures c.if-not-holds_template.false in
+    let holding = record_of-holding c.args.value.now _ _ _ c.in-Rec.is (c.deref-in-Rec-2.ensures ∙ ap (λ w. w.parts) c.deref-in-Rec.ensures) c.holds_template.ensures c.if-not-holds_template.false in
     holding ∙ ap as_record c.in_ok-record_of-in-Rec.ensures.given ∙ ap Some (sym (view-Record c.in_ok-record_of-in-Rec.field-0))
 
 pub list_of-returns-in_err-expr_of-clause-given : goal.list_of-returns-in_err-expr_of-clause-given

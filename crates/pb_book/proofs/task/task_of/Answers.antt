@@ -14,14 +14,14 @@ abbrev Map : Type 0
 Map = BTreeMap (String Global) Value
 
 pub returns-then-not-is_named-clause-given : goal.returns-then-not-is_named-clause-given
-returns-then-not-is_named-clause-given c = task_of-unnamed _ _ _ _ _ _ c.in-Rec.is c.deref.ensures c.is_named.ensures c.if-not-is_named.true
+returns-then-not-is_named-clause-given c = task_of-unnamed _ _ _ _ _ _ c.in-Rec.is (c.deref-2.ensures ∙ ap (λ w. w.parts) c.deref.ensures) c.is_named.ensures c.if-not-is_named.true
 
 pub returns-in_err-work-clause-given : goal.returns-in_err-work-clause-given
 returns-in_err-work-clause-given c =
     let ms = modules_of c.args.registry.now in
-    let fs = fields_view c.in-Rec.fields.value.entries in
-    let all = task_of-named ms c.args.line _ _ _ _ c.in-Rec.is c.deref.ensures c.is_named.ensures c.if-not-is_named.false in
-    let same = ap (λ (m : Map). work_of ms (works_of (fields_view m.entries))) (sym c.deref-2.ensures) in
+    let fs = fields_view c.in-Rec.fields.value.parts.entries in
+    let all = task_of-named ms c.args.line _ _ _ _ c.in-Rec.is (c.deref-2.ensures ∙ ap (λ w. w.parts) c.deref.ensures) c.is_named.ensures c.if-not-is_named.false in
+    let same = ap (λ (m : Map). work_of ms (works_of (fields_view m.entries))) (sym (c.deref-4.ensures ∙ ap (λ w. w.parts) c.deref-3.ensures)) in
     refused-exit plain_task _ _ _ _ c.from_residual.ensures.1 c.in_err-work.ensures.given
     (λ none. all ∙ ap (λ w. task_with c.args.line w (condition_of (field_value (codes "when") fs)) (register_of (field_value (codes "register") fs))) (same ∙ none))
 
@@ -29,9 +29,9 @@ pub returns-in_err-condition_of-clause-given : goal.returns-in_err-condition_of-
 returns-in_err-condition_of-clause-given c =
     let ms = modules_of c.args.registry.now in
     let l = c.args.line in
-    let fs = fields_view c.in-Rec.fields.value.entries in
-    let all = task_of-named ms l _ _ _ _ c.in-Rec.is c.deref.ensures c.is_named.ensures c.if-not-is_named.false in
-    let same = ap (λ (m : Map). condition_of (field_value (codes "when") (fields_view m.entries))) (sym c.deref-3.ensures) in
+    let fs = fields_view c.in-Rec.fields.value.parts.entries in
+    let all = task_of-named ms l _ _ _ _ c.in-Rec.is (c.deref-2.ensures ∙ ap (λ w. w.parts) c.deref.ensures) c.is_named.ensures c.if-not-is_named.false in
+    let same = ap (λ (m : Map). condition_of (field_value (codes "when") (fields_view m.entries))) (sym (c.deref-6.ensures ∙ ap (λ w. w.parts) c.deref-5.ensures)) in
     let work = work_of ms (works_of fs) in
     let register = register_of (field_value (codes "register") fs) in
     refused-exit plain_task _ _ _ _ c.from_residual-in_err-condition_of.ensures.1 c.in_err-condition_of.ensures.given
@@ -41,9 +41,9 @@ pub returns-in_err-register_of-clause-given : goal.returns-in_err-register_of-cl
 returns-in_err-register_of-clause-given c =
     let ms = modules_of c.args.registry.now in
     let l = c.args.line in
-    let fs = fields_view c.in-Rec.fields.value.entries in
-    let all = task_of-named ms l _ _ _ _ c.in-Rec.is c.deref.ensures c.is_named.ensures c.if-not-is_named.false in
-    let same = ap (λ (m : Map). register_of (field_value (codes "register") (fields_view m.entries))) (sym c.deref-4.ensures) in
+    let fs = fields_view c.in-Rec.fields.value.parts.entries in
+    let all = task_of-named ms l _ _ _ _ c.in-Rec.is (c.deref-2.ensures ∙ ap (λ w. w.parts) c.deref.ensures) c.is_named.ensures c.if-not-is_named.false in
+    let same = ap (λ (m : Map). register_of (field_value (codes "register") (fields_view m.entries))) (sym (c.deref-8.ensures ∙ ap (λ w. w.parts) c.deref-7.ensures)) in
     let work = work_of ms (works_of fs) in
     let condition = condition_of (field_value (codes "when") fs) in
     refused-exit plain_task _ _ _ _ c.from_residual-in_err-register_of.ensures.1 c.in_err-register_of.ensures.given
@@ -52,12 +52,12 @@ returns-in_err-register_of-clause-given c =
 pub returns-clause-given : goal.returns-clause-given
 returns-clause-given c =
     let ms = modules_of c.args.registry.now in
-    let fs = fields_view c.in-Rec.fields.value.entries in
-    let all = task_of-named ms c.args.line _ _ _ _ c.in-Rec.is c.deref.ensures c.is_named.ensures c.if-not-is_named.false in
+    let fs = fields_view c.in-Rec.fields.value.parts.entries in
+    let all = task_of-named ms c.args.line _ _ _ _ c.in-Rec.is (c.deref-2.ensures ∙ ap (λ w. w.parts) c.deref.ensures) c.is_named.ensures c.if-not-is_named.false in
     let works : work_of ms (works_of fs) ≡ Some (meaning.work_of c.in_ok-work.work (argument_parts c.in_ok-work.arguments.items)) =
-    ap (λ (m : Map). work_of ms (works_of (fields_view m.entries))) (sym c.deref-2.ensures) ∙ c.in_ok-work.ensures.given in
+    ap (λ (m : Map). work_of ms (works_of (fields_view m.entries))) (sym (c.deref-4.ensures ∙ ap (λ w. w.parts) c.deref-3.ensures)) ∙ c.in_ok-work.ensures.given in
     let conditions : condition_of (field_value (codes "when") fs) ≡ Some (condition_view c.in_ok-condition_of.field-0) =
-    ap (λ (m : Map). condition_of (field_value (codes "when") (fields_view m.entries))) (sym c.deref-3.ensures) ∙ c.in_ok-condition_of.ensures.given in
+    ap (λ (m : Map). condition_of (field_value (codes "when") (fields_view m.entries))) (sym (c.deref-6.ensures ∙ ap (λ w. w.parts) c.deref-5.ensures)) ∙ c.in_ok-condition_of.ensures.given in
     let registers : register_of (field_value (codes "register") fs) ≡ Some (option_map (λ n. string_bytes n.value) c.in_ok-register_of.field-0) =
-    ap (λ (m : Map). register_of (field_value (codes "register") (fields_view m.entries))) (sym c.deref-4.ensures) ∙ c.in_ok-register_of.ensures.given in
+    ap (λ (m : Map). register_of (field_value (codes "register") (fields_view m.entries))) (sym (c.deref-8.ensures ∙ ap (λ w. w.parts) c.deref-7.ensures)) ∙ c.in_ok-register_of.ensures.given in
     all ∙ rw (works, conditions, registers)

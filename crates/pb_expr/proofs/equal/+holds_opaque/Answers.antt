@@ -7,7 +7,7 @@ use Rattle.pb_expr.proofs.Ascending.{Ascending, field-counts, ascending-rest}
 use Rattle.pb_expr.proofs.equal.+holds_opaque.Goals as goal
 
 pub holds_opaque-returns-in-Rec : goal.holds_opaque-returns-in-Rec
-holds_opaque-returns-in-Rec t c = c.fields_hold_opaque.ensures ∙ rw (c.in-Rec.is, view-Rec, c.deref-in-Rec.ensures) refl
+holds_opaque-returns-in-Rec t c = c.fields_hold_opaque.ensures ∙ rw (c.in-Rec.is, view-Rec, c.deref-in-Rec-2.ensures, c.deref-in-Rec.ensures) refl
 
 pub fields_hold_opaque-loop-value-preserved : goal.fields_hold_opaque-loop-value-preserved
 fields_hold_opaque-loop-value-preserved t c =

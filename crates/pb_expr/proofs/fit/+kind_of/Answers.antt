@@ -5,7 +5,6 @@ use Rattle.pb_semantics.specs.Join.{join}
 use Rattle.pb_language.specs.Kinds.{count, kind_of, items_kind}
 use Rattle.pb_language.specs.Fit.{first, chain_fault, are_booleans, items_fault, fields_fault}
 use Rattle.pb_value.specs.KindView.{kind_view, slots_view}
-use Rattle.pb_value.proofs.Views.{kind_view-List, kind_view-Rec}
 use Rattle.pb_expr.specs.ExprView.{expr_view, exprs_view, parts_view}
 use Rattle.pb_expr.specs.FitView.{own_scope, joined_onto}
 use Rattle.pb_expr.specs.declared.expr.Expr.{Expr}
@@ -64,7 +63,7 @@ list_kind-returns-clause-kind t c =
     let joined : items_kind s es ≡ kind_view c.in_ok-joined.joined =
     c.loop-item.invariant.kinds
     ∙ ap (λ xs. joined_onto kinds (items_kind s (exprs_view xs))) past ∙ sym c.in_ok-joined.ensures in
-    kind_view-List c.in_ok-new.field-0 (length items) ∙ ap (λ k. lists k (length items)) (ap kind_view c.in_ok-new.ensures.ok ∙ sym joined)
+    c.in_ok-of_item.ensures ∙ ap (λ k. lists k (length items)) (sym joined)
     ∙ ap (lists (items_kind s es)) size
 
 pub record_kind-loop-name-preserved : goal.record_kind-loop-name-preserved
@@ -96,5 +95,4 @@ record_kind-returns-clause-kind t c =
     let inv = c.loop-name.invariant in
     let nil : c.loop-name.name-iterator ≡ [] = (c.in-None.ensures).steps.0 in
     let whole : c.args.fields.now.entries ≡ inv.0 = inv.1 ∙ ap (λ es. inv.0 ++ es) nil ∙ append-nil inv.0 in
-    kind_view-Rec c.in_ok-new.field-0 ∙ ap (λ m. recs (slots_view m.entries)) c.in_ok-new.ensures.ok
-    ∙ ap recs (inv.2 ∙ ap (slots_from (λ (x : Expr). kind_of s (expr_view x))) (sym whole) ∙ sym (parts_slots-ascending s c.args.fields.now.entries c.iter-name-items.ensures.ordered))
+    c.in_ok-of_slots.ensures ∙ ap recs (inv.2 ∙ ap (slots_from (λ (x : Expr). kind_of s (expr_view x))) (sym whole) ∙ sym (parts_slots-ascending s c.args.fields.now.entries c.iter-name-items.ensures.ordered))

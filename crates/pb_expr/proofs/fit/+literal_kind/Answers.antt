@@ -1,13 +1,13 @@
 use Rattle.std.proofs.Common.{◌≡◌, length, [], ◌∷◌, ◌++◌, drop, String, Global, sym, ap, ◌∙◌, subst, append_assoc, arith}
+use Rattle.std.proofs.lemmas.Result.{IfOk-weaker}
 use Rattle.std.proofs.lemmas.List.{append-nil}
 use Rattle.pb_semantics.specs.Data.{count_of}
 use Rattle.pb_semantics.specs.Kind.{lists, recs}
 use Rattle.pb_language.specs.Kinds.{known_kind, known_items}
 use Rattle.pb_value.specs.View.{view, items_view}
-use Rattle.pb_value.specs.KindView.{kind_view, slots_view}
 use Rattle.pb_value.specs.declared.value.Value.{Value}
 use Rattle.pb_value.proofs.Fields.{count_of-items_view}
-use Rattle.pb_value.proofs.Views.{view-List, view-Rec, kind_view-List, kind_view-Rec}
+use Rattle.pb_value.proofs.Views.{view-List, view-Rec}
 use Rattle.pb_expr.proofs.Ascending.{Ascending}
 use Rattle.pb_expr.proofs.Records.{slots_from, put_slot-last, known_slots-ascending}
 use Rattle.pb_expr.proofs.fit.+literal_kind.Goals as goal
@@ -30,19 +30,19 @@ literal_fields-returns t c =
     let inv = c.loop-name.invariant in
     let nil : c.loop-name.name-iterator ≡ [] = (c.in-None.ensures).steps.0 in
     let whole : c.args.fields.now.entries ≡ inv.0 = inv.1 ∙ ap (λ es. inv.0 ++ es) nil ∙ append-nil inv.0 in
-    kind_view-Rec c.in_ok-new.field-0 ∙ ap (λ m. recs (slots_view m.entries)) c.in_ok-new.ensures.ok
-    ∙ ap recs (inv.2 ∙ ap (slots_from (λ v. known_kind (view v))) (sym whole) ∙ sym (known_slots-ascending c.args.fields.now.entries c.iter-name-items.ensures.ordered))
+    IfOk-weaker c.of_slots.result _ _ (λ k h. h
+    ∙ ap recs (inv.2 ∙ ap (slots_from (λ v. known_kind (view v))) (sym whole) ∙ sym (known_slots-ascending c.args.fields.now.entries c.iter-name-items.ensures.ordered))) c.of_slots.ensures
 
 pub literal_items-returns : goal.literal_items-returns
 literal_items-returns t c =
     let size : length c.args.items.now ≡ count_of (items_view c.args.items.now) = omega (arith, count_of-items_view c.args.items.now) in
     let first : c.loop-index.index ≡ 0 = omega arith in
-    kind_view-List c.in_ok-new.field-0 (length c.args.items.now)
-    ∙ ap (λ k. lists k (length c.args.items.now)) (ap kind_view c.in_ok-new.ensures.ok ∙ c.loop-index.invariant ∙ ap (λ i. known_items (items_view (drop i c.args.items.now))) first)
-    ∙ ap (lists (known_items (items_view c.args.items.now))) size
+    IfOk-weaker c.of_item.result _ _ (λ k h. h
+    ∙ ap (λ k. lists k (length c.args.items.now)) (c.loop-index.invariant ∙ ap (λ i. known_items (items_view (drop i c.args.items.now))) first)
+    ∙ ap (lists (known_items (items_view c.args.items.now))) size) c.of_item.ensures
 
 pub literal_kind-returns-in-Rec : goal.literal_kind-returns-in-Rec
-literal_kind-returns-in-Rec t c = rw (c.in-Rec.is, view-Rec c.in-Rec.fields, sym c.deref-in-Rec.ensures) c.literal_fields.ensures
+literal_kind-returns-in-Rec t c = rw (c.in-Rec.is, view-Rec c.in-Rec.fields, sym c.deref-in-Rec.ensures, sym c.deref-in-Rec-2.ensures) c.literal_fields.ensures
 
 pub literal_kind-returns-in-List : goal.literal_kind-returns-in-List
-literal_kind-returns-in-List t c = rw (c.in-List.is, view-List c.in-List.items, sym c.deref.ensures, sym c.deref-in-List.ensures.value) c.literal_items.ensures
+literal_kind-returns-in-List t c = rw (c.in-List.is, view-List c.in-List.items, sym c.deref.ensures, sym c.deref-in-List.ensures, sym c.deref-in-List-2.ensures.value) c.literal_items.ensures

@@ -12,5 +12,5 @@ pub returns-in-Rec : goal.returns-in-Rec
 returns-in-Rec c =
     let slots = c.in-Rec.slots in
     MatchResult-weaker c.kind_among.result c.kind_among.ensures
-    (λ k h ns. rw (c.in-Rec.is, kind_view-Rec slots) (field-certain c.args.name.now ns (slots_view slots.value.entries) (kind_view k.now) (rw c.deref.ensures at h)))
-    (λ u h ns. rw (c.in-Rec.is, kind_view-Rec slots, h.1) (field-uncertain c.args.name.now ns (slots_view slots.value.entries) (rw c.deref.ensures at h.0)))
+    (λ k h ns. rw (c.in-Rec.is, kind_view-Rec slots) (field-certain c.args.name.now ns (slots_view slots.value.parts.entries) (kind_view k.now) (rw (c.deref-in-Rec.ensures, c.deref.ensures) at h)))
+    (λ u h ns. rw (c.in-Rec.is, kind_view-Rec slots, h.1) (field-uncertain c.args.name.now ns (slots_view slots.value.parts.entries) (rw (c.deref-in-Rec.ensures, c.deref.ensures) at h.0)))

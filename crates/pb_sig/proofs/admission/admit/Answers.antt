@@ -10,5 +10,5 @@ pub returns-in-None : goal.returns-in-None
 returns-in-None g c =
     let m = c.in-Rec.fields in
     let status = λ (x : BTreeMap (String Global) Value). failed_of (field_value (codes "failed") (fields_view x.entries)) in
-    let none : status m.value ≡ None = ap status (sym c.deref.ensures) ∙ sym c.failed_in.ensures ∙ c.in-None.is in
+    let none : status m.value.parts ≡ None = ap status (sym (c.deref-2.ensures ∙ ap (λ w. w.parts) c.deref.ensures)) ∙ sym c.failed_in.ensures ∙ c.in-None.is in
     rw (c.in-Rec.is, view-Rec m, none) refl

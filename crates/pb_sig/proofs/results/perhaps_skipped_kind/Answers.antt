@@ -9,4 +9,4 @@ pub returns : goal.returns
 returns c =
     let cases = ap cases_view c.in_ok-cases.ensures.items ∙ ap₂ append_cases c.in_ok-skipped.ensures.case c.in_ok-ran.ensures.case in
     let known = c.in_ok-known.ensures ∙ ap (λ k. join k (kind_view c.args.ended.now)) c.in_ok-skipped.ensures.fields in
-    IfOk-weaker c.result_of.result _ _ (λ k h. h ∙ ap₂ results cases known) c.result_of.ensures
+    IfOk-weaker c.of_cases.result _ _ (λ k h. h ∙ ap₂ results cases known) c.of_cases.ensures

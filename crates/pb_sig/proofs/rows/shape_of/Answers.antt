@@ -1,8 +1,8 @@
 use Rattle.std.proofs.Common.{◌≡◌, ◌+◌, ◌<◌, ◌∷◌, arith, drop, length, ap, [], ◌∙◌, refl, add-one, drop-cons}
 use Rattle.std.proofs.lemmas.List.{drop_all}
+use Rattle.std.proofs.lemmas.Result.{IfOk-weaker}
 use Rattle.pb_semantics.specs.Kind.{recs, put_slot}
 use Rattle.pb_value.specs.KindView.{kind_view, slots_view, is_always}
-use Rattle.pb_value.proofs.Views.{kind_view-Rec}
 use Rattle.pb_sig.specs.Rows.{with_rows}
 use Rattle.pb_sig.proofs.rows.shape_of.Goals as goal
 
@@ -21,4 +21,4 @@ pub returns : goal.returns
 returns c =
     let i = c.loop-row.row-index in
     let none : drop i c.args.rows.now ≡ [] = drop_all i c.args.rows.now (omega arith) in
-    kind_view-Rec c.in_ok-new.field-0 ∙ rw c.in_ok-new.ensures.ok (ap recs (rw none at c.loop-row.invariant))
+    IfOk-weaker c.of_slots.result _ _ (λ k h. h ∙ ap recs (rw none at c.loop-row.invariant)) c.of_slots.ensures

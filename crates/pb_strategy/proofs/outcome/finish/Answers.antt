@@ -28,10 +28,10 @@ returns-in_ok-acted-in-Debug c = λ ps q h r ts.
 pub returns-in_ok-add_all-in-Facts : goal.returns-in_ok-add_all-in-Facts
 returns-in_ok-add_all-in-Facts c = λ ps q h r ts.
     let t = plain_task c.args.task.now in
-    let fs = fields_view c.in-Facts.facts.value.entries in
+    let fs = fields_view c.in-Facts.facts.value.parts.entries in
     let here : ps ≡ a_pass (acts ok_shape unchanged (all_changes fs)) = rw c.in-Facts.is at q in
     let written : fields_view c.add_all.new.writes.items ≡ result_writes t.register (rec action_fields) fs = c.in_ok-add_all-in-Facts.ensures
-    ∙ ap (λ ws. append_fields ws (fields_view c.deref.result.now.entries)) c.in_ok-outcome-in-Facts.ensures.writes
-    ∙ ap (λ (m : BTreeMap (String Global) Value). append_fields (result_writes t.register (rec action_fields) no_fields) (fields_view m.entries)) c.deref.ensures
+    ∙ ap (λ ws. append_fields ws (fields_view c.deref-in-Facts.result.now.entries)) c.in_ok-outcome-in-Facts.ensures.writes
+    ∙ ap (λ (m : BTreeMap (String Global) Value). append_fields (result_writes t.register (rec action_fields) no_fields) (fields_view m.entries)) (c.deref-in-Facts.ensures ∙ ap (λ w. w.parts) c.deref.ensures)
     ∙ writes_with t.register (rec action_fields) fs in
     (r.failure, rw (here, c.in_ok-outcome-in-Facts.ensures.ending, written) (act_gives (modules_of c.args.registry.now) h r t ts (map answer_data c.args.answers.now) fs))

@@ -1,4 +1,5 @@
 use Rattle.std.proofs.Common.{◌≡◌, List, [], BTreeMap, String, Global, refl, sym, ap, ◌∙◌, rules}
+use Rattle.pb_value.specs.declared.weight.Weighed.{Weighed}
 use Rattle.pb_value.specs.declared.kind.Kind.{the_lemmas as kind_lemmas}
 use Rattle.pb_semantics.specs.Kind.{recs}
 use Rattle.pb_value.specs.KindView.{slots_view}
@@ -38,7 +39,7 @@ join-returns-in-Host-Host t c =
 pub join-returns-in-Rec-Rec : goal.join-returns-in-Rec-Rec
 join-returns-in-Rec-Rec t c =
     let p = c.in-Rec-Rec in
-    rw (p.is-0, p.is-1, kind_view-Rec p.slots, kind_view-Rec p.others, ← c.deref-in-Rec-Rec.ensures, ← c.deref-in-Rec-Rec-2.ensures) c.join_records.ensures
+    rw (p.is-0, p.is-1, kind_view-Rec p.slots, kind_view-Rec p.others, ← c.deref-in-Rec-Rec.ensures, ← c.deref-in-Rec-Rec-2.ensures, ← c.deref-in-Rec-Rec-3.ensures, ← c.deref-in-Rec-Rec-4.ensures) c.join_records.ensures
 
 pub join-returns-in_ok-record-in-Result-Result : goal.join-returns-in_ok-record-in-Result-Result
 join-returns-in_ok-record-in-Result-Result t c =
@@ -51,24 +52,26 @@ join-returns-in_ok-record-in-Result-Result t c =
       ← c.deref-in-Result-Result.ensures,
       ← c.deref-in-Result-Result-2.ensures,
       ← c.deref-in-Result-Result-3.ensures,
-      ← c.deref-in-Result-Result-4.ensures.value,
-      ← c.deref-in-Result-Result-5.ensures,
-      ← c.deref-in-Result-Result-6.ensures.value,
+      ← c.deref-in-Result-Result-4.ensures,
+      ← c.deref-in-Result-Result-5.ensures.value,
+      ← c.deref-in-Result-Result-6.ensures,
+      ← c.deref-in-Result-Result-7.ensures,
+      ← c.deref-in-Result-Result-8.ensures.value,
       ← c.in_ok-record-in-Result-Result.ensures,
     ) c.result_of.ensures
 
 pub join_records-returns : goal.join_records-returns
 join_records-returns t c =
-    kind_view-Rec c.in_ok-new.field-0 ∙ ap (λ (m : BTreeMap (String Global) (Slot Kind)). recs (slots_view m.entries)) c.in_ok-new.ensures.ok ∙ ap recs c.in_ok-slots.ensures
+    rw (← c.in_ok-slots.ensures) c.of_slots.ensures
 
 pub join_with_record-returns-in-Rec : goal.join_with_record-returns-in-Rec
 join_with_record-returns-in-Rec t c =
     let p = c.in-Rec in
-    rw (p.is, kind_view-Rec p.others, ← c.deref.ensures, ← c.deref-in-Rec.ensures) c.join_records.ensures
+    rw (p.is, kind_view-Rec p.others, ← c.deref.ensures, ← c.deref-in-Rec.ensures, ← c.deref-in-Rec-2.ensures, ← c.deref-in-Rec-3.ensures) c.join_records.ensures
 
 pub join_with_record-returns-in_ok-clone-in-Never : goal.join_with_record-returns-in_ok-clone-in-Never
 join_with_record-returns-in_ok-clone-in-Never t c =
-    rw (c.in-Never.is, kind_view-Never) (kind_view-Rec c.in_ok-clone-in-Never.field-0 ∙ ap (λ (m : BTreeMap (String Global) (Slot Kind)). recs (slots_view m.entries)) c.in_ok-clone-in-Never.ensures.cases)
+    rw (c.in-Never.is, kind_view-Never) (kind_view-Rec c.in_ok-clone-in-Never.field-0 ∙ ap (λ (m : Weighed (BTreeMap (String Global) (Slot Kind))). recs (slots_view m.parts.entries)) c.in_ok-clone-in-Never.ensures.cases)
 
 pub meet_slots-returns : goal.meet_slots-returns
 meet_slots-returns t c =

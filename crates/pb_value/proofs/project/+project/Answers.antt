@@ -106,22 +106,22 @@ project_onto-returns-in_default t c = search (rules, kind_lemmas, value_lemmas)
 pub project_onto-returns-then-len-most : goal.project_onto-returns-then-len-most
 project_onto-returns-then-len-most t c =
     let p = c.in-List-List in
-    let size : c.len.result ≡ length p.items.value.items = omega (arith, ap length (ap (λ v. v.items) c.deref-in-List-List.ensures), c.len.ensures) in
-    let above : p.most < length p.items.value.items = omega (arith, size, c.if-len-most.true) in
-    sym (rw (p.is-0, p.is-1, view-List, kind_view-List, projected-long p.items.value.items (kind_view p.item.value) p.most above) refl)
+    let size : c.len.result ≡ length p.items.value.parts.items = omega (arith, ap length (ap (λ v. v.items) (c.deref-in-List-List-2.ensures ∙ ap (λ w. w.parts) c.deref-in-List-List.ensures)), c.len.ensures) in
+    let above : p.most < length p.items.value.parts.items = omega (arith, size, c.if-len-most.true) in
+    sym (rw (p.is-0, p.is-1, view-List, kind_view-List, projected-long p.items.value.parts.items (kind_view p.item.value.parts) p.most above) refl)
 
 pub project_onto-returns-in_ok-kept-in-List-List : goal.project_onto-returns-in_ok-kept-in-List-List
 project_onto-returns-in_ok-kept-in-List-List t c =
     let p = c.in-List-List in
-    let size : c.len.result ≡ length p.items.value.items = omega (arith, ap length (ap (λ v. v.items) c.deref-in-List-List.ensures), c.len.ensures) in
-    let at_most : length p.items.value.items ≤ p.most = omega (arith, size, c.if-len-most.false) in
-    let each = rw (c.deref-in-List-List-2.ensures, c.deref-in-List-List-4.ensures.value, c.deref-in-List-List-3.ensures) at c.in_ok-kept-in-List-List.ensures in
-    rw (p.is-0, p.is-1, view-List, kind_view-List, projected-short p.items.value.items (kind_view p.item.value) p.most at_most, ← each) c.list_of.ensures
+    let size : c.len.result ≡ length p.items.value.parts.items = omega (arith, ap length (ap (λ v. v.items) (c.deref-in-List-List-2.ensures ∙ ap (λ w. w.parts) c.deref-in-List-List.ensures)), c.len.ensures) in
+    let at_most : length p.items.value.parts.items ≤ p.most = omega (arith, size, c.if-len-most.false) in
+    let each = rw (c.deref-in-List-List-4.ensures, c.deref-in-List-List-3.ensures, c.deref-in-List-List-7.ensures.value, c.deref-in-List-List-6.ensures, c.deref-in-List-List-5.ensures) at c.in_ok-kept-in-List-List.ensures in
+    rw (p.is-0, p.is-1, view-List, kind_view-List, projected-short p.items.value.parts.items (kind_view p.item.value.parts) p.most at_most, ← each) c.list_of.ensures
 
 pub project_onto-returns-in_ok-kept-in-Rec-Rec : goal.project_onto-returns-in_ok-kept-in-Rec-Rec
 project_onto-returns-in_ok-kept-in-Rec-Rec t c =
     let p = c.in-Rec-Rec in
-    let all = rw (c.deref-in-Rec-Rec.ensures, c.deref-in-Rec-Rec-2.ensures) at c.in_ok-kept-in-Rec-Rec.ensures in
+    let all = rw (c.deref-in-Rec-Rec-2.ensures, c.deref-in-Rec-Rec.ensures, c.deref-in-Rec-Rec-4.ensures, c.deref-in-Rec-Rec-3.ensures) at c.in_ok-kept-in-Rec-Rec.ensures in
     rw (p.is-0, p.is-1, view-Rec, kind_view-Rec, ← all) c.record_of.ensures
 
 pub project_onto-returns-then-has_name : goal.project_onto-returns-then-has_name

@@ -11,12 +11,12 @@ use Rattle.pb_verify.proofs.results.failed_result.Goals as goal
 
 pub failed_kind-requires : goal.failed_kind-requires
 failed_kind-requires c =
-    let view : kind_view c.fail_shape.result.now ≡ recs (slots_view c.deref.result.now.entries) = ap kind_view c.in-Rec.is ∙ kind_view-Rec c.in-Rec.fields ∙ rw c.deref.ensures refl in
+    let view : kind_view c.fail_shape.result.now ≡ recs (slots_view c.deref-in-Rec.result.now.entries) = ap kind_view c.in-Rec.is ∙ kind_view-Rec c.in-Rec.fields ∙ rw (c.deref-in-Rec.ensures, c.deref.ensures) refl in
     let shape : is_shape (kind_view c.fail_shape.result.now) ≡ true = and-left (is_shape (kind_view c.fail_shape.result.now)) (has_message (kind_view c.fail_shape.result.now)) c.fail_shape.ensures.lawful in
-    unfailed (slots_view c.deref.result.now.entries) (ap is_shape (sym view) ∙ shape)
+    unfailed (slots_view c.deref-in-Rec.result.now.entries) (ap is_shape (sym view) ∙ shape)
 
 pub returns : goal.returns
 returns c =
-    let view : kind_view c.args.found.now.failure ≡ recs (slots_view c.deref.result.now.entries) = sym c.fail_shape.ensures.gives ∙ ap kind_view c.in-Rec.is ∙ kind_view-Rec c.in-Rec.fields ∙ rw c.deref.ensures refl in
-    let shape : slots_of (kind_view c.args.found.now.failure) ≡ slots_view c.deref.result.now.entries = ap slots_of view in
+    let view : kind_view c.args.found.now.failure ≡ recs (slots_view c.deref-in-Rec.result.now.entries) = sym c.fail_shape.ensures.gives ∙ ap kind_view c.in-Rec.is ∙ kind_view-Rec c.in-Rec.fields ∙ rw (c.deref-in-Rec.ensures, c.deref.ensures) refl in
+    let shape : slots_of (kind_view c.args.found.now.failure) ≡ slots_view c.deref-in-Rec.result.now.entries = ap slots_of view in
     MatchResult-weaker c.failed_kind.result c.failed_kind.ensures (λ k e. e ∙ rw (shape, c.name.ensures) refl) (λ y e. tt)

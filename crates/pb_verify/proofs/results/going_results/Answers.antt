@@ -10,17 +10,17 @@ use Rattle.pb_verify.proofs.results.going_results.Goals as goal
 
 pub of-requires : goal.of-requires
 of-requires c =
-    let view : kind_view c.ok_shape.result.now ≡ recs (slots_view c.deref.result.now.entries) = ap kind_view c.in-Rec.is ∙ kind_view-Rec c.in-Rec.fields ∙ rw c.deref.ensures refl in
-    unfailed (slots_view c.deref.result.now.entries) (ap is_shape (sym view) ∙ c.ok_shape.ensures.lawful)
+    let view : kind_view c.ok_shape.result.now ≡ recs (slots_view c.deref-in-Rec.result.now.entries) = ap kind_view c.in-Rec.is ∙ kind_view-Rec c.in-Rec.fields ∙ rw (c.deref-in-Rec.ensures, c.deref.ensures) refl in
+    unfailed (slots_view c.deref-in-Rec.result.now.entries) (ap is_shape (sym view) ∙ c.ok_shape.ensures.lawful)
 
 pub returns-clause-ran : goal.returns-clause-ran
 returns-clause-ran c =
-    let view : kind_view c.args.found.now.ok ≡ recs (slots_view c.deref.result.now.entries) = sym c.ok_shape.ensures.gives ∙ ap kind_view c.in-Rec.is ∙ kind_view-Rec c.in-Rec.fields ∙ rw c.deref.ensures refl in
-    let shape : slots_of (kind_view c.args.found.now.ok) ≡ slots_view c.deref.result.now.entries = ap slots_of view in
+    let view : kind_view c.args.found.now.ok ≡ recs (slots_view c.deref-in-Rec.result.now.entries) = sym c.ok_shape.ensures.gives ∙ ap kind_view c.in-Rec.is ∙ kind_view-Rec c.in-Rec.fields ∙ rw (c.deref-in-Rec.ensures, c.deref.ensures) refl in
+    let shape : slots_of (kind_view c.args.found.now.ok) ≡ slots_view c.deref-in-Rec.result.now.entries = ap slots_of view in
     MatchResult-weaker c.of.result c.of.ensures.ran (λ r e. e ∙ rw (shape, c.name.ensures) refl) (λ y e. tt)
 
 pub returns-clause-skipped : goal.returns-clause-skipped
 returns-clause-skipped c =
-    let view : kind_view c.args.found.now.ok ≡ recs (slots_view c.deref.result.now.entries) = sym c.ok_shape.ensures.gives ∙ ap kind_view c.in-Rec.is ∙ kind_view-Rec c.in-Rec.fields ∙ rw c.deref.ensures refl in
-    let shape : slots_of (kind_view c.args.found.now.ok) ≡ slots_view c.deref.result.now.entries = ap slots_of view in
+    let view : kind_view c.args.found.now.ok ≡ recs (slots_view c.deref-in-Rec.result.now.entries) = sym c.ok_shape.ensures.gives ∙ ap kind_view c.in-Rec.is ∙ kind_view-Rec c.in-Rec.fields ∙ rw (c.deref-in-Rec.ensures, c.deref.ensures) refl in
+    let shape : slots_of (kind_view c.args.found.now.ok) ≡ slots_view c.deref-in-Rec.result.now.entries = ap slots_of view in
     MatchResult-weaker c.of.result c.of.ensures.skipped (λ r e. e ∙ rw (shape, c.name.ensures) refl) (λ y e. tt)

@@ -13,7 +13,7 @@ use Rattle.pb_sig.specs.Modules.{module_at}
 use Rattle.pb_value.specs.FromJson.{json_data}
 use Rattle.pb_language.specs.Expression.{Name, Expression, literal, list_of, record_of, Expressions}
 use Rattle.pb_language.specs.Expression.{no_expressions, expression, Parts, no_parts, part}
-use Rattle.pb_language.specs.Grammar.{expression_of, template_of, has_opening}
+use Rattle.pb_language.specs.plain.Grammar.{expression_of, template_of, has_opening}
 use Rattle.pb_language.specs.Rules.{is_variable_name}
 use Rattle.pb_language.specs.Book as language
 use Rattle.pb_language.specs.Book.{module_work, debug_work, set_fact_work}

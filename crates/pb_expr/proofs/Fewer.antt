@@ -2,9 +2,9 @@
 use Rattle.std.proofs.Common.{◌≡◌, ℕ, zero, suc, ◌<◌, ◌≤◌, List, Bool, true, false, cond, Option, Some, None, subst, arith}
 use Rattle.pb_semantics.specs.Keeps.{is_among}
 use Rattle.pb_language.specs.Expression.{Name, Expression, Expressions, negation, conjunction, disjunction}
-use Rattle.pb_language.specs.Grammar.{Reading, reading, Reader, Deeper, before, letters_of, step_then, behind_dot, steps_of, as_path, path_of, closed, literal_of, literal_before, operand_at, unfiltered, operand_of, with_tree, related, with_operand, relation_of, negation_of, behind_word, with_first, chain_on, chain_from, chain_of, as_chain, count_of, conjunction_of, disjunction_of, deeper}
+use Rattle.pb_language.specs.plain.Grammar.{Reading, reading, Reader, Deeper, before, letters_of, step_then, behind_dot, steps_of, as_path, path_of, closed, literal_of, literal_before, operand_at, unfiltered, operand_of, with_tree, related, with_operand, relation_of, negation_of, behind_word, with_first, chain_on, chain_from, chain_of, as_chain, count_of, conjunction_of, disjunction_of, deeper}
 use Rattle.pb_language.specs.Simple.{shared_names}
-use Rattle.pb_language.specs.Tokens.{Tokens, Word, finish, unreadable, token, name, word, sign, and_word, or_word, not_word, in_word, is_word, opening, closing, dot, equals, differs, order, bar, bracket}
+use Rattle.pb_language.specs.plain.Tokens.{Tokens, Word, finish, unreadable, token, name, word, sign, and_word, or_word, not_word, in_word, is_word, opening, closing, dot, equals, differs, order, bar, bracket}
 
 -- where something is read, fewer tokens than that are left
 abbrev pub Leaves : {T : Type 0} → ℕ → Option (Reading T) → Type 0

@@ -7,7 +7,7 @@ use Rattle.std.specs.Result.{OkIff, result_ok}
 use Rattle.std.specs.Str.{IsAscii}
 use Rattle.std.specs.Str.Parse.{ParsesSigned, digits_value}
 use Rattle.pb_language.specs.Rules.{are_name_bytes, is_letter, is_digit}
-use Rattle.pb_language.specs.Tokens.{are_digits, is_numeral, number_of}
+use Rattle.pb_language.specs.plain.Tokens.{are_digits, is_numeral, number_of}
 use Rattle.pb_expr.specs.Signs.{begins_numeral}
 
 -- bytes below 128

@@ -2,7 +2,7 @@
 use Rattle.std.specs.Prelude.{◌≡◌, ℕ, ◌+◌, ◌<◌, ◌≤◌, List, length, true, Option, Some, None}
 use Rattle.pb_semantics.specs.Gives.{FaultGives}
 use Rattle.pb_language.specs.Expression.{Expression, negation, membership}
-use Rattle.pb_language.specs.Grammar.{Reader, Reading, reading, with_tree}
+use Rattle.pb_language.specs.plain.Grammar.{Reader, Reading, reading, with_tree}
 use Rattle.pb_language.specs.Simple.{is_simple}
 use Rattle.pb_expr.specs.ExprView.{expr_view}
 use Rattle.pb_expr.specs.Forms.{related_by}

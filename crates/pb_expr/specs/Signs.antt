@@ -1,8 +1,8 @@
 -- What a byte begins, and the sign that a byte makes with a `=` behind it.
 use Rattle.std.specs.Prelude.{ℕ, List, [], ◌∷◌, Bool, true, false, ◌||◌, ◌==◌, cond, Option, Some}
 use Rattle.pb_language.specs.Rules.{is_letter, is_digit}
-use Rattle.pb_language.specs.Tokens.{Sign, is_blank, is_quote, is_paired, sign_of, pair_of}
-use Rattle.pb_language.specs.Tokens.{alone_of}
+use Rattle.pb_language.specs.plain.Tokens.{Sign, is_blank, is_quote, is_paired, sign_of, pair_of}
+use Rattle.pb_language.specs.plain.Tokens.{alone_of}
 use Rattle.pb_expr.specs.declared.lexer.Sort.{Sort}
 use Rattle.pb_expr.specs.declared.lexer.Sort.TheVariants as sort
 

@@ -14,7 +14,7 @@ ghost use Rattle.pb_language.specs.Words.{Tokens, a_number, are_digits, are_name
 ghost use Rattle.pb_language.specs.Words.{is_digit, is_letter, literal, literal_of, number_then};
 ghost use Rattle.pb_language.specs.Words.{quoted, sign_then, token, tokens_from, tokens_of};
 ghost use Rattle.pb_language.specs.Words.{unreadable, word_token};
-ghost use Rattle.pb_language.specs.Tokens as tokens;
+ghost use Rattle.pb_language.specs.plain.Tokens as tokens;
 
 use crate::fault::ExprFault;
 use std::alloc::{AllocError, Global};

@@ -1,9 +1,9 @@
 -- The tokens of an expression's text.
-use Rattle.std.specs.Prelude.{ℕ, ℤ, pos, neg_ℤ, List, [], ◌∷◌, ◌++◌, Bool, true, false, ◌&&◌, ◌||◌}
+use Rattle.std.specs.Prelude.{ℕ, List, [], ◌∷◌, ◌++◌, Bool, true, false, ◌&&◌, ◌||◌}
 use Rattle.std.specs.Prelude.{◌==◌, cond, nat_le, Option, Some, None, codes}
 use Rattle.std.specs.Str.{bytes_eq}
 use Rattle.std.specs.Str.Parse.{digits_value}
-use Rattle.pb_language.specs.Expression.{Name}
+use Rattle.pb_language.specs.Expression.{Name, Comparison, equal, less, at_most, more, at_least}
 use Rattle.pb_language.specs.Rules.{is_letter, is_digit}
 
 -- a word of expressions, by its role
@@ -22,20 +22,21 @@ pub data Sign : Type 0 where
   opening : Sign
   closing : Sign
   dot : Sign
-  equals : Sign
+  -- `==`, `<`, `<=`, `>` or `>=`
+  compares : Comparison → Sign
   differs : Sign
-  -- `<`, `<=`, `>` or `>=`
-  order : Sign
   bar : Sign
-  bracket : Sign
-  -- `]` or `,`
-  stray : Sign
+  opening_bracket : Sign
+  closing_bracket : Sign
+  comma : Sign
 
 pub data Token : Type 0 where
   -- a name that is no word of expressions; a word with its letters
   name : Name → Token
   word : Word → Name → Token
-  number : ℤ → Token
+  -- a whole number of any length, and one behind a `-`
+  digits : ℕ → Token
+  minus : ℕ → Token
   -- a text in quotes, by what it means
   quoted : Name → Token
   sign : Sign → Token
@@ -69,18 +70,13 @@ is_numeral [] = false
 is_numeral (b ∷ []) = is_digit b
 is_numeral (b ∷ c ∷ bs) = (is_digit b && nat_le 49 b) && are_digits (c ∷ bs)
 
--- a whole number of 64 bits: digits, and perhaps `-` before them
-abbrev pub positive : Name → Option ℤ
-positive ds = cond (is_numeral ds && nat_le (digits_value 10 ds) 9223372036854775807)
-    (Some (pos (digits_value 10 ds))) None
+-- digits, and perhaps `-` before them
+abbrev pub digits_of : (ℕ → Token) → Name → Option Token
+digits_of make ds = cond (is_numeral ds) (Some (make (digits_value 10 ds))) None
 
-abbrev pub negative : Name → Option ℤ
-negative ds = cond (is_numeral ds && nat_le (digits_value 10 ds) 9223372036854775808)
-    (Some (neg_ℤ (pos (digits_value 10 ds)))) None
-
-abbrev pub number_of : Name → Option ℤ
+abbrev pub number_of : Name → Option Token
 number_of [] = None
-number_of (b ∷ bs) = cond (b == 45) (negative bs) (positive (b ∷ bs))
+number_of (b ∷ bs) = cond (b == 45) (digits_of minus bs) (digits_of digits (b ∷ bs))
 
 -- what `\` before a byte stands for
 abbrev pub escape_of : ℕ → Option ℕ
@@ -105,23 +101,25 @@ sign_of b =
     (cond (b == 41) (Some closing)
     (cond (b == 46) (Some dot)
     (cond (b == 124) (Some bar)
-    (cond (b == 91) (Some bracket)
-    (cond ((b == 93) || (b == 44)) (Some stray) None)))))
+    (cond (b == 91) (Some opening_bracket)
+    (cond (b == 93) (Some closing_bracket)
+    (cond (b == 44) (Some comma) None))))))
 
 -- such a byte with `=`, and alone
 abbrev pub pair_of : ℕ → Sign
-pair_of b = cond (b == 61) equals (cond (b == 33) differs order)
+pair_of b = cond (b == 61) (compares equal)
+    (cond (b == 33) differs (compares (cond (b == 60) at_most at_least)))
 
 abbrev pub alone_of : ℕ → Option Sign
-alone_of b = cond ((b == 60) || (b == 62)) (Some order) None
+alone_of b = cond (b == 60) (Some (compares less)) (cond (b == 62) (Some (compares more)) None)
 
 abbrev pub sign_then : Option Sign → Tokens → Tokens
 sign_then None ts = unreadable
 sign_then (Some s) ts = token (sign s) ts
 
-abbrev pub number_then : Option ℤ → Tokens → Tokens
+abbrev pub number_then : Option Token → Tokens → Tokens
 number_then None ts = unreadable
-number_then (Some z) ts = token (number z) ts
+number_then (Some t) ts = token t ts
 
 -- the part of a token that stands before some place, with what a text means so far
 pub data Begun : Type 0 where

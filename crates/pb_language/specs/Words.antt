@@ -15,11 +15,11 @@ pub use Rattle.pb_language.specs.Fit.{are_booleans, asks, can_compare, can_find,
 pub use Rattle.pb_language.specs.Fit.{fields_fault, first, is_any, is_boolean, is_text, items_fault}
 pub use Rattle.pb_language.specs.Fit.{read_fault, steps_fault, wrong_kind}
 pub use Rattle.pb_language.specs.Give.{Answer, object, skip_fields}
-pub use Rattle.pb_language.specs.Grammar.{Deeper, closed, conjunction_of, cut, cut_in, deeper}
-pub use Rattle.pb_language.specs.Grammar.{disjunction_of, expression_of, has_opening, is_mark}
-pub use Rattle.pb_language.specs.Grammar.{literal_before, literal_of, negation_of, operand_at}
-pub use Rattle.pb_language.specs.Grammar.{operand_of, path_of, reading, related, relation_of}
-pub use Rattle.pb_language.specs.Grammar.{steps_of, template_of}
+pub use Rattle.pb_language.specs.plain.Grammar.{Deeper, closed, conjunction_of, cut, cut_in, deeper}
+pub use Rattle.pb_language.specs.plain.Grammar.{disjunction_of, expression_of, has_opening, is_mark}
+pub use Rattle.pb_language.specs.plain.Grammar.{literal_before, literal_of, negation_of, operand_at}
+pub use Rattle.pb_language.specs.plain.Grammar.{operand_of, path_of, reading, related, relation_of}
+pub use Rattle.pb_language.specs.plain.Grammar.{steps_of, template_of}
 pub use Rattle.pb_language.specs.Judged.{judged}
 pub use Rattle.pb_language.specs.Judgement.{action_fault, arguments_fault, conditions_fault}
 pub use Rattle.pb_language.specs.Judgement.{parameter_kind}
@@ -39,9 +39,9 @@ pub use Rattle.pb_language.specs.Start.{acts, all_changes, calls, eval_action, p
 pub use Rattle.pb_language.specs.Start.{unchanged, with_pass}
 pub use Rattle.pb_language.specs.Tables.{written_spot}
 pub use Rattle.pb_language.specs.Task.{call_of}
-pub use Rattle.pb_language.specs.Tokens.{Tokens, a_number, are_digits, escape_of, is_quote}
-pub use Rattle.pb_language.specs.Tokens.{number_then, quoted, sign_then, token, tokens_from}
-pub use Rattle.pb_language.specs.Tokens.{tokens_of, unreadable, word_token}
+pub use Rattle.pb_language.specs.plain.Tokens.{Tokens, a_number, are_digits, escape_of, is_quote}
+pub use Rattle.pb_language.specs.plain.Tokens.{number_then, quoted, sign_then, token, tokens_from}
+pub use Rattle.pb_language.specs.plain.Tokens.{tokens_of, unreadable, word_token}
 pub use Rattle.pb_language.specs.Verdict.{accepted, code_of}
 pub use Rattle.pb_language.specs.World.{World}
 pub use Rattle.pb_language.specs.plain.Books.{are_plain_tasks, is_plain_task, lone_host, task_data}

@@ -5,3 +5,6 @@ pub mod Flow
 pub mod Tables
 pub mod Machine
 pub mod Gives
+pub mod Tokens
+pub mod Grammar
+pub mod Derivations

@@ -2,8 +2,8 @@
 use Rattle.std.specs.Prelude.{◌≡◌, refl, pos, negsuc, [], ◌∷◌, ◌++◌, List, ℕ, true, Some, None, codes, suc, zero}
 use Rattle.pb_semantics.specs.Data.{boolean, int, text}
 use Rattle.pb_language.specs.Expression.{equal, literal, path, negation, conjunction, disjunction, comparison, membership, variable, Expression, no_expressions, expression}
-use Rattle.pb_language.specs.Tokens.{finish, token, quoted, sign, equals, tokens_of}
-use Rattle.pb_language.specs.Grammar.{cut, cut_in, expression_of, template_of}
+use Rattle.pb_language.specs.plain.Tokens.{finish, token, quoted, sign, equals, tokens_of}
+use Rattle.pb_language.specs.plain.Grammar.{cut, cut_in, expression_of, template_of}
 
 abbrev one : Expression
 one = literal (int (pos 1))

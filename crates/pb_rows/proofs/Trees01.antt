@@ -2,7 +2,7 @@
 use Rattle.std.specs.Prelude.{◌≡◌, refl, pos, negsuc, [], ◌∷◌, true, false, Some, None, codes}
 use Rattle.pb_semantics.specs.Data.{boolean, int}
 use Rattle.pb_language.specs.Expression.{equal, literal, path, negation, conjunction, disjunction, comparison, variable, no_expressions, expression}
-use Rattle.pb_language.specs.Grammar.{expression_of}
+use Rattle.pb_language.specs.plain.Grammar.{expression_of}
 
 text_0 : expression_of ([]) ≡ None
 text_0 = refl

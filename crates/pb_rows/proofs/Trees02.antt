@@ -2,7 +2,7 @@
 use Rattle.std.specs.Prelude.{◌≡◌, refl, pos, [], ◌∷◌, false, Some, None, codes}
 use Rattle.pb_semantics.specs.Data.{boolean, int}
 use Rattle.pb_language.specs.Expression.{equal, literal, path, comparison, variable}
-use Rattle.pb_language.specs.Grammar.{expression_of}
+use Rattle.pb_language.specs.plain.Grammar.{expression_of}
 
 text_250 : expression_of (32 ∷ 91 ∷ 114 ∷ 51 ∷ 46 ∷ 112 ∷ 105 ∷ 110 ∷ 103 ∷ 44 ∷ 32 ∷ 49 ∷ 93 ∷ 32 ∷ []) ≡ None
 text_250 = refl

@@ -2,7 +2,7 @@
 use Rattle.std.specs.Prelude.{◌≡◌, refl, pos, [], ◌∷◌, true, false, Some, None, codes}
 use Rattle.pb_semantics.specs.Data.{boolean, int}
 use Rattle.pb_language.specs.Expression.{equal, literal, path, negation, conjunction, comparison, variable, no_expressions, expression}
-use Rattle.pb_language.specs.Grammar.{expression_of}
+use Rattle.pb_language.specs.plain.Grammar.{expression_of}
 
 text_750 : expression_of (32 ∷ 114 ∷ 51 ∷ 46 ∷ 102 ∷ 97 ∷ 105 ∷ 108 ∷ 101 ∷ 100 ∷ 32 ∷ 124 ∷ 32 ∷ 100 ∷ 101 ∷ 102 ∷ 97 ∷ 117 ∷ 108 ∷ 116 ∷ 40 ∷ 91 ∷ 93 ∷ 41 ∷ 32 ∷ []) ≡ None
 text_750 = refl

@@ -2,7 +2,7 @@
 use Rattle.std.specs.Prelude.{◌≡◌, refl, pos, negsuc, [], ◌∷◌, true, false, Some, None, codes}
 use Rattle.pb_semantics.specs.Data.{boolean, int}
 use Rattle.pb_language.specs.Expression.{equal, literal, path, negation, conjunction, disjunction, comparison, variable, no_expressions, expression}
-use Rattle.pb_language.specs.Grammar.{expression_of}
+use Rattle.pb_language.specs.plain.Grammar.{expression_of}
 
 text_1000 : expression_of (40 ∷ 115 ∷ 49 ∷ 32 ∷ 33 ∷ 61 ∷ 32 ∷ 91 ∷ 49 ∷ 93 ∷ 41 ∷ 32 ∷ 97 ∷ 110 ∷ 100 ∷ 32 ∷ 40 ∷ 97 ∷ 110 ∷ 115 ∷ 105 ∷ 98 ∷ 108 ∷ 101 ∷ 95 ∷ 104 ∷ 111 ∷ 115 ∷ 116 ∷ 110 ∷ 97 ∷ 109 ∷ 101 ∷ 32 ∷ 105 ∷ 115 ∷ 32 ∷ 100 ∷ 101 ∷ 102 ∷ 105 ∷ 110 ∷ 101 ∷ 100 ∷ 41 ∷ []) ≡ None
 text_1000 = refl

@@ -2,7 +2,7 @@
 use Rattle.std.specs.Prelude.{◌≡◌, refl, pos, [], ◌∷◌, true, false, Some, None, codes}
 use Rattle.pb_semantics.specs.Data.{boolean, int}
 use Rattle.pb_language.specs.Expression.{equal, literal, path, negation, conjunction, disjunction, comparison, membership, variable, no_expressions, expression}
-use Rattle.pb_language.specs.Grammar.{expression_of}
+use Rattle.pb_language.specs.plain.Grammar.{expression_of}
 
 text_1250 : expression_of (codes "inventory_hostname not in ansible_play_batch") ≡ None
 text_1250 = refl

@@ -2,7 +2,7 @@
 use Rattle.std.specs.Prelude.{◌≡◌, refl, pos, [], ◌∷◌, Some, None, codes}
 use Rattle.pb_semantics.specs.Data.{int}
 use Rattle.pb_language.specs.Expression.{equal, literal, path, comparison, variable}
-use Rattle.pb_language.specs.Grammar.{expression_of}
+use Rattle.pb_language.specs.plain.Grammar.{expression_of}
 
 text_1750 : expression_of (codes "w") ≡ Some (path (variable (codes "w")) ([]))
 text_1750 = refl

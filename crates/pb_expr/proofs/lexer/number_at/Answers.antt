@@ -1,7 +1,7 @@
 -- The number that the text has there.
 use Rattle.std.proofs.Common.{drop, w64, sym, ap, ◌∙◌, arith, rules}
 use Rattle.std.proofs.lemmas.Int.{to_z-of_z}
-use Rattle.pb_language.specs.Tokens.{number, number_then, token, tokens_of}
+use Rattle.pb_language.specs.plain.Tokens.{number, number_then, token, tokens_of}
 use Rattle.pb_expr.proofs.Scanned.{number-read}
 use Rattle.pb_expr.proofs.lexer.number_at.Goals as goal
 

@@ -3,7 +3,7 @@ use Rattle.std.proofs.Common.{◌≡◌, ℕ, List, true, Bor, w64, drop, sym, a
 use Rattle.std.proofs.lemmas.List.{take_rest}
 use Rattle.std.proofs.lemmas.Str.{IsUtf8-from_ascii}
 use Rattle.std.specs.Str.Parse.{ParsesSigned}
-use Rattle.pb_language.specs.Tokens.{is_numeral}
+use Rattle.pb_language.specs.plain.Tokens.{is_numeral}
 use Rattle.pb_expr.proofs.Numerals.{ascii-numeral, digits-plain, positive-read, negative-read}
 use Rattle.pb_expr.proofs.lexer.number_of.Goals as goal
 use Rattle.pb_expr.proofs.lexer.number_of.Goals.{then-numeral-eq45, else-numeral-eq45}

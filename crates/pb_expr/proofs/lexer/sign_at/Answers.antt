@@ -1,7 +1,7 @@
 -- The sign that the text has there.
 use Rattle.std.proofs.Common.{◌≡◌, ◌&&◌, false, slice_index, sym, ◌∙◌, arith}
 use Rattle.std.proofs.lemmas.Bool.{and_from, and_left, and_right}
-use Rattle.pb_language.specs.Tokens.{is_paired}
+use Rattle.pb_language.specs.plain.Tokens.{is_paired}
 use Rattle.pb_expr.proofs.Scanned.{sign-double, sign-refused, sign-single}
 use Rattle.pb_expr.proofs.lexer.sign_at.Goals as goal
 use Rattle.pb_expr.proofs.lexer.sign_at.Goals.{else-is_paired-via-then-is_paired+else-is_pair, else-is_paired-via-else-is_paired}

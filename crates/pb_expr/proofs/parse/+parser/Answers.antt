@@ -1,6 +1,6 @@
 use Rattle.std.proofs.Common.{◌∙◌, List, Some, sym, ap, subst, rules}
 use Rattle.pb_language.specs.Expression.{Expression, negation}
-use Rattle.pb_language.specs.Grammar.{Reading, reading, conjunction_of, deeper, negation_of}
+use Rattle.pb_language.specs.plain.Grammar.{Reading, reading, conjunction_of, deeper, negation_of}
 use Rattle.pb_language.specs.Simple.{is_simple, are_simple}
 use Rattle.pb_expr.specs.ExprView.{expr_view, exprs_view}
 use Rattle.pb_expr.specs.Letters.{tokens_at}

@@ -1,5 +1,5 @@
 use Rattle.std.proofs.Common.{◌≡◌, None, drop, length, slice_range, ◌-◌, ◌≤◌}
-use Rattle.pb_language.specs.Grammar.{cut_in}
+use Rattle.pb_language.specs.plain.Grammar.{cut_in}
 use Rattle.pb_expr.specs.Forms.{with_bytes}
 use Rattle.pb_expr.proofs.parse.closing_of.Given as goal
 

@@ -1,5 +1,5 @@
 use Rattle.std.proofs.Common.{◌≡◌, ◌+◌, ◌&&◌, ◌==◌, false, get_or, sym, rules}
-use Rattle.pb_language.specs.Grammar.{is_mark}
+use Rattle.pb_language.specs.plain.Grammar.{is_mark}
 use Rattle.pb_expr.proofs.Braces.{opening-goes, opening-ends, not-first, not-second}
 use Rattle.pb_expr.proofs.parse.opening_of.Goals as goal
 use Rattle.pb_expr.proofs.parse.opening_of.Goals.{else-text-at-eq123-via-then-text-at-eq123+else-is_opening, else-text-at-eq123-via-else-text-at-eq123}

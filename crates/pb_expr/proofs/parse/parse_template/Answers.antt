@@ -2,7 +2,7 @@ use Rattle.std.proofs.Common.{Some, length, refl, sym, ap, ◌∙◌, subst, ari
 use Rattle.pb_semantics.specs.Data.{text}
 use Rattle.pb_semantics.specs.Gives.{Gives}
 use Rattle.pb_language.specs.Expression.{literal}
-use Rattle.pb_language.specs.Grammar.{template_of}
+use Rattle.pb_language.specs.plain.Grammar.{template_of}
 use Rattle.pb_expr.specs.ExprView.{expr_view}
 use Rattle.pb_expr.specs.Trees.{no_tree}
 use Rattle.pb_expr.proofs.Braces.{template-none, template-later, template-other, template-unclosed, template-part, template-whole}

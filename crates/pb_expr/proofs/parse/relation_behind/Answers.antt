@@ -1,5 +1,5 @@
 use Rattle.std.proofs.Common.{rules}
-use Rattle.pb_language.specs.Grammar.{operand_of}
+use Rattle.pb_language.specs.plain.Grammar.{operand_of}
 use Rattle.pb_expr.proofs.Relations.{related-sign, related-not-in}
 use Rattle.pb_expr.proofs.parse.relation_behind.Goals as goal
 

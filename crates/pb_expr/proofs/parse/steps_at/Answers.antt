@@ -1,5 +1,5 @@
 use Rattle.std.proofs.Common.{◌-◌, sym, ap, ◌∙◌, rules, arith, vec_len, List, String, Global}
-use Rattle.pb_language.specs.Grammar.{steps_of}
+use Rattle.pb_language.specs.plain.Grammar.{steps_of}
 use Rattle.pb_expr.specs.ExprView.{names_of}
 use Rattle.pb_expr.specs.Letters.{tokens_at}
 use Rattle.pb_expr.proofs.Refusals.{refuses-none, passed-refused}

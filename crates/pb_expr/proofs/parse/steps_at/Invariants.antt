@@ -1,4 +1,4 @@
-use Rattle.pb_language.specs.Grammar.{steps_of}
+use Rattle.pb_language.specs.plain.Grammar.{steps_of}
 use Rattle.pb_expr.specs.ExprView.{names_of}
 use Rattle.pb_expr.specs.Letters.{tokens_at}
 use Rattle.pb_expr.specs.Reads.{IsToken}

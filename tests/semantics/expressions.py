@@ -10,6 +10,9 @@ TOKEN = re.compile(
 )
 ESCAPES = {"\\": "\\", "'": "'", '"': '"', "n": "\n", "t": "\t"}
 TESTS = {"failed": "is_failed", "changed": "is_changed", "skipped": "is_skipped", "succeeded": "is_failed"}
+DEEPEST = 32
+MOST_STEPS = 16
+MOST_HOSTS = 1024
 ORDERS = {"<": "less", "<=": "at_most", ">": "more", ">=": "at_least"}
 
 
@@ -62,6 +65,16 @@ class Reader:
     def __init__(self, text):
         self.tokens = tokens(text)
         self.place = 0
+        self.levels = 0
+
+    def deeper(self, read):
+        """What stands one level deeper."""
+        self.levels += 1
+        if self.levels > DEEPEST:
+            raise Unreadable("too deep")
+        tree = read()
+        self.levels -= 1
+        return tree
 
     def peek(self, *signs):
         kind, value = self.tokens[self.place]
@@ -74,8 +87,14 @@ class Reader:
         self.place += 1
         return token
 
+    def name(self):
+        kind, value = self.take()
+        if kind != "name":
+            raise Unreadable(value)
+        return value
+
     def whole(self):
-        tree = self.chain("or", lambda: self.chain("and", self.negated))
+        tree = self.inner()
         if self.tokens[self.place][0] != "end":
             raise Unreadable(str(self.tokens))
         return tree
@@ -93,7 +112,7 @@ class Reader:
     def negated(self):
         if self.peek("not"):
             self.take()
-            return ("not", self.negated())
+            return ("not", self.deeper(self.negated))
         return self.related()
 
     def related(self):
@@ -121,7 +140,7 @@ class Reader:
         return left
 
     def test(self, left):
-        word = self.take()[1]
+        word = self.name()
         if word in ("defined", "undefined"):
             tree = ("defined", left)
             return ("not", tree) if word == "undefined" else tree
@@ -132,18 +151,18 @@ class Reader:
         tree = self.primary()
         while self.peek("|"):
             self.take()
-            word = self.take()[1]
+            word = self.name()
             if word == "length":
                 tree = ("length", tree)
             elif word == "default":
                 self.take("(")
-                tree = ("default", tree, self.inner())
+                tree = ("default", tree, self.deeper(self.inner))
                 self.take(")")
             elif word == "join":
                 between = ("literal", '(text [])')
                 if self.peek("("):
                     self.take()
-                    between = self.inner()
+                    between = self.deeper(self.inner)
                     self.take(")")
                 tree = ("join", tree, between)
             else:
@@ -153,6 +172,8 @@ class Reader:
     def primary(self):
         kind, value = self.take()
         if kind == "int":
+            if not -(2**63) <= int(value) < 2**63:
+                raise Unreadable(value)
             return ("literal", integer(int(value)))
         if kind == "text":
             return ("text", text_of(value))
@@ -161,11 +182,11 @@ class Reader:
         if value in ("none", "None"):
             return ("literal", "null")
         if value == "(":
-            tree = self.inner()
+            tree = self.deeper(self.inner)
             self.take(")")
             return tree
         if value == "[":
-            return self.listed()
+            return self.deeper(self.listed)
         if kind != "name" or value in WORDS:
             raise Unreadable(value)
         if value == "hostvars":
@@ -182,26 +203,28 @@ class Reader:
         self.take("]")
         return ("list", trees)
 
-    def steps(self):
+    def steps(self, most=MOST_STEPS):
+        """The steps of a path, and the place in a group where one ends it."""
         found = []
         while self.peek(".", "["):
             if self.take()[1] == ".":
-                found.append(self.take()[1])
-                continue
-            kind, value = self.take()
-            if kind == "int" and len(found) == 1:
+                found.append(self.name())
+            else:
+                kind, value = self.take()
                 self.take("]")
-                return found, int(value)
-            if kind != "text":
-                raise Unreadable(value)
-            found.append(text_of(value))
-            self.take("]")
+                if kind == "int" and not value.startswith("-"):
+                    return found, min(int(value), MOST_HOSTS)
+                if kind != "text":
+                    raise Unreadable(value)
+                found.append(text_of(value))
+            if len(found) > most:
+                raise Unreadable("too many steps")
         return found, None
 
     def path(self, name):
         found, number = self.steps()
         if number is not None:
-            if name != "groups":
+            if name != "groups" or len(found) != 1:
                 raise Unreadable(name)
             return ("path", f"(member {codes(found[0])} {number})", [], ("group", found[0], number))
         return ("path", f"(variable {codes(name)})", found, name)
@@ -210,11 +233,13 @@ class Reader:
         if not self.peek(".", "["):
             return ("hostvars", "None")
         if self.take()[1] == ".":
-            term = f"(named_host {codes(self.take()[1])})"
+            term = f"(named_host {codes(self.name())})"
         else:
             term = self.term()
             self.take("]")
-        found, _ = self.steps()
+        found, number = self.steps(MOST_STEPS - 1)
+        if number is not None:
+            raise Unreadable("a place")
         if not found:
             return ("hostvars", f"(Some {term})")
         return ("path", f"(other {term} {codes(found[0])})", found[1:], None)
@@ -228,6 +253,8 @@ class Reader:
         if value == "item":
             return "item_host"
         found, number = self.steps()
+        if value != "groups" or len(found) != 1 or number is None:
+            raise Unreadable(value)
         return f"(group_member {codes(found[0])} {number})"
 
 
@@ -307,10 +334,13 @@ def cut(text):
     """The parts of a template: texts and, in pairs, expressions."""
     found, place = [], 0
     while True:
-        start = text.find("{{", place)
-        if start < 0:
+        opening = re.compile(r"\{[{%#]").search(text, place)
+        if not opening:
             found.append(text[place:])
             return found
+        start = opening.start()
+        if opening.group() != "{{":
+            raise Unreadable(text)
         found.append(text[place:start])
         match = re.compile(r"(?:'(?:[^'\\]|\\.)*'|\"(?:[^\"\\]|\\.)*\"|(?!\}\}).)*?\}\}", re.S).match(text, start + 2)
         if not match:

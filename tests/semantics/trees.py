@@ -1,23 +1,20 @@
 """The texts of the cases' expressions, with the trees that the grammar gives them, as rows.
 
-The trees are read by expressions.py, which knows the whole language; a text of a form that the program doesn't read yet
-has none. Texts with quotes are left out, since what is UTF-8 isn't computed.
+The trees are read by expressions.py, apart from the definitions. Texts with quotes are left out, since what is UTF-8 isn't
+computed.
 """
 
 import json
 import re
 
-from expressions import Reader, Unreadable, codes, term
+from expressions import Unreadable, codes, expression, template
 
 PER_FILE = 250
-DEEPEST = 32
-MOST_STEPS = 16
 CONDITIONS = ("when", "changed_when", "failed_when", "that")
-SHARED = ("groups", "hostvars", "ansible_play_batch")
 IMPORTS = """use Rattle.std.specs.Prelude.{◌≡◌, refl, pos, negsuc, [], ◌∷◌, true, false, Some, None, codes}
-use Rattle.pb_semantics.specs.Data.{boolean, int}
-use Rattle.pb_language.specs.Expression.{equal, literal, path, negation, conjunction, disjunction, comparison, membership, variable, no_expressions, expression}
-use Rattle.pb_language.specs.Grammar.{expression_of}
+use Rattle.pb_semantics.specs.Data.{boolean, int, null, text}
+use Rattle.pb_language.specs.Expression.{equal, less, at_most, more, at_least, is_failed, is_changed, is_skipped, named_host, this_host, item_host, group_member, literal, path, hostvars_alone, negation, conjunction, disjunction, comparison, membership, in_batch, defined, undefinable, path_status, value_status, path_or, value_or, length_of, joined_by, concatenation, list_of, variable, other, member, no_expressions, expression}
+use Rattle.pb_language.specs.Grammar.{expression_of, template_of}
 """
 
 
@@ -37,45 +34,47 @@ def texts_in(value):
             yield whole.group(1)
 
 
-def is_built(tree):
-    """Whether the program reads trees of that form."""
-    kind = tree[0]
-    if kind == "literal":
-        return tree[1] != "null"
-    if kind == "path":
-        return isinstance(tree[3], str) and tree[3] not in SHARED and len(tree[2]) <= MOST_STEPS
-    if kind in ("and", "or"):
-        return all(is_built(part) for part in tree[1])
-    if kind == "compare":
-        return tree[1] == "equal" and is_built(tree[2]) and is_built(tree[3])
-    return kind in ("not", "in") and all(is_built(part) for part in tree[1:])
+def templates_in(value):
+    """The other texts in a part of a book that have a brace."""
+    if isinstance(value, dict):
+        for key, part in value.items():
+            if key not in CONDITIONS:
+                yield from templates_in(part)
+    elif isinstance(value, list):
+        for part in value:
+            yield from templates_in(part)
+    elif isinstance(value, str) and "{" in value:
+        yield value
 
 
-def is_within_limits(text):
-    """Whether the numbers have 64 bits and nothing nests too deep; each parenthesis and `not` of a text is counted."""
-    numbers = [int(number) for number in re.findall(r"-?[0-9]+", text)]
-    deep = text.count("(") + len(re.findall(r"\bnot\b", text))
-    return deep <= DEEPEST and all(-(2**63) <= number < 2**63 for number in numbers)
-
-
-def tree_term(text):
+def tree_term(read, text):
     try:
-        tree = Reader(text).whole()
+        return f"Some {read(text)}"
     except (Unreadable, ValueError, KeyError, IndexError):
         return "None"
-    return f"Some {term(tree)}" if "[" not in text and is_built(tree) else "None"
+
+
+def is_computed(text):
+    return text.isascii() and not re.search("['\"]", text) and len(text) <= 300
+
+
+def rows_of(cases):
+    expressions, templates = set(), set()
+    for case in cases:
+        try:
+            book = json.loads(case["book"])
+        except (ValueError, TypeError):
+            continue
+        expressions.update(texts_in(book))
+        templates.update(templates_in(book))
+    for reader, read, found in (("expression_of", expression, expressions), ("template_of", template, templates)):
+        for text in sorted(filter(is_computed, found)):
+            yield reader, codes(text), tree_term(read, text)
 
 
 def files(cases):
     """The text of each file of rows, by its name."""
-    found = set()
-    for case in cases:
-        try:
-            found.update(texts_in(json.loads(case["book"])))
-        except (ValueError, TypeError):
-            continue
-    chosen = [text for text in sorted(found) if text.isascii() and not re.search("['\"]", text) and len(text) <= 300 and is_within_limits(text)]
-    rows = [f"text_{number} : expression_of {codes(text)} ≡ {tree_term(text)}\ntext_{number} = refl\n" for number, text in enumerate(chosen)]
+    rows = [f"text_{number} : {reader} {text} ≡ {tree}\ntext_{number} = refl\n" for number, (reader, text, tree) in enumerate(rows_of(cases))]
     texts = {}
     for number, start in enumerate(range(0, len(rows), PER_FILE)):
         texts[f"Trees{number + 1:02}"] = "-- The trees of expressions of cases, computed.\n" + IMPORTS + "\n" + "\n".join(rows[start : start + PER_FILE])

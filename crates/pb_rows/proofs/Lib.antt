@@ -78,3 +78,8 @@ pub mod Trees05
 pub mod Trees06
 pub mod Trees07
 pub mod Trees08
+pub mod Trees09
+pub mod Trees10
+pub mod Trees11
+pub mod Trees12
+pub mod Trees13

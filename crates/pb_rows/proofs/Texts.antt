@@ -1,9 +1,9 @@
 -- The trees of some texts, computed.
 use Rattle.std.specs.Prelude.{◌≡◌, refl, pos, negsuc, [], ◌∷◌, ◌++◌, List, ℕ, true, Some, None, codes, suc, zero}
 use Rattle.pb_semantics.specs.Data.{boolean, int, text}
-use Rattle.pb_language.specs.Expression.{equal, literal, path, negation, conjunction, disjunction, comparison, membership, variable, Expression, no_expressions, expression}
-use Rattle.pb_language.specs.plain.Tokens.{finish, token, quoted, sign, equals, tokens_of}
-use Rattle.pb_language.specs.plain.Grammar.{cut, cut_in, expression_of, template_of}
+use Rattle.pb_language.specs.Expression.{equal, literal, path, negation, conjunction, disjunction, comparison, membership, concatenation, member, other, named_host, group_member, hostvars_alone, undefinable, in_batch, variable, Expression, no_expressions, expression}
+use Rattle.pb_language.specs.Tokens.{finish, token, quoted, sign, compares, tokens_of}
+use Rattle.pb_language.specs.Grammar.{cut, ending_in, expression_of, template_of}
 
 abbrev one : Expression
 one = literal (int (pos 1))
@@ -22,7 +22,7 @@ chains : expression_of (codes "1 or 2 or True") ≡ Some (disjunction (expressio
 chains = refl
 
 -- `'a\'b' == "\n"`
-escapes : tokens_of ((39 ∷ 97 ∷ 92 ∷ 39 ∷ 98 ∷ 39 ∷ []) ++ (codes " == " ++ (34 ∷ 92 ∷ 110 ∷ 34 ∷ []))) ≡ token (quoted (97 ∷ 39 ∷ 98 ∷ [])) (token (sign equals) (token (quoted (10 ∷ [])) finish))
+escapes : tokens_of ((39 ∷ 97 ∷ 92 ∷ 39 ∷ 98 ∷ 39 ∷ []) ++ (codes " == " ++ (34 ∷ 92 ∷ 110 ∷ 34 ∷ []))) ≡ token (quoted (97 ∷ 39 ∷ 98 ∷ [])) (token (sign (compares equal)) (token (quoted (10 ∷ [])) finish))
 escapes = refl
 
 -- `'\a'`
@@ -79,7 +79,7 @@ whole : template_of (codes "{{ 1 }}") ≡ Some one
 whole = refl
 
 -- `'}}'}}`
-quoted_end : cut_in None ((39 ∷ []) ++ (codes "}}" ++ ((39 ∷ []) ++ codes "}}"))) ≡ Some (cut ((39 ∷ []) ++ (codes "}}" ++ (39 ∷ []))) [])
+quoted_end : ending_in None ((39 ∷ []) ++ (codes "}}" ++ ((39 ∷ []) ++ codes "}}"))) ≡ Some (cut ((39 ∷ []) ++ (codes "}}" ++ (39 ∷ []))) [])
 quoted_end = refl
 
 statement : template_of (codes "{% 1 %}") ≡ None
@@ -88,5 +88,48 @@ statement = refl
 no_end : template_of (codes "{{ 1 }") ≡ None
 no_end = refl
 
-in_a_text : template_of (codes "n={{ 1 }}") ≡ None
+in_a_text : template_of (codes "n={{ 1 }}") ≡ Some (concatenation (expression (literal (text (codes "n="))) (expression one no_expressions)))
 in_a_text = refl
+
+nothing_but_marks : template_of (codes "{{1}}{{2}}") ≡ Some (concatenation (expression one (expression two no_expressions)))
+nothing_but_marks = refl
+
+empty : template_of [] ≡ Some (literal (text []))
+empty = refl
+
+comment : template_of (codes "n {# 1 #}") ≡ None
+comment = refl
+
+abbrev bracketed : ℕ → List ℕ
+bracketed zero = []
+bracketed (suc n) = (91 ∷ []) ++ (bracketed n ++ (93 ∷ []))
+
+-- an empty list is a level too
+too_many_brackets : expression_of (bracketed 33) ≡ None
+too_many_brackets = refl
+
+-- a place past every group's end
+far_place : expression_of (codes "groups.g[99999999999999999999]") ≡ Some (path (member (codes "g") 1024) [])
+far_place = refl
+
+signed_place : expression_of (codes "groups.g[-1]") ≡ None
+signed_place = refl
+
+place_of_no_group : expression_of (codes "g.g[1]") ≡ None
+place_of_no_group = refl
+
+host_of_a_group : expression_of (codes "hostvars[groups.g[0]].x in ansible_play_batch") ≡ Some (membership (path (other (group_member (codes "g") 0) (codes "x")) []) (path (variable (codes "ansible_play_batch")) []))
+host_of_a_group = refl
+
+batch : expression_of (codes "(groups.g[0]) not in (ansible_play_batch)") ≡ Some (negation (in_batch (group_member (codes "g") 0)))
+batch = refl
+
+no_variable : expression_of (codes "hostvars.h is defined") ≡ Some (undefinable (hostvars_alone None))
+no_variable = refl
+
+-- `hostvars.h` is a step, and fifteen more may follow
+fifteen_more : expression_of (codes "hostvars.h.x.b.b.b.b.b.b.b.b.b.b.b.b.b.b") ≡ Some (path (other (named_host (codes "h")) (codes "x")) (codes "b" ∷ codes "b" ∷ codes "b" ∷ codes "b" ∷ codes "b" ∷ codes "b" ∷ codes "b" ∷ codes "b" ∷ codes "b" ∷ codes "b" ∷ codes "b" ∷ codes "b" ∷ codes "b" ∷ codes "b" ∷ []))
+fifteen_more = refl
+
+sixteen_more : expression_of (codes "hostvars.h.x.b.b.b.b.b.b.b.b.b.b.b.b.b.b.b") ≡ None
+sixteen_more = refl

@@ -4,9 +4,12 @@ use Rattle.std.specs.Prelude.{Option, Some, None, drop, slice_range}
 use Rattle.pb_language.specs.Expression.{Name}
 use Rattle.pb_language.specs.Rules.{are_name_bytes}
 use Rattle.pb_language.specs.plain.Tokens as language
-use Rattle.pb_language.specs.plain.Tokens.{Tokens, finish, token, word, quoted, sign, and_word, or_word}
-use Rattle.pb_language.specs.plain.Tokens.{not_word, in_word, is_word, truth_word, none_word, other_word}
-use Rattle.pb_language.specs.plain.Tokens.{opening, closing, dot, equals, differs, order, bar, bracket}
+use Rattle.pb_language.specs.plain.Tokens.{Tokens, finish, token, word, quoted, sign, and_word}
+use Rattle.pb_language.specs.plain.Tokens.{or_word}
+use Rattle.pb_language.specs.plain.Tokens.{not_word, in_word, is_word, truth_word, none_word}
+use Rattle.pb_language.specs.plain.Tokens.{other_word}
+use Rattle.pb_language.specs.plain.Tokens.{opening, closing, dot, equals, differs, order, bar}
+use Rattle.pb_language.specs.plain.Tokens.{bracket}
 use Rattle.pb_language.specs.plain.Tokens.{stray, escape_of, tokens_of}
 use Rattle.pb_expr.specs.declared.lexer.Sort.{Sort}
 use Rattle.pb_expr.specs.declared.lexer.Sort.TheVariants as sort

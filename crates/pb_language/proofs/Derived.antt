@@ -117,7 +117,7 @@ sound-go n ts no_step steps s h = few-none (suc n) ts
 sound-go n ts broken_step steps s h = tt
 sound-go n ts (a_step m us) steps s h =
     sound-with (FewSteps n) (FewSteps (suc n)) ts us (λ ns. m ∷ ns) (steps us) (h us)
-      (λ ns vs l. record { front = s.front ++ l.front; same = behind ts us vs s.front l.front s.same l.same; tree = (s.steps l.front ns l.tree.0, omega (arith, l.tree.1)) })
+    (λ ns vs l. record { front = s.front ++ l.front; same = behind ts us vs s.front l.front s.same l.same; tree = (s.steps l.front ns l.tree.0, omega (arith, l.tree.1)) })
 
 sound-steps : (n : ℕ) (ts : Tokens) → Finds (FewSteps n) ts (steps_of n ts)
 sound-steps zero ts = sound-last ts (next_step ts) (sound-next ts)
@@ -146,7 +146,7 @@ hosts_name = codes "hostvars"
 sound-group_term : (ts : Tokens) (r : Option (Reading (List Name))) → Finds (FewSteps 16) ts r → Finds HostTerm (token (name groups_name) ts) (group_term r)
 sound-group_term ts (Some (reading ns (token (sign opening_bracket) us))) h =
     sound-in_group HostTerm (λ g k. group_member g k) (token (name groups_name) ts) ns us (name groups_name ∷ h.front) (ap (token (name groups_name)) h.same)
-      (λ g k is. a_group_term k (subst (λ ns. Steps h.front ns) is h.tree.0))
+    (λ g k is. a_group_term k (subst (λ ns. Steps h.front ns) is h.tree.0))
 sound-group_term ts r h = tt
 
 text-term : (w : Name) (ts : Tokens) (b : Bool) → is_utf8 w ≡ b → Finds HostTerm (token (quoted w) ts) (before_some (option_map (λ w. named_host w) (cond b (Some w) None)) ts)
@@ -186,7 +186,7 @@ sound-bracketed_host ts r l = tt
 sound-host_steps : (ts us : Tokens) (h : Term) → Front HostStep ts h us → Finds Path (token (name hosts_name) ts) (host_steps h us)
 sound-host_steps ts us h s =
     sound-with (FewSteps 15) Path (token (name hosts_name) ts) us (host_path h) (unbracketed (steps_of 15 us)) (sound-path_steps 15 us)
-      (λ ns vs l. record { front = name hosts_name ∷ s.front ++ l.front; same = ap (token (name hosts_name)) (behind ts us vs s.front l.front s.same l.same); tree = hosts_path s.tree l.tree.0 (omega (arith, l.tree.1)) })
+    (λ ns vs l. record { front = name hosts_name ∷ s.front ++ l.front; same = ap (token (name hosts_name)) (behind ts us vs s.front l.front s.same l.same); tree = hosts_path s.tree l.tree.0 (omega (arith, l.tree.1)) })
 
 bare-hostvars : (ts : Tokens) → Finds Path (token (name hosts_name) ts) (before (hostvars_alone None) ts)
 bare-hostvars ts = sound-before Path (token (name hosts_name) ts) ts (hostvars_alone None) (record { front = name hosts_name ∷ []; same = refl; tree = no_host })
@@ -196,7 +196,7 @@ sound-hostvars (token (sign dot) ts) =
     sound-then HostStep Path (token (name hosts_name) (token (sign dot) ts)) (token (sign dot) ts) (grammar.dotted_host ts) host_steps (sound-dotted_host ts) (λ h us s. sound-host_steps (token (sign dot) ts) us h s)
 sound-hostvars (token (sign opening_bracket) ts) =
     sound-then HostStep Path (token (name hosts_name) (token (sign opening_bracket) ts)) (token (sign opening_bracket) ts) (grammar.bracketed_host (term_of ts)) host_steps
-      (sound-bracketed_host ts (term_of ts) (sound-term ts)) (λ h us s. sound-host_steps (token (sign opening_bracket) ts) us h s)
+    (sound-bracketed_host ts (term_of ts) (sound-term ts)) (λ h us s. sound-host_steps (token (sign opening_bracket) ts) us h s)
 sound-hostvars ts = bare-hostvars ts
 
 own-front : (n : Name) (ts us : Tokens) (ns : List Name) → bytes_eq n hosts_name ≡ false → Front (FewSteps 16) ts ns us → Front Path (token (name n) ts) (path (variable n) ns) us
@@ -208,7 +208,7 @@ sound-own n ts r own h = sound-with (FewSteps 16) Path (token (name n) ts) ts (�
 sound-group_path : (ts : Tokens) (r : Option (Reading (List Name))) → Finds (FewSteps 16) ts r → Finds Path (token (name groups_name) ts) (group_path r)
 sound-group_path ts (Some (reading ns (token (sign opening_bracket) us))) h =
     sound-in_group Path (λ g k. path (member g k) []) (token (name groups_name) ts) ns us (name groups_name ∷ h.front) (ap (token (name groups_name)) h.same)
-      (λ g k is. group_place k (subst (λ ns. Steps h.front ns) is h.tree.0))
+    (λ g k is. group_place k (subst (λ ns. Steps h.front ns) is h.tree.0))
 sound-group_path ts r h = sound-own groups_name ts r refl h
 
 sound-other_name : (n : Name) (ts : Tokens) (b : Bool) → bytes_eq n hosts_name ≡ false → bytes_eq n groups_name ≡ b
@@ -292,8 +292,8 @@ sound-named D f e ts = sound-some (OneFilter D e) (token (sign bar) (token (name
 sound-filter : (d : Deeper) (D : Nested) → SoundDeeper d D → (e : Expression) (ts : Tokens) → Finds (OneFilter D e) (token (sign bar) ts) (filter_of d e ts)
 sound-filter d D h e (token (name f) (token (sign opening) ts)) =
     sound-then (Shut (sign closing) D.whole) (OneFilter D e) (token (sign bar) (token (name f) (token (sign opening) ts))) ts (closed (d.whole ts)) (λ a us. before_some (filter_with f e a) us)
-      (sound-closed D.whole ts (d.whole ts) (h.whole ts))
-      (λ a us l. sound-some (OneFilter D e) (token (sign bar) (token (name f) (token (sign opening) ts))) us (filter_with f e a) (λ b is. given-front D f e a b ts us l is))
+    (sound-closed D.whole ts (d.whole ts) (h.whole ts))
+    (λ a us l. sound-some (OneFilter D e) (token (sign bar) (token (name f) (token (sign opening) ts))) us (filter_with f e a) (λ b is. given-front D f e a b ts us l is))
 sound-filter d D h e (token (name f) ts) = sound-named D f e ts
 sound-filter d D h e ts = tt
 
@@ -303,7 +303,7 @@ filter-on D e b c ts us vs l g = record { front = l.front ++ g.front; same = beh
 sound-filtered : (d : Deeper) (D : Nested) → SoundDeeper d D → (n : ℕ) (e : Expression) (ts : Tokens) → Finds (Filters D e) ts (filtered d n e ts)
 sound-filtered d D h (suc n) e (token (sign bar) ts) =
     sound-then (OneFilter D e) (Filters D e) (token (sign bar) ts) (token (sign bar) ts) (filter_of d e ts) (filtered d n) (sound-filter d D h e ts)
-      (λ b us l. sound-after (Filters D b) (Filters D e) (token (sign bar) ts) us (filtered d n b us) (sound-filtered d D h n b us) (λ c vs g. filter-on D e b c (token (sign bar) ts) us vs l g))
+    (λ b us l. sound-after (Filters D b) (Filters D e) (token (sign bar) ts) us (filtered d n b us) (sound-filtered d D h n b us) (λ c vs g. filter-on D e b c (token (sign bar) ts) us vs l g))
 sound-filtered d D h n e ts = record { front = []; same = refl; tree = no_filter }
 
 filtered-front : (D : Nested) (a b : Expression) (ts us vs : Tokens) → Front (Operand D) ts a us → Front (Filters D a) us b vs → Front (Filtered D) ts b vs
@@ -312,7 +312,7 @@ filtered-front D a b ts us vs l g = record { front = l.front ++ g.front; same = 
 sound-operand : (d : Deeper) (D : Nested) → SoundDeeper d D → Sound (operand_of d) (Filtered D)
 sound-operand d D h ts =
     sound-then (Operand D) (Filtered D) ts ts (operand_at d ts) (filtered d (count_of ts)) (sound-operand_at d D h ts)
-      (λ a us l. sound-after (Filters D a) (Filtered D) ts us (filtered d (count_of ts) a us) (sound-filtered d D h (count_of ts) a us) (λ b vs g. filtered-front D a b ts us vs l g))
+    (λ a us l. sound-after (Filters D a) (Filtered D) ts us (filtered d (count_of ts) a us) (sound-filtered d D h (count_of ts) a us) (λ b vs g. filtered-front D a b ts us vs l g))
 
 -- what stands on the right of a sign
 sound-right : (D : Nested) (operand : Reader) → Sound operand (Filtered D) → (ts us : Tokens) (xs ys : List Token) (make : Expression → Expression) → ts ≡ put xs (put ys us)
@@ -328,8 +328,8 @@ sound-test R ts us xs ys a same h = tt
 sound-tested : (D : Nested) (n : Name) (ts : Tokens) (a : Expression) (us : Tokens) → Front (Filtered D) ts a (token (word is_word n) us) → Finds (Relation D) ts (tested a us)
 sound-tested D n ts a (token (word not_word m) us) l =
     sound-with (λ xs e. Relation D xs (negation e)) (Relation D) ts ts (λ e. negation e) (test_of a us)
-      (sound-test (λ xs e. Relation D xs (negation e)) ts us l.front (word is_word n ∷ word not_word m ∷ []) a l.same (λ t e is. fails n m t l.tree is))
-      (λ e vs r. record { front = r.front; same = r.same; tree = r.tree })
+    (sound-test (λ xs e. Relation D xs (negation e)) ts us l.front (word is_word n ∷ word not_word m ∷ []) a l.same (λ t e is. fails n m t l.tree is))
+    (λ e vs r. record { front = r.front; same = r.same; tree = r.tree })
 sound-tested D n ts a us l = sound-test (Relation D) ts us l.front (word is_word n ∷ []) a l.same (λ t e is. passes n t l.tree is)
 
 sound-related : (D : Nested) (operand : Reader) → Sound operand (Filtered D) → (ts : Tokens) (a : Expression) (us : Tokens) → Front (Filtered D) ts a us → Finds (Relation D) ts (related operand a us)
@@ -349,7 +349,7 @@ sound-relation d D h ts =
 sound-negation : (d : Deeper) (D : Nested) → SoundDeeper d D → Sound (negation_of d) (Negation D)
 sound-negation d D h (token (word not_word n) ts) =
     sound-with D.negated (Negation D) (token (word not_word n) ts) ts (λ e. negation e) (d.negated ts) (h.negated ts)
-      (λ e us l. record { front = word not_word n ∷ l.front; same = ap (token (word not_word n)) l.same; tree = a_negation l.tree })
+    (λ e us l. record { front = word not_word n ∷ l.front; same = ap (token (word not_word n)) l.same; tree = a_negation l.tree })
 sound-negation d D h ts =
     sound-after (Relation D) (Negation D) ts ts (relation_of d ts) (sound-relation d D h ts) (λ e us l. record { front = l.front; same = l.same; tree = a_relation l.tree })
 
@@ -358,7 +358,7 @@ sound-more : (k : Link) (D : Derivation) (t : Token) (ts us : Tokens) (e : Expre
     → Front D ts e (token t us) → Finds (Chain k D) ts (with_tree (λ es. expression e es) (rest us))
 sound-more k D t ts us e rest link h l =
     sound-with (Chain k D) (Chain k D) ts us (λ es. expression e es) (rest us) (h us)
-      (λ es vs r. record { front = l.front ++ t ∷ r.front; same = between ts us vs l.front (t ∷ []) r.front l.same r.same; tree = more link l.tree r.tree })
+    (λ es vs r. record { front = l.front ++ t ∷ r.front; same = between ts us vs l.front (t ∷ []) r.front l.same r.same; tree = more link l.tree r.tree })
 
 sound-on : (k : Link) (D : Derivation) (rest : Tokens → Option (Reading Expressions)) → ((ts : Tokens) → Finds (Chain k D) ts (rest ts)) → (ts : Tokens) (e : Expression) (us : Tokens) → Front D ts e us → Finds (Chain k D) ts (chain_on e us (behind_link k us) rest)
 sound-on and_link D rest h ts e (token (word and_word n) us) l = sound-more and_link D (word and_word n) ts us e rest an_and h l
@@ -382,7 +382,7 @@ joined-chain k make D xs es (more {t = t} {ts = ts} {us = us} {e = e} {es = fs} 
 sound-joined : (k : Link) (make : Expressions → Expression) (f : Reader) (D : Derivation) → Sound f D → (ts : Tokens) → Finds (Joined k make D) ts (with_tree (joined make) (chain_of k f (count_of ts) ts))
 sound-joined k make f D h ts =
     sound-with (Chain k D) (Joined k make D) ts ts (joined make) (chain_of k f (count_of ts) ts) (sound-chain k f D h (count_of ts) ts)
-      (λ es us l. record { front = l.front; same = l.same; tree = joined-chain k make D l.front es l.tree })
+    (λ es us l. record { front = l.front; same = l.same; tree = joined-chain k make D l.front es l.tree })
 
 sound-conjunction : (d : Deeper) (D : Nested) → SoundDeeper d D → Sound (conjunction_of d) (Conjunction D)
 sound-conjunction d D h ts = sound-joined and_link (λ es. conjunction es) (negation_of d) (Negation D) (sound-negation d D h) ts
@@ -393,7 +393,7 @@ sound-disjunction d D h ts = sound-joined or_link (λ es. disjunction es) (conju
 sound-closed_items : (W : Derivation) (ts : Tokens) (r : Option (Reading Expressions)) → Finds (Chain comma_link W) ts r → Finds (Shut (sign closing_bracket) (Items W)) ts (closed_items r)
 sound-closed_items W ts (Some (reading es (token (sign closing_bracket) us))) h =
     sound-before (Shut (sign closing_bracket) (Items W)) ts us es
-      (shut-front (Items W) (sign closing_bracket) ts us es (record { front = h.front; same = h.same; tree = some_items h.tree }))
+    (shut-front (Items W) (sign closing_bracket) ts us es (record { front = h.front; same = h.same; tree = some_items h.tree }))
 sound-closed_items W ts r h = tt
 
 sound-items : (f : Reader) (W : Derivation) → Sound f W → (ts : Tokens) → Finds (Shut (sign closing_bracket) (Items W)) ts (items_of f ts)
@@ -404,9 +404,10 @@ sound-items f W h ts = sound-closed_items W ts (chain_of comma_link f (count_of 
 sound-deeper : (n : ℕ) → SoundDeeper (deeper n) (nested n)
 sound-deeper zero = record { whole = λ ts. tt; negated = λ ts. tt; items = λ ts. tt }
 sound-deeper (suc n) = record {
-    whole = sound-disjunction (deeper n) (nested n) (sound-deeper n);
-    negated = sound-negation (deeper n) (nested n) (sound-deeper n);
-    items = sound-items (disjunction_of (deeper n)) (Disjunction (nested n)) (sound-disjunction (deeper n) (nested n) (sound-deeper n)) }
+  whole = sound-disjunction (deeper n) (nested n) (sound-deeper n);
+  negated = sound-negation (deeper n) (nested n) (sound-deeper n);
+  items = sound-items (disjunction_of (deeper n)) (Disjunction (nested n)) (sound-disjunction (deeper n) (nested n) (sound-deeper n));
+}
 
 pub listed-put : (xs : List Token) → listed (put xs finish) ≡ Some xs
 listed-put [] = refl

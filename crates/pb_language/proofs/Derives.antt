@@ -427,15 +427,16 @@ complete-items f W h some none xs es us no_items c = c.ready_items no_expression
 complete-items f W h some none xs es us (some_items tree) c =
     ap (items_of f) (put-append xs (sign closing_bracket ∷ []) us)
     ∙ items-first f (put xs (token (sign closing_bracket) us)) es us none
-        (ap closed_items (complete-chain comma_link ClosesItems Closes f W linked-comma h some (count_of (put xs (token (sign closing_bracket) us))) xs es (token (sign closing_bracket) us) (count-put xs (token (sign closing_bracket) us)) at_last tree)
-        ∙ c.ready_items es)
+    (ap closed_items (complete-chain comma_link ClosesItems Closes f W linked-comma h some (count_of (put xs (token (sign closing_bracket) us))) xs es (token (sign closing_bracket) us) (count-put xs (token (sign closing_bracket) us)) at_last tree)
+    ∙ c.ready_items es)
 
 complete-deeper : (n : ℕ) → CompleteDeeper (deeper n) (nested n)
 complete-deeper zero = record { whole = λ xs e us h c. absurd h; negated = λ xs e us h c. absurd h; items = λ xs es us h c. absurd h }
 complete-deeper (suc n) = record {
-    whole = complete-disjunction (deeper n) (nested n) (complete-deeper n);
-    negated = complete-negation (deeper n) (nested n) (complete-deeper n);
-    items = complete-items (disjunction_of (deeper n)) (Disjunction (nested n)) (complete-disjunction (deeper n) (nested n) (complete-deeper n)) (nonempty-disjunction (nested n)) (λ vs. refl) }
+  whole = complete-disjunction (deeper n) (nested n) (complete-deeper n);
+  negated = complete-negation (deeper n) (nested n) (complete-deeper n);
+  items = complete-items (disjunction_of (deeper n)) (Disjunction (nested n)) (complete-disjunction (deeper n) (nested n) (complete-deeper n)) (nonempty-disjunction (nested n)) (λ vs. refl);
+}
 
 put-more : (t : Token) (us : Tokens) (xs : List Token) (o : Option (List Token)) → ((ys : List Token) → o ≡ Some ys → us ≡ put ys finish) → with_token t o ≡ Some xs → token t us ≡ put xs finish
 put-more t us xs None h is = absurd (none-some xs is)

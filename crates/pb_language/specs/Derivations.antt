@@ -1,6 +1,7 @@
 -- The grammar of expressions as productions: which lists of tokens have which trees, in no order of
 -- reading; and the law that a text's tree is the one that they derive.
-use Rattle.std.specs.Prelude.{◌≡◌, ◌≤◌, ℕ, zero, suc, List, [], ◌∷◌, ◌++◌, true, false, Option, Some}
+use Rattle.std.specs.Prelude.{◌≡◌, ◌≤◌, ℕ, zero, suc, List, [], ◌∷◌, ◌++◌, true, false, Option}
+use Rattle.std.specs.Prelude.{Some}
 use Rattle.std.specs.Prelude.{None, length, codes}
 use Rattle.std.specs.Str.{is_utf8, bytes_eq}
 use Rattle.pb_semantics.specs.Limits.{most_nesting, most_path_steps}
@@ -56,7 +57,7 @@ pub data HostStep : List Token → Term → Type 0 where
   a_bracketed_host : {ts : List Token} {h : Term} → HostTerm ts h
       → HostStep (sign opening_bracket ∷ ts ++ sign closing_bracket ∷ []) h
 
--- path := name steps | "hostvars" [host steps] | "groups" step "[" digits "]", with at most 16 steps
+-- path := name steps | "hostvars" [host steps] | "groups" step "[" digits "]", 16 steps at most
 pub data Path : List Token → Expression → Type 0 where
   own_path : {n : Name} {ts : List Token} {ns : List Name} → bytes_eq n (codes "hostvars") ≡ false
       → Steps ts ns → length ns ≤ most_path_steps → Path (name n ∷ ts) (path (variable n) ns)
@@ -131,7 +132,8 @@ pub data Joined (l : Link) (make : Expressions → Expression) (operand : Deriva
     → Expression → Type 0 where
   alone : {ts : List Token} {e : Expression} → operand ts e → Joined l make operand ts e
   several : {t : Token} {ts us : List Token} {e : Expression} {es : Expressions} → Links l t
-      → operand ts e → Chain l operand us es → Joined l make operand (ts ++ t ∷ us) (make (expression e es))
+      → operand ts e → Chain l operand us es
+      → Joined l make operand (ts ++ t ∷ us) (make (expression e es))
 
 -- and := not ("and" not)*, or := and ("or" and)*
 abbrev pub Conjunction : Nested → Derivation
@@ -150,9 +152,10 @@ pub data Items (whole : Derivation) : List Token → Expressions → Type 0 wher
 abbrev pub nested : ℕ → Nested
 nested zero = record { whole = λ ts e. ⊥; negated = λ ts e. ⊥; items = λ ts es. ⊥ }
 nested (suc d) = record {
-    whole = Disjunction (nested d);
-    negated = Negation (nested d);
-    items = Items (Disjunction (nested d)) }
+  whole = Disjunction (nested d);
+  negated = Negation (nested d);
+  items = Items (Disjunction (nested d));
+}
 
 abbrev pub Derives : ℕ → Derivation
 Derives d = Disjunction (nested d)

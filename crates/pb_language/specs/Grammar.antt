@@ -1,5 +1,5 @@
--- The trees of texts (Ansible's pages on templating, tests and filters), by cases on the tokens from
--- left to right.
+-- The trees of texts (Ansible's pages on templating, tests and filters), by cases on their tokens
+-- from left to right.
 use Rattle.std.specs.Prelude.{ℕ, zero, suc, pred, min, pos, neg_ℤ, List, [], ◌∷◌, Bool, false}
 use Rattle.std.specs.Prelude.{◌&&◌, ◌||◌, ◌==◌, nat_le, cond, Option, Some, None, drop, length}
 use Rattle.std.specs.Prelude.{codes, option_map}
@@ -345,9 +345,10 @@ items_of whole ts = closed_items (chain_of comma_link whole (count_of ts) ts)
 abbrev pub deeper : ℕ → Deeper
 deeper zero = record { whole = λ ts. None; negated = λ ts. None; items = λ ts. None }
 deeper (suc d) = record {
-    whole = disjunction_of (deeper d);
-    negated = negation_of (deeper d);
-    items = items_of (disjunction_of (deeper d)) }
+  whole = disjunction_of (deeper d);
+  negated = negation_of (deeper d);
+  items = items_of (disjunction_of (deeper d));
+}
 
 abbrev pub all_of : Option (Reading Expression) → Option Expression
 all_of (Some (reading e finish)) = Some e

@@ -12,7 +12,8 @@ use Rattle.pb_language.specs.Expression.{Expressions, no_expressions, expression
 use Rattle.pb_language.specs.plain.Grammar.{expression_of}
 use Rattle.pb_language.specs.Simple.{shared_names}
 use Rattle.pb_language.specs.plain.Tokens.{Word, and_word, or_word, not_word, in_word, truth_word}
-use Rattle.pb_language.specs.plain.Tokens.{opening, closing, dot, equals, differs, Token, name, word}
+use Rattle.pb_language.specs.plain.Tokens.{opening, closing, dot, equals, differs, Token, name}
+use Rattle.pb_language.specs.plain.Tokens.{word}
 use Rattle.pb_language.specs.plain.Tokens.{number, quoted, sign, Tokens, finish, unreadable, token}
 use Rattle.pb_language.specs.plain.Tokens.{tokens_of}
 
@@ -110,5 +111,6 @@ PlainTreesAreDerived = (bs : List ℕ) (e : Expression) → expression_of bs ≡
 
 -- and a tree that is derived is the text's
 abbrev pub DerivedArePlainTrees : Type 0
-DerivedArePlainTrees = (bs : List ℕ) (e : Expression) (ts : List Token) → listed (tokens_of bs) ≡ Some ts
+DerivedArePlainTrees = (bs : List ℕ) (e : Expression) (ts : List Token)
+    → listed (tokens_of bs) ≡ Some ts
     → Derives most_nesting ts e → expression_of bs ≡ Some e

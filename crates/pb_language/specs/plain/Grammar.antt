@@ -11,7 +11,8 @@ use Rattle.pb_language.specs.Expression.{conjunction, disjunction, comparison, m
 use Rattle.pb_language.specs.Expression.{Expressions, no_expressions, expression}
 use Rattle.pb_language.specs.Simple.{shared_names}
 use Rattle.pb_language.specs.plain.Tokens.{Word, and_word, or_word, not_word, in_word, is_word}
-use Rattle.pb_language.specs.plain.Tokens.{truth_word, opening, closing, dot, equals, differs, order, bar}
+use Rattle.pb_language.specs.plain.Tokens.{truth_word, opening, closing, dot, equals, differs}
+use Rattle.pb_language.specs.plain.Tokens.{order, bar}
 use Rattle.pb_language.specs.plain.Tokens.{bracket, Token, name, word, number, quoted, sign, Tokens}
 use Rattle.pb_language.specs.plain.Tokens.{finish, unreadable, token, is_quote, tokens_of}
 

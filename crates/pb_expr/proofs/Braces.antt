@@ -11,7 +11,7 @@ use Rattle.pb_semantics.specs.Data.{text}
 use Rattle.pb_semantics.proofs.Names.{own_name, same_name}
 use Rattle.pb_language.specs.Expression.{literal}
 use Rattle.pb_language.specs.plain.Grammar.{Cut, cut, with_byte, cut_in, is_mark, has_mark, has_opening, template_in, braced, template_of, expression_of}
-use Rattle.pb_language.specs.plain.Tokens.{is_quote}
+use Rattle.pb_language.specs.Tokens.{is_quote}
 use Rattle.pb_expr.specs.Forms.{opening_at, with_bytes}
 
 byte-at : (bs : List ℕ) (i : ℕ) → i < length bs → drop i bs ≡ get_or bs i 0 ∷ drop (i + 1) bs

@@ -2,7 +2,7 @@
 use Rattle.std.proofs.Common.{◌≡◌, ℕ, zero, suc, ◌<◌, ◌≤◌, List, [], ◌∷◌, ◌++◌, length, Option, Some, None, refl, sym, ap, ◌∙◌, arith}
 use Rattle.pb_language.specs.Expression.{Expression, Expressions, no_expressions, expression}
 use Rattle.pb_language.specs.plain.Grammar.{Reading, reading, Reader, behind_word, with_first, chain_on, chain_from, chain_of, joined, count_of}
-use Rattle.pb_language.specs.plain.Tokens.{Tokens, Word}
+use Rattle.pb_language.specs.Tokens.{Tokens, Word}
 use Rattle.pb_expr.specs.ExprView.{expr_view, exprs_view}
 use Rattle.pb_expr.specs.declared.expr.Expr.{Expr}
 

@@ -1,10 +1,10 @@
 -- Each form of the grammar leaves fewer tokens than it begins with.
 use Rattle.std.proofs.Common.{◌≡◌, ℕ, zero, suc, ◌<◌, ◌≤◌, List, Bool, true, false, cond, Option, Some, None, subst, arith}
 use Rattle.pb_semantics.specs.Keeps.{is_among}
-use Rattle.pb_language.specs.Expression.{Name, Expression, Expressions, negation, conjunction, disjunction}
+use Rattle.pb_language.specs.Expression.{Name, equal, Expression, Expressions, negation, conjunction, disjunction}
 use Rattle.pb_language.specs.plain.Grammar.{Reading, reading, Reader, Deeper, before, letters_of, step_then, behind_dot, steps_of, as_path, path_of, closed, literal_of, literal_before, operand_at, unfiltered, operand_of, with_tree, related, with_operand, relation_of, negation_of, behind_word, with_first, chain_on, chain_from, chain_of, as_chain, count_of, conjunction_of, disjunction_of, deeper}
 use Rattle.pb_language.specs.Simple.{shared_names}
-use Rattle.pb_language.specs.plain.Tokens.{Tokens, Word, finish, unreadable, token, name, word, sign, and_word, or_word, not_word, in_word, is_word, opening, closing, dot, equals, differs, order, bar, bracket}
+use Rattle.pb_language.specs.Tokens.{Tokens, Word, finish, unreadable, token, name, word, sign, and_word, or_word, not_word, in_word, is_word, opening, closing, dot, compares, differs, bar, opening_bracket}
 
 -- where something is read, fewer tokens than that are left
 abbrev pub Leaves : {T : Type 0} → ℕ → Option (Reading T) → Type 0
@@ -43,7 +43,7 @@ leaves-steps (suc n) ts = omega arith
 
 leaves-path : (n : ℕ) (m : Name) (r : Option (Reading (List Name))) → Leaves n r → Leaves n (as_path m r)
 leaves-path n m None h = tt
-leaves-path n m (Some (reading ns (token (sign bracket) ts))) h = tt
+leaves-path n m (Some (reading ns (token (sign opening_bracket) ts))) h = tt
 leaves-path n m (Some (reading ns ts)) h = h
 
 leaves-unless : {T : Type 0} → (n : ℕ) (b : Bool) (r : Option (Reading T)) → Leaves n r → Leaves n (cond b None r)
@@ -87,12 +87,12 @@ leaves-right : (n : ℕ) (f : Expression → Expression) (operand : Reader) → 
 leaves-right n f operand h ts le = leaves-tree n f (operand ts) (more (count_of ts) n (operand ts) le (h ts))
 
 leaves-related : (a : Expression) (operand : Reader) → Shrinks operand → (ts : Tokens) → Leaves (suc (count_of ts)) (related a ts operand)
-leaves-related a operand h (token (sign equals) ts) = leaves-right (suc (suc (count_of ts))) _ operand h ts (omega arith)
+leaves-related a operand h (token (sign (compares equal)) ts) = leaves-right (suc (suc (count_of ts))) _ operand h ts (omega arith)
 leaves-related a operand h (token (sign differs) ts) = leaves-right (suc (suc (count_of ts))) _ operand h ts (omega arith)
 leaves-related a operand h (token (word in_word n) ts) = leaves-right (suc (suc (count_of ts))) _ operand h ts (omega arith)
 leaves-related a operand h (token (word not_word n) (token (word in_word m) ts)) = leaves-right (suc (suc (suc (count_of ts)))) _ operand h ts (omega arith)
 leaves-related a operand h (token (word not_word n) ts) = tt
-leaves-related a operand h (token (sign order) ts) = tt
+leaves-related a operand h (token (sign (compares c)) ts) = tt
 leaves-related a operand h (token (word is_word n) ts) = tt
 leaves-related a operand h ts = omega arith
 

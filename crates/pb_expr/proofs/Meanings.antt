@@ -4,7 +4,7 @@ use Rattle.std.proofs.lemmas.List.{at_drop_more}
 use Rattle.std.proofs.lemmas.List.Edits.{between_more, between_none}
 use Rattle.std.proofs.lemmas.Bool.{cond-true, cond-false, eq-eqb, ne_eqb}
 use Rattle.std.specs.Option.{is_some, unwrap_or}
-use Rattle.pb_language.specs.plain.Tokens.{a_text, escape_of, tokens_from}
+use Rattle.pb_language.specs.Tokens.{a_text, escape_of, tokens_from}
 use Rattle.pb_expr.specs.Letters.{letter_for, unescaped}
 use Rattle.pb_expr.proofs.Scanned.{text-turn, text-escape, escape-turn}
 

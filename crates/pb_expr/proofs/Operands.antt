@@ -3,7 +3,7 @@ use Rattle.std.proofs.Common.{◌≡◌, ℕ, ◌≤◌, List, [], ◌∷◌, �
 use Rattle.std.proofs.lemmas.List.{length_push}
 use Rattle.pb_language.specs.Expression.{conjunction, disjunction}
 use Rattle.pb_language.specs.plain.Grammar.{reading, as_chain, conjunction_of, deeper, disjunction_of, negation_of}
-use Rattle.pb_language.specs.plain.Tokens.{Tokens, and_word, or_word}
+use Rattle.pb_language.specs.Tokens.{Tokens, and_word, or_word}
 use Rattle.pb_expr.specs.ExprView.{expr_view, exprs_view}
 use Rattle.pb_expr.specs.Letters.{tokens_at}
 use Rattle.pb_expr.specs.declared.expr.Expr.{Expr}

@@ -3,7 +3,7 @@ use Rattle.std.proofs.Common.{◌≡◌, ℕ, List, drop, Option, Some, None, Re
 use Rattle.std.specs.Result.{IsErrAnd}
 use Rattle.pb_semantics.specs.Gives.{FaultGives, Gives}
 use Rattle.pb_language.specs.plain.Grammar.{all_of, deeper, disjunction_of, expression_of}
-use Rattle.pb_language.specs.plain.Tokens.{tokens_of}
+use Rattle.pb_language.specs.Tokens.{tokens_of}
 use Rattle.pb_expr.specs.Letters.{tokens_at}
 use Rattle.pb_expr.specs.Reads.{IsRefused}
 use Rattle.pb_expr.specs.ExprView.{expr_view}

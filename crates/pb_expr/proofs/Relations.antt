@@ -2,7 +2,7 @@
 use Rattle.std.proofs.Common.{◌≡◌, ℕ, List, ◌⊎◌, inl, inr, refl, sym, ap, ◌∙◌}
 use Rattle.pb_language.specs.Expression.{Name, Expression, negation, membership}
 use Rattle.pb_language.specs.plain.Grammar.{Reader, related, with_tree}
-use Rattle.pb_language.specs.plain.Tokens.{Tokens, token, word, not_word}
+use Rattle.pb_language.specs.Tokens.{Tokens, token, word, not_word}
 use Rattle.pb_expr.specs.Letters.{sort_tokens, letters_at, meaning_at, tokens_at}
 use Rattle.pb_expr.specs.Reads.{joined_by}
 use Rattle.pb_expr.specs.declared.lexer.Sort.{Sort}

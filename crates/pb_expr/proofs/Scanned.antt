@@ -4,7 +4,7 @@ use Rattle.std.proofs.lemmas.List.{at_drop_more, drop-drop, drop_more}
 use Rattle.std.proofs.lemmas.List.Edits.{between_more, between_none}
 use Rattle.std.proofs.lemmas.Bool.{agree_below, agree_below_at, and_from, and_parts, cond-true, cond-false, eq-eqb, ne_eqb, or_parts}
 use Rattle.pb_language.specs.Rules.{is_letter, is_digit, are_name_bytes}
-use Rattle.pb_language.specs.plain.Tokens.{token, quoted, a_word, a_number, a_text, an_escape, a_pair, is_blank, is_quote, is_paired, are_digits, alone_of, escape_of, number_of, number_then, pair_of, sign_then, sign_of, tokens_from, tokens_of, unreadable}
+use Rattle.pb_language.specs.Tokens.{token, quoted, a_word, a_number, a_text, an_escape, a_pair, is_blank, is_quote, is_paired, are_digits, alone_of, escape_of, number_of, number_then, pair_of, sign_then, sign_of, tokens_from, tokens_of, unreadable}
 use Rattle.pb_expr.specs.Signs.{begins_numeral, begins_other, sign_with, starts_equal}
 
 pub first-byte : (bs : List ℕ) (i : ℕ) → i < length bs → slice_range bs i (i + 1) ≡ slice_index bs i ∷ []

@@ -2,7 +2,7 @@
 use Rattle.std.proofs.Common.{◌≡◌, ℕ, zero, suc, ◌-◌, ◌<◌, List, drop, Option, Some, None, refl, sym, ap, ◌∙◌, arith}
 use Rattle.pb_language.specs.Expression.{Name, Expression, negation}
 use Rattle.pb_language.specs.plain.Grammar.{Reading, reading, Reader, closed, behind_word, count_of, disjunction_of, negation_of, deeper, with_tree, all_of, expression_of}
-use Rattle.pb_language.specs.plain.Tokens.{Tokens, and_word, or_word, tokens_of}
+use Rattle.pb_language.specs.Tokens.{Tokens, and_word, or_word, tokens_of}
 use Rattle.pb_expr.specs.Letters.{sort_tokens, letters_at, meaning_at, tokens_at}
 use Rattle.pb_expr.specs.declared.lexer.Sort.{Sort}
 use Rattle.pb_expr.specs.declared.lexer.Sort.TheVariants as sort

@@ -2,7 +2,7 @@
 use Rattle.std.proofs.Common.{◌≡◌, ℕ, zero, suc, List, [], ◌∷◌, ◌++◌, drop, true, false, Option, Some, None, String, Global, string_bytes, refl, sym, ap, ◌∙◌}
 use Rattle.pb_language.specs.Expression.{Name}
 use Rattle.pb_language.specs.plain.Grammar.{Reading, reading, with_step, steps_of}
-use Rattle.pb_language.specs.plain.Tokens.{Tokens, unreadable, token, sign, dot, tokens_of}
+use Rattle.pb_language.specs.Tokens.{Tokens, unreadable, token, sign, dot, tokens_of}
 use Rattle.pb_expr.specs.ExprView.{names_of}
 use Rattle.pb_expr.specs.Letters.{sort_tokens, letters_at, meaning_at, tokens_at, is_lettered}
 use Rattle.pb_expr.specs.declared.lexer.Sort.{Sort}

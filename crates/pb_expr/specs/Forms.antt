@@ -4,7 +4,7 @@ use Rattle.std.specs.Prelude.{ℕ, suc, List, [], ◌∷◌, ◌==◌, ◌&&◌,
 use Rattle.std.specs.Prelude.{option_map}
 use Rattle.pb_language.specs.Expression.{equal, Expression, negation, comparison, membership}
 use Rattle.pb_language.specs.plain.Grammar.{Cut, has_mark, literal_of, with_byte}
-use Rattle.pb_language.specs.plain.Tokens.{Tokens, token}
+use Rattle.pb_language.specs.Tokens.{Tokens, token}
 use Rattle.pb_expr.specs.declared.lexer.Sort.{Sort}
 use Rattle.pb_expr.specs.declared.lexer.Sort.TheVariants as sort
 

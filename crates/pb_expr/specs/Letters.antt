@@ -1,16 +1,15 @@
 -- The tokens that a text has from a token of the code on.
 use Rattle.std.specs.Prelude.{◌≡◌, ℕ, ◌+◌, ◌-◌, List, [], ◌∷◌, Bool, true, false, ◌==◌, cond}
-use Rattle.std.specs.Prelude.{Option, Some, None, drop, slice_range}
-use Rattle.pb_language.specs.Expression.{Name}
+use Rattle.std.specs.Prelude.{Option, Some, None, ℤ, pos, neg_ℤ, nat_le, ◌&&◌, drop, slice_range}
+use Rattle.std.specs.Str.Parse.{digits_value}
+use Rattle.pb_language.specs.Expression.{Name, equal, less, at_most, more, at_least}
 use Rattle.pb_language.specs.Rules.{are_name_bytes}
-use Rattle.pb_language.specs.plain.Tokens as language
-use Rattle.pb_language.specs.plain.Tokens.{Tokens, finish, token, word, quoted, sign, and_word}
-use Rattle.pb_language.specs.plain.Tokens.{or_word}
-use Rattle.pb_language.specs.plain.Tokens.{not_word, in_word, is_word, truth_word, none_word}
-use Rattle.pb_language.specs.plain.Tokens.{other_word}
-use Rattle.pb_language.specs.plain.Tokens.{opening, closing, dot, equals, differs, order, bar}
-use Rattle.pb_language.specs.plain.Tokens.{bracket}
-use Rattle.pb_language.specs.plain.Tokens.{stray, escape_of, tokens_of}
+use Rattle.pb_language.specs.Tokens as language
+use Rattle.pb_language.specs.Tokens.{Tokens, finish, token, word, digits, minus, quoted, sign}
+use Rattle.pb_language.specs.Tokens.{and_word, or_word, not_word, in_word, is_word, truth_word}
+use Rattle.pb_language.specs.Tokens.{none_word, other_word, opening, closing, dot, compares}
+use Rattle.pb_language.specs.Tokens.{differs, bar, opening_bracket, closing_bracket, comma}
+use Rattle.pb_language.specs.Tokens.{escape_of, is_numeral, tokens_of}
 use Rattle.pb_expr.specs.declared.lexer.Sort.{Sort}
 use Rattle.pb_expr.specs.declared.lexer.Sort.TheVariants as sort
 use Rattle.pb_expr.specs.declared.lexer.Token.{Token}
@@ -44,17 +43,22 @@ sort_tokens sort.True n w ts = token (word (truth_word true) n) ts
 sort_tokens sort.False n w ts = token (word (truth_word false) n) ts
 sort_tokens sort.None n w ts = token (word none_word n) ts
 sort_tokens sort.Reserved n w ts = token (word other_word n) ts
-sort_tokens (sort.Int z) n w ts = token (language.number z) ts
+sort_tokens sort.Digits n w ts = token (digits (digits_value 10 n)) ts
+sort_tokens sort.Minus n w ts = token (minus (digits_value 10 (drop 1 n))) ts
 sort_tokens sort.Text n w ts = token (quoted w) ts
 sort_tokens sort.Open n w ts = token (sign opening) ts
 sort_tokens sort.Close n w ts = token (sign closing) ts
 sort_tokens sort.Dot n w ts = token (sign dot) ts
-sort_tokens sort.Equal n w ts = token (sign equals) ts
+sort_tokens sort.Equal n w ts = token (sign (compares equal)) ts
 sort_tokens sort.Unequal n w ts = token (sign differs) ts
-sort_tokens sort.Order n w ts = token (sign order) ts
+sort_tokens sort.Less n w ts = token (sign (compares less)) ts
+sort_tokens sort.AtMost n w ts = token (sign (compares at_most)) ts
+sort_tokens sort.More n w ts = token (sign (compares more)) ts
+sort_tokens sort.AtLeast n w ts = token (sign (compares at_least)) ts
 sort_tokens sort.Pipe n w ts = token (sign bar) ts
-sort_tokens sort.Bracket n w ts = token (sign bracket) ts
-sort_tokens sort.Stray n w ts = token (sign stray) ts
+sort_tokens sort.OpenBracket n w ts = token (sign opening_bracket) ts
+sort_tokens sort.CloseBracket n w ts = token (sign closing_bracket) ts
+sort_tokens sort.Comma n w ts = token (sign comma) ts
 
 abbrev pub letters_at : List ℕ → Token → Name
 letters_at bs t = slice_range bs t.start t.end
@@ -79,6 +83,34 @@ is_lettered sort.None = true
 is_lettered sort.Reserved = true
 is_lettered s = false
 
--- a name or a word is made of letters
-abbrev pub IsLettered : List ℕ → Token → Type 0
-IsLettered bs t = is_lettered t.sort ≡ true → are_name_bytes (letters_at bs t) ≡ true
+abbrev pub is_number : Sort → Bool
+is_number sort.Digits = true
+is_number sort.Minus = true
+is_number s = false
+
+-- the letters of a name or a word, and the digits of a number
+abbrev pub is_minus : Name → Bool
+is_minus [] = false
+is_minus (b ∷ ds) = (b == 45) && is_numeral ds
+
+abbrev pub number_spelled : Sort → Name → Bool
+number_spelled sort.Digits n = is_numeral n
+number_spelled sort.Minus n = is_minus n
+number_spelled s n = true
+
+abbrev pub is_spelled : Sort → Name → Bool
+is_spelled s n = cond (is_lettered s) (are_name_bytes n) (number_spelled s n)
+
+abbrev pub IsSpelled : List ℕ → Token → Type 0
+IsSpelled bs t = is_spelled t.sort (letters_at bs t) ≡ true
+
+-- the number that digits spell, where it has 64 bits
+abbrev pub positive : ℕ → Option ℤ
+positive n = cond (nat_le n 9223372036854775807) (Some (pos n)) None
+
+abbrev pub negative : ℕ → Option ℤ
+negative n = cond (nat_le n 9223372036854775808) (Some (neg_ℤ (pos n))) None
+
+abbrev pub int_of : Sort → Name → Option ℤ
+int_of sort.Minus n = negative (digits_value 10 (drop 1 n))
+int_of s n = positive (digits_value 10 n)

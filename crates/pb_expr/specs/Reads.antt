@@ -6,7 +6,7 @@ use Rattle.pb_language.specs.plain.Grammar.{Reader, Reading, reading, with_tree}
 use Rattle.pb_language.specs.Simple.{is_simple}
 use Rattle.pb_expr.specs.ExprView.{expr_view}
 use Rattle.pb_expr.specs.Forms.{related_by}
-use Rattle.pb_expr.specs.Letters.{IsLettered, tokens_at}
+use Rattle.pb_expr.specs.Letters.{IsSpelled, tokens_at}
 use Rattle.pb_expr.specs.Place.{place_of, least_width}
 use Rattle.pb_expr.specs.Trees.{no_tree}
 use Rattle.pb_expr.specs.declared.expr.Expr.{Expr}
@@ -19,7 +19,7 @@ use Rattle.pb_expr.specs.declared.lexer.Token.{Token}
 pub record IsToken (bs : List ℕ) (t : Token) : Type 0 where
   pub wide : t.start + least_width t.sort ≤ t.end
   pub within : t.end ≤ length bs
-  pub lettered : IsLettered bs t
+  pub spelled : IsSpelled bs t
 
 -- that tree is read from the first token on, and this token stands behind it
 pub record IsRead (bs : List ℕ) (t : Token) (r : Expr × Token)

@@ -1,8 +1,8 @@
 -- What a byte begins, and the sign that a byte makes with a `=` behind it.
 use Rattle.std.specs.Prelude.{ℕ, List, [], ◌∷◌, Bool, true, false, ◌||◌, ◌==◌, cond, Option, Some}
 use Rattle.pb_language.specs.Rules.{is_letter, is_digit}
-use Rattle.pb_language.specs.plain.Tokens.{Sign, is_blank, is_quote, is_paired, sign_of, pair_of}
-use Rattle.pb_language.specs.plain.Tokens.{alone_of}
+use Rattle.pb_language.specs.Tokens.{Sign, is_blank, is_quote, is_paired, sign_of, pair_of}
+use Rattle.pb_language.specs.Tokens.{alone_of}
 use Rattle.pb_expr.specs.declared.lexer.Sort.{Sort}
 use Rattle.pb_expr.specs.declared.lexer.Sort.TheVariants as sort
 
@@ -14,11 +14,12 @@ abbrev pub begins_other : ℕ → Bool
 begins_other b = (is_blank b || is_letter b) || (begins_numeral b || is_quote b)
 
 -- `==`, `!=`, `<=` and `>=`
-abbrev pub may_pair : Sort → Bool
-may_pair sort.Equal = true
-may_pair sort.Unequal = true
-may_pair sort.Order = true
-may_pair s = false
+abbrev pub is_double : Sort → Bool
+is_double sort.Equal = true
+is_double sort.Unequal = true
+is_double sort.AtMost = true
+is_double sort.AtLeast = true
+is_double s = false
 
 abbrev pub starts_equal : List ℕ → Bool
 starts_equal [] = false

@@ -1,12 +1,14 @@
 // The tokens of an expression's text.
-ghost use Rattle.std.specs.Prelude.{◌++◌, ◌+◌, ◌<◌, ◌==◌, ◌||◌, ◌≡◌, ◌≤◌, IfErr, IfNone, IfOk};
+ghost use Rattle.std.specs.Prelude.{◌&&◌, ◌++◌, ◌+◌, ◌<◌, ◌==◌, ◌||◌, ◌≡◌, ◌≤◌, IfErr, IfNone};
+ghost use Rattle.std.specs.Prelude.{IfOk};
 ghost use Rattle.std.specs.Prelude.{IfSome, List, None, Some, drop, false, length, slice_index};
 ghost use Rattle.std.specs.Prelude.{slice_range, string_bytes, true, ℕ};
 ghost use Rattle.pb_expr.specs.Letters as letters;
-ghost use Rattle.pb_expr.specs.Letters.{IsLettered, is_lettered, letters_at, meaning_at};
+ghost use Rattle.pb_expr.specs.Letters.{IsSpelled, int_of, is_lettered, is_number, is_spelled};
+ghost use Rattle.pb_expr.specs.Letters.{letters_at, meaning_at};
 ghost use Rattle.pb_expr.specs.Letters.{quoted_letters, sort_tokens, tokens_at};
 ghost use Rattle.pb_expr.specs.Place.{least_width, place_of};
-ghost use Rattle.pb_expr.specs.Signs.{begins_numeral, begins_other, may_pair, sign_with};
+ghost use Rattle.pb_expr.specs.Signs.{begins_numeral, begins_other, is_double, sign_with};
 ghost use Rattle.pb_expr.specs.Signs.{starts_equal};
 ghost use Rattle.pb_expr.specs.Trees.{no_tree};
 ghost use Rattle.pb_semantics.specs.Words.{FaultGives, text as text_data};
@@ -14,7 +16,7 @@ ghost use Rattle.pb_language.specs.Words.{Tokens, a_number, are_digits, are_name
 ghost use Rattle.pb_language.specs.Words.{is_digit, is_letter, literal, literal_of, number_then};
 ghost use Rattle.pb_language.specs.Words.{quoted, sign_then, token, tokens_from, tokens_of};
 ghost use Rattle.pb_language.specs.Words.{unreadable, word_token};
-ghost use Rattle.pb_language.specs.plain.Tokens as tokens;
+ghost use Rattle.pb_language.specs.Tokens as tokens;
 
 use crate::fault::ExprFault;
 use std::alloc::{AllocError, Global};
@@ -36,7 +38,9 @@ pub enum Sort {
     None,
     /// A word that no form begins or joins with.
     Reserved,
-    Int(i64),
+    /// Digits, and digits behind a `-`.
+    Digits,
+    Minus,
     /// A quoted text.
     Text,
     Open,
@@ -44,12 +48,14 @@ pub enum Sort {
     Dot,
     Equal,
     Unequal,
-    /// `<`, `<=`, `>` or `>=`
-    Order,
+    Less,
+    AtMost,
+    More,
+    AtLeast,
     Pipe,
-    Bracket,
-    /// `]` or `,`
-    Stray,
+    OpenBracket,
+    CloseBracket,
+    Comma,
 }
 
 /// A token, and the bytes of the text that it has: from `start` on, before `end`.
@@ -68,7 +74,7 @@ pub fn token_at(text: &[u8], from: usize) -> Result<Token, ExprFault>
     ensures ends { IfOk result (λ t. t.end ≤ length text.now) }
     ensures wide { IfOk result (λ t. t.start + least_width t.sort ≤ t.end) }
     ensures read { IfOk result (λ t. tokens_at text.now t ≡ tokens_of (drop from text.now)) }
-    ensures lettered { IfOk result (λ t. IsLettered text.now t) }
+    ensures spelled { IfOk result (λ t. IsSpelled text.now t) }
 
     ensures refused { IfErr result (λ _. tokens_of (drop from text.now) ≡ unreadable) }
     ensures place { IfErr result (λ e. place_of e ≤ length text.now) }
@@ -97,7 +103,8 @@ pub fn token_at(text: &[u8], from: usize) -> Result<Token, ExprFault>
 pub fn name_of(alloc: Global, text: &[u8], token: Token) -> Result<String, ExprFault>
     requires ordered { token.start ≤ token.end }
     requires within { token.end ≤ length text.now }
-    requires lettered { are_name_bytes (letters_at text.now token) ≡ true }
+    requires lettered { is_lettered token.sort ≡ true }
+    requires spelled { IsSpelled text.now token }
     ensures named { IfOk result (λ n. string_bytes n ≡ letters_at text.now token) }
     ensures refused { IfErr result (λ e. e ≡ ExprFault.NoMemory) }
 {
@@ -183,7 +190,7 @@ fn sign_at(text: &[u8], start: usize) -> Result<Token, ExprFault>
     ensures ends { IfOk result (λ t. t.end ≤ length text.now) }
     ensures wide { IfOk result (λ t. t.start + least_width t.sort ≤ t.end) }
     ensures read { IfOk result (λ t. tokens_at text.now t ≡ tokens_of (drop start text.now)) }
-    ensures lettered { IfOk result (λ t. is_lettered t.sort ≡ false) }
+    ensures spelled { IfOk result (λ t. IsSpelled text.now t) }
 
     ensures refused { IfErr result (λ _. tokens_of (drop start text.now) ≡ unreadable) }
     ensures place { IfErr result (λ e. place_of e ≤ length text.now) }
@@ -192,11 +199,7 @@ fn sign_at(text: &[u8], start: usize) -> Result<Token, ExprFault>
     let Some(sort) = sign_of(text[start], is_paired) else {
         return Err(ExprFault::Unreadable { at: start });
     };
-    let end = if is_paired && is_pair(sort) {
-        start + 2
-    } else {
-        start + 1
-    };
+    let end = if is_pair(sort) { start + 2 } else { start + 1 };
     Ok(Token { sort, start, end })
 }
 
@@ -207,16 +210,19 @@ fn has_equal(text: &[u8], at: usize) -> bool
 }
 
 fn is_pair(sort: Sort) -> bool
-    ensures { result ≡ may_pair sort }
+    ensures { result ≡ is_double sort }
 {
-    sort == Sort::Equal || sort == Sort::Unequal || sort == Sort::Order
+    match sort {
+        Sort::Equal | Sort::Unequal | Sort::AtMost | Sort::AtLeast => true,
+        _ => false,
+    }
 }
 
-// The sort of a sign, which a `=` may follow.
+// The sort of a sign, with a `=` behind it or with none.
 fn sign_of(byte: u8, is_paired: bool) -> Option<Sort>
     ensures width { IfSome result (λ s. least_width s ≤ 1) }
-    ensures lettered { IfSome result (λ s. is_lettered s ≡ false) }
-    ensures pair { IfSome result (λ s. may_pair s ≡ tokens.is_paired byte) }
+    ensures spelled { IfSome result (λ s. (n : List ℕ) → is_spelled s n ≡ true) }
+    ensures pair { IfSome result (λ s. is_double s ≡ (is_paired && tokens.is_paired byte)) }
     ensures sign { IfSome result
         (λ s. (n w : List ℕ) (ts : Tokens)
         → sort_tokens s n w ts ≡ sign_then (sign_with byte is_paired) ts) }
@@ -227,11 +233,15 @@ fn sign_of(byte: u8, is_paired: bool) -> Option<Sort>
         b')' => Some(Sort::Close),
         b'.' => Some(Sort::Dot),
         b'|' => Some(Sort::Pipe),
-        b'[' => Some(Sort::Bracket),
-        b']' | b',' => Some(Sort::Stray),
-        b'<' | b'>' => Some(Sort::Order),
+        b'[' => Some(Sort::OpenBracket),
+        b']' => Some(Sort::CloseBracket),
+        b',' => Some(Sort::Comma),
         b'=' if is_paired => Some(Sort::Equal),
         b'!' if is_paired => Some(Sort::Unequal),
+        b'<' if is_paired => Some(Sort::AtMost),
+        b'>' if is_paired => Some(Sort::AtLeast),
+        b'<' => Some(Sort::Less),
+        b'>' => Some(Sort::More),
         _ => None,
     }
 }
@@ -244,7 +254,7 @@ fn word_at(text: &[u8], start: usize) -> Token
     ensures ends { result.end ≤ length text.now }
     ensures wide { result.start + least_width result.sort ≤ result.end }
     ensures read { tokens_at text.now result ≡ tokens_of (drop start text.now) }
-    ensures lettered { are_name_bytes (letters_at text.now result) ≡ true }
+    ensures spelled { IsSpelled text.now result }
 {
     let mut end = start + 1;
     while end < text.len() && is_in_name(text[end]) {
@@ -259,6 +269,7 @@ fn word_at(text: &[u8], start: usize) -> Token
 
 fn word_of(word: &[u8]) -> Sort
     ensures width { least_width result ≡ 1 }
+    ensures lettered { is_lettered result ≡ true }
     ensures word { (w : List ℕ) (ts : Tokens)
         → sort_tokens result word.now w ts ≡ token (word_token word.now) ts }
 {
@@ -285,18 +296,14 @@ fn number_at(text: &[u8], start: usize) -> Result<Token, ExprFault>
     ensures ends { IfOk result (λ t. t.end ≤ length text.now) }
     ensures wide { IfOk result (λ t. t.start + least_width t.sort ≤ t.end) }
     ensures read { IfOk result (λ t. tokens_at text.now t ≡ tokens_of (drop start text.now)) }
-    ensures lettered { IfOk result (λ t. is_lettered t.sort ≡ false) }
+    ensures spelled { IfOk result (λ t. IsSpelled text.now t) }
 
     ensures refused { IfErr result (λ _. tokens_of (drop start text.now) ≡ unreadable) }
     ensures place { IfErr result (λ e. place_of e ≤ length text.now) }
 {
     let end = after_digits(text, start + 1);
-    match number_of(&text[start..end]) {
-        Some(number) => Ok(Token {
-            sort: Sort::Int(number),
-            start,
-            end,
-        }),
+    match numeral_of(&text[start..end]) {
+        Some(sort) => Ok(Token { sort, start, end }),
         None => Err(ExprFault::Unreadable { at: start }),
     }
 }
@@ -317,23 +324,39 @@ fn after_digits(text: &[u8], from: usize) -> usize
     at
 }
 
-// The number that digits write, perhaps behind a `-`; none with a leading zero or past 64 bits.
-fn number_of(numeral: &[u8]) -> Option<i64>
+// Which of both the bytes are: digits, or digits behind a `-`; neither with a leading zero.
+fn numeral_of(numeral: &[u8]) -> Option<Sort>
     requires filled { 0 < length numeral.now }
     requires first { begins_numeral (slice_index numeral.now 0) ≡ true }
     requires digits { are_digits (drop 1 numeral.now) ≡ true }
-    ensures { result ≡ tokens.number_of numeral.now }
+    ensures width { IfSome result (λ s. least_width s ≡ 1) }
+    ensures spelled { IfSome result (λ s. is_spelled s numeral.now ≡ true) }
+    ensures number { IfSome result (λ s. (w : List ℕ) (ts : Tokens)
+        → sort_tokens s numeral.now w ts ≡ number_then (tokens.number_of numeral.now) ts) }
+    ensures refused { IfNone result (tokens.number_of numeral.now ≡ None) }
 {
-    let digits = if numeral[0] == b'-' {
-        &numeral[1..]
-    } else {
-        numeral
-    };
+    let is_negative = numeral[0] == b'-';
+    let digits = if is_negative { &numeral[1..] } else { numeral };
     if !is_numeral(digits) {
         return None;
     }
-    match str::from_utf8(numeral) {
-        Ok(text) => text.parse::<i64>().ok(),
+    Some(if is_negative {
+        Sort::Minus
+    } else {
+        Sort::Digits
+    })
+}
+
+/// The number that a token spells; none past 64 bits.
+pub fn number_of(text: &[u8], token: Token) -> Option<i64>
+    requires ordered { token.start ≤ token.end }
+    requires within { token.end ≤ length text.now }
+    requires number { is_number token.sort ≡ true }
+    requires spelled { is_spelled token.sort (letters_at text.now token) ≡ true }
+    ensures { result ≡ int_of token.sort (letters_at text.now token) }
+{
+    match str::from_utf8(&text[token.start..token.end]) {
+        Ok(numeral) => numeral.parse::<i64>().ok(),
         Err(_) => None,
     }
 }
@@ -356,7 +379,7 @@ fn text_at(text: &[u8], start: usize) -> Result<Token, ExprFault>
     ensures ends { IfOk result (λ t. t.end ≤ length text.now) }
     ensures wide { IfOk result (λ t. t.start + least_width t.sort ≤ t.end) }
     ensures read { IfOk result (λ t. tokens_at text.now t ≡ tokens_of (drop start text.now)) }
-    ensures lettered { IfOk result (λ t. is_lettered t.sort ≡ false) }
+    ensures spelled { IfOk result (λ t. IsSpelled text.now t) }
 
     ensures refused { IfErr result (λ _. tokens_of (drop start text.now) ≡ unreadable) }
     ensures place { IfErr result (λ e. place_of e ≤ length text.now) }

@@ -12,7 +12,7 @@ ghost use Rattle.pb_language.specs.Words.{related as related_tree, relation_of, 
 ghost use Rattle.pb_language.specs.Words.{steps_of, template_of, tokens_of};
 ghost use Rattle.pb_value.specs.Words.{view};
 ghost use Rattle.pb_expr.specs.ExprView.{expr_view, names_of};
-ghost use Rattle.pb_expr.specs.Letters.{letters_at, tokens_at};
+ghost use Rattle.pb_expr.specs.Letters.{IsSpelled, is_lettered, letters_at, tokens_at};
 ghost use Rattle.pb_expr.specs.Reads.{IsRead, IsRefused, IsToken, joined_by, read_on};
 ghost use Rattle.pb_expr.specs.Place.{least_width, place_of};
 ghost use Rattle.pb_expr.specs.Trees.{no_tree};
@@ -20,7 +20,7 @@ ghost use Rattle.pb_expr.specs.Forms.{first_literal, opening_at, with_bytes};
 
 use crate::expr::{Expr, Path};
 use crate::fault::ExprFault;
-use crate::lexer::{Sort, Token, is_step, meaning_of, name_of, token_at};
+use crate::lexer::{Sort, Token, is_step, meaning_of, name_of, number_of, token_at};
 use pb_value::Value;
 use std::alloc::{AllocError, Global};
 
@@ -279,7 +279,9 @@ fn relation_behind(text: &[u8], sign: Token) -> Result<Option<(Sort, Token)>, Ex
             }
             Ok(Some((sign.sort, token_at(text, word.end)?)))
         }
-        Sort::Order | Sort::Is => Err(ExprFault::NotBuilt),
+        Sort::Less | Sort::AtMost | Sort::More | Sort::AtLeast | Sort::Is => {
+            Err(ExprFault::NotBuilt)
+        }
         _ => Ok(None),
     }
 }
@@ -409,8 +411,7 @@ fn literal_at(alloc: Global, text: &[u8], token: Token) -> Result<(Expr, Token),
 
 // The value that a token spells.
 fn literal_of(alloc: Global, text: &[u8], token: Token) -> Result<Value, ExprFault>
-    requires wide { token.start + least_width token.sort ≤ token.end }
-    requires within { token.end ≤ length text.now }
+    requires token { IsToken text.now token }
 
     ensures wide { IfOk result (λ _. token.start < token.end) }
     ensures read { IfOk result
@@ -421,11 +422,14 @@ fn literal_of(alloc: Global, text: &[u8], token: Token) -> Result<Value, ExprFau
     ensures place { IfErr result (λ e. place_of e ≤ length text.now) }
 {
     match token.sort {
-        Sort::Int(number) => Ok(Value::Int(number)),
+        Sort::Digits | Sort::Minus => match number_of(text, token) {
+            Some(number) => Ok(Value::Int(number)),
+            None => Err(ExprFault::Unreadable { at: token.start }),
+        },
         Sort::True => Ok(Value::Bool(true)),
         Sort::False => Ok(Value::Bool(false)),
         Sort::Text => Ok(Value::of_text(alloc, meaning_of(alloc, text, token)?)?),
-        Sort::None | Sort::Bracket => Err(ExprFault::NotBuilt),
+        Sort::None | Sort::OpenBracket => Err(ExprFault::NotBuilt),
         _ => Err(ExprFault::Unreadable { at: token.start }),
     }
 }
@@ -434,7 +438,8 @@ fn literal_of(alloc: Global, text: &[u8], token: Token) -> Result<Value, ExprFau
 fn path_at(alloc: Global, text: &[u8], token: Token) -> Result<(Expr, Token), ExprFault>
     requires wide { token.start < token.end }
     requires within { token.end ≤ length text.now }
-    requires lettered { are_name_bytes (letters_at text.now token) ≡ true }
+    requires lettered { is_lettered token.sort ≡ true }
+    requires spelled { IsSpelled text.now token }
     ensures read { IfOk result (λ r. IsRead text.now token r
         (path_of (letters_at text.now token) (tokens_of (drop token.end text.now)))) }
     ensures refused { IfErr result (λ e. IsRefused _ text.now e
@@ -445,7 +450,7 @@ fn path_at(alloc: Global, text: &[u8], token: Token) -> Result<(Expr, Token), Ex
     }
     let root = name_of(alloc, text, token)?;
     let (steps, after) = steps_at(alloc, text, token_at(text, token.end)?)?;
-    if after.sort == Sort::Bracket {
+    if after.sort == Sort::OpenBracket {
         return Err(ExprFault::NotBuilt);
     }
     Ok((Expr::Path(Path { root, steps }), after))

@@ -1,5 +1,5 @@
 -- What the grammar's readers read is derived by the productions.
-use Rattle.std.proofs.Common.{◌≡◌, ℕ, zero, suc, pred, ◌≤◌, List, [], ◌∷◌, ◌++◌, length, Bool, true, false, cond, Option, Some, None, option_map, codes, refl, sym, ap, ◌∙◌, subst, arith}
+use Rattle.std.proofs.Common.{◌≡◌, ℕ, zero, suc, ◌≤◌, List, [], ◌∷◌, ◌++◌, length, Bool, true, false, cond, Option, Some, None, option_map, codes, refl, sym, ap, ◌∙◌, subst, arith}
 use Rattle.std.proofs.lemmas.List.{append_assoc}
 use Rattle.std.proofs.lemmas.Option.{none-some, same_Some}
 use Rattle.std.proofs.lemmas.Slice.Eq.{bytes_eq-Decides}
@@ -8,7 +8,7 @@ use Rattle.pb_language.specs.Derivations.{Derivation, Nested, Letters, letters_o
 use Rattle.pb_language.specs.Expression.{Name, equal, Term, named_host, group_member, Expression, path, hostvars_alone, negation, conjunction, disjunction, comparison, list_of, variable, member, Expressions, no_expressions, expression}
 use Rattle.pb_language.specs.Grammar as grammar
 use Rattle.pb_language.specs.Grammar.{Reading, reading, Reader, Deeper, before, with_tree, then_on, before_some, Next, no_step, broken_step, a_step, letters_of, valid, step_to, dotted_step, bracketed_step, next_step, go_on, steps_of, unbracketed, place_of, in_group, term_named, group_term, name_term, term_of, host_path, host_steps, hostvars_of, group_path, path_of, closed, literal_of, operand_at, filter_named, filter_with, filter_of, filtered, count_of, operand_of, test_named, test_of, tested, contained, related, relation_of, negation_of, Link, and_link, or_link, comma_link, behind_link, chain_on, chain_of, joined, conjunction_of, disjunction_of, closed_items, items_of, deeper, all_of}
-use Rattle.pb_language.specs.Tokens.{Word, Token, Tokens, finish, unreadable, token, name, word, digits, quoted, sign, and_word, or_word, not_word, in_word, is_word, opening, closing, dot, compares, differs, bar, opening_bracket, closing_bracket, comma, tokens_of}
+use Rattle.pb_language.specs.Tokens.{Token, Tokens, finish, unreadable, token, name, word, digits, quoted, sign, and_word, or_word, not_word, in_word, is_word, opening, closing, dot, compares, differs, bar, opening_bracket, closing_bracket, comma, tokens_of}
 
 -- these tokens before those
 abbrev pub put : List Token → Tokens → Tokens

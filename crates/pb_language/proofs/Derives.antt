@@ -1,13 +1,13 @@
 -- What the productions derive is read by the grammar's readers.
-use Rattle.std.proofs.Common.{◌≡◌, ℕ, zero, suc, ◌+◌, ◌≤◌, List, [], ◌∷◌, ◌++◌, length, Bool, true, false, cond, Option, Some, None, option_map, codes, refl, sym, ap, ◌∙◌, subst, arith}
-use Rattle.std.proofs.lemmas.List.{append_assoc, length-append}
+use Rattle.std.proofs.Common.{◌≡◌, ℕ, zero, suc, ◌+◌, ◌≤◌, List, [], ◌∷◌, ◌++◌, length, Bool, true, false, cond, Option, Some, None, option_map, codes, refl, sym, ap, ◌∙◌, arith}
+use Rattle.std.proofs.lemmas.List.{length-append}
 use Rattle.std.proofs.lemmas.Option.{none-some, same_Some}
 use Rattle.std.specs.Str.{is_utf8, bytes_eq}
 use Rattle.pb_language.specs.Derivations.{Derivation, Nested, Letters, letters_of_name, letters_of_word, Steps, no_steps, dotted, bracketed, place, HostTerm, a_host_name, a_named_term, a_group_term, HostStep, a_dotted_host, a_bracketed_host, Path, own_path, group_place, no_host, hosts_path, Operand, a_literal, a_path, enclosed, a_list, Filters, no_filter, filter, filter_given, Filtered, an_operand, Relation, one_operand, are_compared, are_different, is_in, is_not_in, passes, fails, Negation, a_relation, a_negation, Links, an_and, an_or, a_comma, Chain, last, more, Joined, alone, several, Conjunction, Disjunction, Items, no_items, some_items, nested, Derives, with_token, listed, DerivedAreTrees}
-use Rattle.pb_language.specs.Expression.{Name, Comparison, equal, Term, named_host, group_member, Expression, path, hostvars_alone, negation, conjunction, disjunction, comparison, list_of, variable, member, Expressions, no_expressions, expression}
+use Rattle.pb_language.specs.Expression.{Name, Comparison, equal, Term, named_host, Expression, path, hostvars_alone, negation, conjunction, disjunction, comparison, list_of, variable, member, Expressions, no_expressions, expression}
 use Rattle.pb_language.specs.Grammar as grammar
 use Rattle.pb_language.specs.Grammar.{Reading, reading, Reader, Deeper, before, with_tree, then_on, before_some, no_step, letters_of, valid, step_to, next_step, go_on, steps_of, unbracketed, place_of, in_group, term_named, group_term, term_of, host_path, host_steps, hostvars_of, group_path, path_of, closed, literal_of, operand_at, filter_named, filter_with, filter_of, filtered, count_of, operand_of, test_named, contained, related, relation_of, negation_of, Link, and_link, or_link, comma_link, behind_link, chain_on, chain_of, joined, conjunction_of, disjunction_of, closed_items, items_of, deeper, all_of}
-use Rattle.pb_language.specs.Tokens.{Word, Token, Tokens, finish, unreadable, token, name, word, digits, minus, quoted, sign, and_word, or_word, not_word, in_word, is_word, opening, closing, dot, compares, differs, bar, opening_bracket, closing_bracket, comma, tokens_of}
+use Rattle.pb_language.specs.Tokens.{Token, Tokens, finish, unreadable, token, name, word, digits, minus, quoted, sign, and_word, or_word, not_word, in_word, is_word, opening, closing, compares, differs, bar, opening_bracket, closing_bracket, comma, tokens_of}
 use Rattle.pb_language.proofs.Derived.{put, put-append, same_name}
 
 -- what may follow the whole, what is between `or`s, what is between `and`s, an operand with its

@@ -1,14 +1,12 @@
 -- What the grammar's readers read is derived by the productions.
 use Rattle.std.proofs.Common.{◌≡◌, ℕ, zero, suc, ◌≤◌, List, [], ◌∷◌, ◌++◌, length, Bool, true, false, cond, Option, Some, None, refl, sym, ap, ◌∙◌, subst, arith}
 use Rattle.std.proofs.lemmas.Option.{none-some, same_Some}
-use Rattle.std.specs.Str.{is_utf8}
-use Rattle.pb_semantics.specs.Data.{boolean, int, text}
 use Rattle.pb_semantics.specs.Keeps.{is_among}
-use Rattle.pb_language.specs.plain.Derivations.{Derivation, Nested, Letters, letters_of_name, letters_of_word, Steps, no_step, step, Operand, a_number, a_truth, a_text, a_path, enclosed, Relation, one_operand, are_equal, are_different, is_in, is_not_in, Negation, a_relation, a_negation, Chain, last, more, Joined, alone, several, Conjunction, Disjunction, nested, Derives, with_token, listed, PlainTreesAreDerived}
-use Rattle.pb_language.specs.Expression.{Name, equal, Expression, literal, path, negation, conjunction, disjunction, comparison, membership, variable, Expressions, expression}
-use Rattle.pb_language.specs.plain.Grammar.{Reading, reading, Reader, Deeper, before, with_step, behind_dot, steps_of, as_path, path_of, closed, literal_before, operand_at, unfiltered, operand_of, with_tree, related, with_operand, relation_of, negation_of, behind_word, with_first, chain_on, chain_from, chain_of, joined, as_chain, count_of, conjunction_of, disjunction_of, deeper, all_of}
+use Rattle.pb_language.specs.plain.Derivations.{Derivation, Nested, Letters, letters_of_name, letters_of_word, Steps, no_step, step, Operand, a_literal, a_path, enclosed, Relation, one_operand, are_equal, are_different, is_in, is_not_in, Negation, a_relation, a_negation, Chain, last, more, Joined, alone, several, Conjunction, Disjunction, nested, Derives, with_token, listed, PlainTreesAreDerived}
+use Rattle.pb_language.specs.Expression.{Name, equal, Expression, path, negation, conjunction, disjunction, comparison, membership, variable, Expressions, expression}
+use Rattle.pb_language.specs.plain.Grammar.{Reading, reading, Reader, Deeper, before, with_step, behind_dot, steps_of, as_path, path_of, closed, literal_of, literal_before, operand_at, unfiltered, operand_of, with_tree, related, with_operand, relation_of, negation_of, behind_word, with_first, chain_on, chain_from, chain_of, joined, as_chain, count_of, conjunction_of, disjunction_of, deeper, all_of}
 use Rattle.pb_language.specs.Simple.{shared_names}
-use Rattle.pb_language.specs.plain.Tokens.{Word, Token, Tokens, finish, unreadable, token, name, word, number, quoted, sign, and_word, or_word, not_word, in_word, is_word, truth_word, opening, closing, dot, equals, differs, order, bar, bracket, tokens_of}
+use Rattle.pb_language.specs.Tokens.{Word, Token, Tokens, finish, unreadable, token, name, word, sign, and_word, or_word, not_word, in_word, is_word, opening, closing, dot, compares, differs, bar, opening_bracket, tokens_of}
 
 -- these tokens before those
 abbrev pub put : List Token → Tokens → Tokens
@@ -60,7 +58,7 @@ path-front d m ts us ns free h = record { front = name m ∷ h.front; same = ap 
 
 sound-as_path : (d : Nested) (m : Name) (ts : Tokens) (r : Option (Reading (List Name))) → is_among m shared_names ≡ false → Finds (FewSteps 16) ts r → Finds (Operand d) (token (name m) ts) (as_path m r)
 sound-as_path d m ts None free h = tt
-sound-as_path d m ts (Some (reading ns (token (sign bracket) us))) free h = tt
+sound-as_path d m ts (Some (reading ns (token (sign opening_bracket) us))) free h = tt
 sound-as_path d m ts (Some (reading ns us)) free h = path-front d m ts us ns free h
 
 sound-unless : (D : Derivation) (ts : Tokens) (b : Bool) (r : Option (Reading Expression)) → (b ≡ false → Finds D ts r) → Finds D ts (cond b None r)
@@ -86,19 +84,16 @@ sound-closed d ts r h = tt
 single : (D : Derivation) (t : Token) (ts : Tokens) (e : Expression) → D (t ∷ []) e → Finds D (token t ts) (before e ts)
 single D t ts e h = sound-before D (token t ts) ts e (record { front = t ∷ []; same = refl; tree = h })
 
-sound-text : (d : Nested) (w : Name) (ts : Tokens) (b : Bool) → is_utf8 w ≡ b → Finds (Operand d) (token (quoted w) ts) (literal_before (cond b (Some (literal (text w))) None) ts)
-sound-text d w ts false h = tt
-sound-text d w ts true h = single (Operand d) (quoted w) ts (literal (text w)) (a_text h)
+sound-literal : (d : Nested) (t : Token) (ts : Tokens) (o : Option Expression) → ((e : Expression) → o ≡ Some e → literal_of t ≡ Some e) → Finds (Operand d) (token t ts) (literal_before o ts)
+sound-literal d t ts None h = tt
+sound-literal d t ts (Some e) h = single (Operand d) t ts e (a_literal (h e refl))
 
 sound-bare : (d : Deeper) (D : Nested) → Sound d.whole D.whole → Sound (operand_at d) (Operand D)
 sound-bare d D h finish = tt
 sound-bare d D h unreadable = tt
 sound-bare d D h (token (sign opening) ts) = sound-closed D ts (d.whole ts) (h ts)
 sound-bare d D h (token (name n) ts) = sound-path D n ts
-sound-bare d D h (token (number z) ts) = single (Operand D) (number z) ts (literal (int z)) a_number
-sound-bare d D h (token (word (truth_word b) n) ts) = single (Operand D) (word (truth_word b) n) ts (literal (boolean b)) a_truth
-sound-bare d D h (token (quoted w) ts) = sound-text D w ts (is_utf8 w) refl
-sound-bare d D h (token t ts) = tt
+sound-bare d D h (token t ts) = sound-literal D t ts (literal_of t) (λ e is. is)
 
 sound-unfiltered : (D : Derivation) (ts : Tokens) (r : Option (Reading Expression)) → Finds D ts r → Finds D ts (unfiltered r)
 sound-unfiltered D ts (Some (reading e (token (sign bar) us))) h = tt
@@ -120,13 +115,13 @@ sound-right D ts us xs ys make same relate (Some (reading b vs)) h =
     record { front = xs ++ (ys ++ h.front); same = between ts us vs xs ys h.front same h.same; tree = relate h.front b h.tree }
 
 sound-related : (D : Nested) (operand : Reader) → Sound operand (Operand D) → (ts : Tokens) (a : Expression) (us : Tokens) → Front (Operand D) ts a us → Finds (Relation D) ts (related a us operand)
-sound-related D f h ts a (token (sign equals) us) l = sound-right D ts us l.front (sign equals ∷ []) (λ b. comparison equal a b) l.same (λ zs b r. are_equal l.tree r) (f us) (h us)
+sound-related D f h ts a (token (sign (compares equal)) us) l = sound-right D ts us l.front (sign (compares equal) ∷ []) (λ b. comparison equal a b) l.same (λ zs b r. are_equal l.tree r) (f us) (h us)
 sound-related D f h ts a (token (sign differs) us) l = sound-right D ts us l.front (sign differs ∷ []) (λ b. negation (comparison equal a b)) l.same (λ zs b r. are_different l.tree r) (f us) (h us)
 sound-related D f h ts a (token (word in_word n) us) l = sound-right D ts us l.front (word in_word n ∷ []) (λ b. membership a b) l.same (λ zs b r. is_in n l.tree r) (f us) (h us)
 sound-related D f h ts a (token (word not_word n) (token (word in_word m) us)) l =
     sound-right D ts us l.front (word not_word n ∷ word in_word m ∷ []) (λ b. negation (membership a b)) l.same (λ zs b r. is_not_in n m l.tree r) (f us) (h us)
 sound-related D f h ts a (token (word not_word n) us) l = tt
-sound-related D f h ts a (token (sign order) us) l = tt
+sound-related D f h ts a (token (sign (compares c)) us) l = tt
 sound-related D f h ts a (token (word is_word n) us) l = tt
 sound-related D f h ts a us l = record { front = l.front; same = l.same; tree = one_operand l.tree }
 

@@ -1,15 +1,13 @@
 -- What the productions derive is read by the grammar's readers.
-use Rattle.std.proofs.Common.{◌≡◌, ℕ, zero, suc, ◌+◌, ◌≤◌, List, [], ◌∷◌, ◌++◌, length, true, false, cond, Option, Some, None, refl, ap, ◌∙◌, arith}
+use Rattle.std.proofs.Common.{◌≡◌, ℕ, zero, suc, ◌+◌, ◌≤◌, List, [], ◌∷◌, ◌++◌, length, false, cond, Option, Some, None, refl, ap, ◌∙◌, arith}
 use Rattle.std.proofs.lemmas.List.{length-append}
 use Rattle.std.proofs.lemmas.Option.{none-some, same_Some}
-use Rattle.std.specs.Str.{is_utf8}
-use Rattle.pb_semantics.specs.Data.{boolean, int, text}
 use Rattle.pb_semantics.specs.Keeps.{is_among}
-use Rattle.pb_language.specs.plain.Derivations.{Derivation, Nested, Letters, letters_of_name, letters_of_word, Steps, no_step, step, Operand, a_number, a_truth, a_text, a_path, enclosed, Relation, one_operand, are_equal, are_different, is_in, is_not_in, Negation, a_relation, a_negation, Chain, last, more, Joined, alone, several, Conjunction, Disjunction, nested, Derives, with_token, listed, DerivedArePlainTrees}
-use Rattle.pb_language.specs.Expression.{Name, equal, Expression, literal, path, negation, conjunction, disjunction, comparison, membership, variable, Expressions, no_expressions, expression}
-use Rattle.pb_language.specs.plain.Grammar.{reading, Reader, Deeper, before, with_step, steps_of, as_path, path_of, closed, literal_before, unfiltered, operand_of, with_tree, related, with_operand, relation_of, negation_of, behind_word, with_first, chain_on, chain_from, chain_of, joined, as_chain, count_of, conjunction_of, disjunction_of, deeper, all_of}
+use Rattle.pb_language.specs.plain.Derivations.{Derivation, Nested, Letters, letters_of_name, letters_of_word, Steps, no_step, step, Operand, a_literal, a_path, enclosed, Relation, one_operand, are_equal, are_different, is_in, is_not_in, Negation, a_relation, a_negation, Chain, last, more, Joined, alone, several, Conjunction, Disjunction, nested, Derives, with_token, listed, DerivedArePlainTrees}
+use Rattle.pb_language.specs.Expression.{Name, equal, Expression, path, negation, conjunction, disjunction, comparison, membership, variable, Expressions, no_expressions, expression}
+use Rattle.pb_language.specs.plain.Grammar.{reading, Reader, Deeper, before, with_step, steps_of, as_path, path_of, closed, literal_of, literal_before, operand_at, unfiltered, operand_of, with_tree, related, with_operand, relation_of, negation_of, behind_word, with_first, chain_on, chain_from, chain_of, joined, as_chain, count_of, conjunction_of, disjunction_of, deeper, all_of}
 use Rattle.pb_language.specs.Simple.{shared_names}
-use Rattle.pb_language.specs.plain.Tokens.{Word, Token, Tokens, finish, unreadable, token, word, sign, and_word, or_word, not_word, in_word, closing, dot, equals, differs, tokens_of}
+use Rattle.pb_language.specs.Tokens.{Word, Token, Tokens, finish, unreadable, token, name, word, digits, minus, quoted, sign, and_word, or_word, not_word, in_word, closing, dot, compares, differs, tokens_of}
 use Rattle.pb_language.proofs.PlainDerived.{put, put-append}
 
 -- what may follow the whole, what is between `or`s, what is between `and`s, and an operand
@@ -27,7 +25,7 @@ data ClosesNot : Tokens → Type 0 where
 
 data ClosesOperand : Tokens → Type 0 where
   at_not : {us : Tokens} → ClosesNot us → ClosesOperand us
-  at_equals : {us : Tokens} → ClosesOperand (token (sign equals) us)
+  at_equals : {us : Tokens} → ClosesOperand (token (sign (compares equal)) us)
   at_differs : {us : Tokens} → ClosesOperand (token (sign differs) us)
   at_in : {n : Name} {us : Tokens} → ClosesOperand (token (word in_word n) us)
   at_not_in : {n : Name} {us : Tokens} → ClosesOperand (token (word not_word n) us)
@@ -90,8 +88,13 @@ path-read : (n : Name) (ts : Tokens) (ns : List Name) (us : Tokens) → is_among
 path-read n ts ns us free h c =
     ap (λ b. unfiltered (cond b None (as_path n (steps_of 16 ts)))) free ∙ ap (λ r. unfiltered (as_path n r)) h ∙ path-ends n ns us c
 
-text-read : (w : Name) (us : Tokens) → is_utf8 w ≡ true → ClosesOperand us → unfiltered (literal_before (cond (is_utf8 w) (Some (literal (text w))) None) us) ≡ Some (reading (literal (text w)) us)
-text-read w us valid c = ap (λ b. unfiltered (literal_before (cond b (Some (literal (text w))) None) us)) valid ∙ before-operand (literal (text w)) us c
+literal-read : (d : Deeper) (t : Token) (e : Expression) (us : Tokens) → literal_of t ≡ Some e → operand_at d (token t us) ≡ before e us
+literal-read d (name n) e us is = absurd (none-some e is)
+literal-read d (sign s) e us is = absurd (none-some e is)
+literal-read d (word w n) e us is = ap (λ o. literal_before o us) is
+literal-read d (digits n) e us is = ap (λ o. literal_before o us) is
+literal-read d (minus n) e us is = ap (λ o. literal_before o us) is
+literal-read d (quoted w) e us is = ap (λ o. literal_before o us) is
 
 enclosed-read : (f : Reader) (D : Derivation) → Complete f D Closes → (ts : List Token) (e : Expression) (us : Tokens) → D ts e → ClosesOperand us → unfiltered (closed (f (put (ts ++ sign closing ∷ []) us))) ≡ Some (reading e us)
 enclosed-read f D h ts e us tree c =
@@ -99,16 +102,12 @@ enclosed-read f D h ts e us tree c =
     ∙ ap (λ r. unfiltered (closed r)) (h ts e (token (sign closing) us) tree at_closing) ∙ before-operand e us c
 
 complete-operand : (d : Deeper) (D : Nested) → Complete d.whole D.whole Closes → Complete (operand_of d) (Operand D) ClosesOperand
-complete-operand d D h xs e us (a_number {z = z}) c = before-operand (literal (int z)) us c
-complete-operand d D h xs e us (a_truth {b = b}) c = before-operand (literal (boolean b)) us c
-complete-operand d D h xs e us (a_text {w = w} valid) c = text-read w us valid c
+complete-operand d D h xs e us (a_literal {t = t} is) c = ap unfiltered (literal-read d t e us is) ∙ before-operand e us c
 complete-operand d D h xs e us (a_path {n = n} {ts = ts} {ns = ns} free s le) c = path-read n (put ts us) ns us free (complete-steps 16 ts ns us le c s) c
 complete-operand d D h xs e us (enclosed {ts = ts} {e = a} tree) c = enclosed-read d.whole D.whole h ts a us tree c
 
 nonempty-operand : (D : Nested) → NonEmpty (Operand D)
-nonempty-operand D xs e a_number = omega arith
-nonempty-operand D xs e a_truth = omega arith
-nonempty-operand D xs e (a_text valid) = omega arith
+nonempty-operand D xs e (a_literal is) = omega arith
 nonempty-operand D xs e (a_path free s le) = omega arith
 nonempty-operand D xs e (enclosed tree) = omega arith
 
@@ -135,7 +134,7 @@ right-read f D h make ys b us r c = ap (with_tree make) (h ys b us r (at_not c))
 complete-related : (D : Nested) (f : Reader) → Complete f (Operand D) ClosesOperand → Complete (λ ts. with_operand (f ts) f) (Relation D) ClosesNot
 complete-related D f h xs e us (one_operand l) c = ap (λ r. with_operand r f) (h xs e us l (at_not c)) ∙ related-ends e us f c
 complete-related D f h xs e us (are_equal {ts = ts} {us = ys} {a = a} {b = b} l r) c =
-    left-read f (Operand D) h ts (sign equals ∷ ys) a us l at_equals ∙ right-read f (Operand D) h (λ b. comparison equal a b) ys b us r c
+    left-read f (Operand D) h ts (sign (compares equal) ∷ ys) a us l at_equals ∙ right-read f (Operand D) h (λ b. comparison equal a b) ys b us r c
 complete-related D f h xs e us (are_different {ts = ts} {us = ys} {a = a} {b = b} l r) c =
     left-read f (Operand D) h ts (sign differs ∷ ys) a us l at_differs ∙ right-read f (Operand D) h (λ b. negation (comparison equal a b)) ys b us r c
 complete-related D f h xs e us (is_in n {ts = ts} {us = ys} {a = a} {b = b} l r) c =
@@ -145,7 +144,7 @@ complete-related D f h xs e us (is_not_in n m {ts = ts} {us = ys} {a = a} {b = b
 
 nonempty-relation : (D : Nested) → NonEmpty (Relation D)
 nonempty-relation D xs e (one_operand l) = nonempty-operand D xs e l
-nonempty-relation D xs e (are_equal {ts = ts} {us = ys} l r) = nonempty-between ts (sign equals) ys
+nonempty-relation D xs e (are_equal {ts = ts} {us = ys} l r) = nonempty-between ts (sign (compares equal)) ys
 nonempty-relation D xs e (are_different {ts = ts} {us = ys} l r) = nonempty-between ts (sign differs) ys
 nonempty-relation D xs e (is_in n {ts = ts} {us = ys} l r) = nonempty-between ts (word in_word n) ys
 nonempty-relation D xs e (is_not_in n m {ts = ts} {us = ys} l r) = nonempty-between ts (word not_word n) (word in_word m ∷ ys)

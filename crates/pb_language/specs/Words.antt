@@ -39,9 +39,9 @@ pub use Rattle.pb_language.specs.Start.{acts, all_changes, calls, eval_action, p
 pub use Rattle.pb_language.specs.Start.{unchanged, with_pass}
 pub use Rattle.pb_language.specs.Tables.{written_spot}
 pub use Rattle.pb_language.specs.Task.{call_of}
-pub use Rattle.pb_language.specs.plain.Tokens.{Tokens, a_number, are_digits, escape_of, is_quote}
-pub use Rattle.pb_language.specs.plain.Tokens.{number_then, quoted, sign_then, token, tokens_from}
-pub use Rattle.pb_language.specs.plain.Tokens.{tokens_of, unreadable, word_token}
+pub use Rattle.pb_language.specs.Tokens.{Tokens, a_number, are_digits, escape_of, is_quote}
+pub use Rattle.pb_language.specs.Tokens.{number_then, quoted, sign_then, token, tokens_from}
+pub use Rattle.pb_language.specs.Tokens.{tokens_of, unreadable, word_token}
 pub use Rattle.pb_language.specs.Verdict.{accepted, code_of}
 pub use Rattle.pb_language.specs.World.{World}
 pub use Rattle.pb_language.specs.plain.Books.{are_plain_tasks, is_plain_task, lone_host, task_data}

@@ -5,6 +5,5 @@ pub mod Flow
 pub mod Tables
 pub mod Machine
 pub mod Gives
-pub mod Tokens
 pub mod Grammar
 pub mod Derivations

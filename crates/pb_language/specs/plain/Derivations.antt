@@ -1,21 +1,17 @@
 -- The grammar of expressions as productions: which lists of tokens have which trees, in no order of
 -- reading; and the law that a text's tree is the one that they derive.
-use Rattle.std.specs.Prelude.{◌≡◌, ◌≤◌, ℕ, zero, suc, ℤ, List, [], ◌∷◌, ◌++◌, Bool, true, false}
+use Rattle.std.specs.Prelude.{◌≡◌, ◌≤◌, ℕ, zero, suc, List, [], ◌∷◌, ◌++◌, false}
 use Rattle.std.specs.Prelude.{Option, Some, None, length}
-use Rattle.std.specs.Str.{is_utf8}
-use Rattle.pb_semantics.specs.Data.{boolean, int, text}
 use Rattle.pb_semantics.specs.Keeps.{is_among}
 use Rattle.pb_semantics.specs.Limits.{most_nesting, most_path_steps}
-use Rattle.pb_language.specs.Expression.{Name, equal, Expression, literal, path, negation}
+use Rattle.pb_language.specs.Expression.{Name, equal, Expression, path, negation}
 use Rattle.pb_language.specs.Expression.{conjunction, disjunction, comparison, membership, variable}
 use Rattle.pb_language.specs.Expression.{Expressions, no_expressions, expression}
-use Rattle.pb_language.specs.plain.Grammar.{expression_of}
+use Rattle.pb_language.specs.plain.Grammar.{expression_of, literal_of}
 use Rattle.pb_language.specs.Simple.{shared_names}
-use Rattle.pb_language.specs.plain.Tokens.{Word, and_word, or_word, not_word, in_word, truth_word}
-use Rattle.pb_language.specs.plain.Tokens.{opening, closing, dot, equals, differs, Token, name}
-use Rattle.pb_language.specs.plain.Tokens.{word}
-use Rattle.pb_language.specs.plain.Tokens.{number, quoted, sign, Tokens, finish, unreadable, token}
-use Rattle.pb_language.specs.plain.Tokens.{tokens_of}
+use Rattle.pb_language.specs.Tokens.{Word, and_word, or_word, not_word, in_word, opening}
+use Rattle.pb_language.specs.Tokens.{closing, dot, compares, differs, Token, name, word, sign}
+use Rattle.pb_language.specs.Tokens.{Tokens, finish, unreadable, token, tokens_of}
 
 -- these tokens have that tree
 abbrev pub Derivation : Type 1
@@ -39,9 +35,7 @@ pub data Steps : List Token → List Name → Type 0 where
 -- operand := number | truth value | text | name steps | "(" or ")", with at most 16 steps and none
 -- of the shared names
 pub data Operand (d : Nested) : List Token → Expression → Type 0 where
-  a_number : {z : ℤ} → Operand d (number z ∷ []) (literal (int z))
-  a_truth : {b : Bool} {n : Name} → Operand d (word (truth_word b) n ∷ []) (literal (boolean b))
-  a_text : {w : Name} → is_utf8 w ≡ true → Operand d (quoted w ∷ []) (literal (text w))
+  a_literal : {t : Token} {e : Expression} → literal_of t ≡ Some e → Operand d (t ∷ []) e
   a_path : {n : Name} {ts : List Token} {ns : List Name} → is_among n shared_names ≡ false
       → Steps ts ns → length ns ≤ most_path_steps → Operand d (name n ∷ ts) (path (variable n) ns)
   enclosed : {ts : List Token} {e : Expression} → d.whole ts e
@@ -51,7 +45,7 @@ pub data Operand (d : Nested) : List Token → Expression → Type 0 where
 pub data Relation (d : Nested) : List Token → Expression → Type 0 where
   one_operand : {ts : List Token} {a : Expression} → Operand d ts a → Relation d ts a
   are_equal : {ts us : List Token} {a b : Expression} → Operand d ts a → Operand d us b
-      → Relation d (ts ++ sign equals ∷ us) (comparison equal a b)
+      → Relation d (ts ++ sign (compares equal) ∷ us) (comparison equal a b)
   are_different : {ts us : List Token} {a b : Expression} → Operand d ts a → Operand d us b
       → Relation d (ts ++ sign differs ∷ us) (negation (comparison equal a b))
   is_in : (n : Name) {ts us : List Token} {a b : Expression} → Operand d ts a → Operand d us b

@@ -1,6 +1,7 @@
 -- The trees of texts (Ansible's pages on templating): expressions without tests, filters, orders,
 -- lists and steps in brackets, and templates that are one expression.
-use Rattle.std.specs.Prelude.{ℕ, zero, suc, List, [], ◌∷◌, Bool, false, ◌&&◌, ◌||◌, ◌==◌, cond}
+use Rattle.std.specs.Prelude.{ℕ, pos, neg_ℤ, nat_le}
+use Rattle.std.specs.Prelude.{zero, suc, List, [], ◌∷◌, Bool, false, ◌&&◌, ◌||◌, ◌==◌, cond}
 use Rattle.std.specs.Prelude.{Option, Some, None, take, drop, codes}
 use Rattle.std.specs.Str.{is_utf8, bytes_eq}
 use Rattle.pb_semantics.specs.Data.{boolean, int, text}
@@ -10,11 +11,10 @@ use Rattle.pb_language.specs.Expression.{Name, equal, Expression, literal, path,
 use Rattle.pb_language.specs.Expression.{conjunction, disjunction, comparison, membership, variable}
 use Rattle.pb_language.specs.Expression.{Expressions, no_expressions, expression}
 use Rattle.pb_language.specs.Simple.{shared_names}
-use Rattle.pb_language.specs.plain.Tokens.{Word, and_word, or_word, not_word, in_word, is_word}
-use Rattle.pb_language.specs.plain.Tokens.{truth_word, opening, closing, dot, equals, differs}
-use Rattle.pb_language.specs.plain.Tokens.{order, bar}
-use Rattle.pb_language.specs.plain.Tokens.{bracket, Token, name, word, number, quoted, sign, Tokens}
-use Rattle.pb_language.specs.plain.Tokens.{finish, unreadable, token, is_quote, tokens_of}
+use Rattle.pb_language.specs.Tokens.{Word, and_word, or_word, not_word, in_word, is_word}
+use Rattle.pb_language.specs.Tokens.{truth_word, opening, closing, dot, compares, differs, bar}
+use Rattle.pb_language.specs.Tokens.{opening_bracket, Token, name, word, digits, minus, quoted}
+use Rattle.pb_language.specs.Tokens.{sign, Tokens, finish, unreadable, token, is_quote, tokens_of}
 
 -- what tokens begin with, and the tokens behind it
 pub data Reading (T : Type 0) : Type 0 where
@@ -62,7 +62,7 @@ steps_of n ts = Some (reading [] ts)
 
 abbrev pub as_path : Name → Option (Reading (List Name)) → Option (Reading Expression)
 as_path n None = None
-as_path n (Some (reading ns (token (sign bracket) ts))) = None
+as_path n (Some (reading ns (token (sign opening_bracket) ts))) = None
 as_path n (Some (reading ns ts)) = Some (reading (path (variable n) ns) ts)
 
 abbrev pub path_of : Name → Reader
@@ -74,7 +74,9 @@ closed (Some (reading e (token (sign closing) ts))) = before e ts
 closed r = None
 
 abbrev pub literal_of : Token → Option Expression
-literal_of (number z) = Some (literal (int z))
+literal_of (digits n) = cond (nat_le n 9223372036854775807) (Some (literal (int (pos n)))) None
+literal_of (minus n) =
+    cond (nat_le n 9223372036854775808) (Some (literal (int (neg_ℤ (pos n))))) None
 literal_of (word (truth_word b) n) = Some (literal (boolean b))
 literal_of (quoted w) = cond (is_utf8 w) (Some (literal (text w))) None
 literal_of t = None
@@ -104,14 +106,15 @@ with_tree f None = None
 with_tree f (Some (reading e ts)) = Some (reading (f e) ts)
 
 abbrev pub related : Expression → Tokens → Reader → Option (Reading Expression)
-related a (token (sign equals) ts) operand = with_tree (λ b. comparison equal a b) (operand ts)
+related a (token (sign (compares equal)) ts) operand =
+    with_tree (λ b. comparison equal a b) (operand ts)
 related a (token (sign differs) ts) operand =
     with_tree (λ b. negation (comparison equal a b)) (operand ts)
 related a (token (word in_word n) ts) operand = with_tree (λ b. membership a b) (operand ts)
 related a (token (word not_word n) (token (word in_word m) ts)) operand =
     with_tree (λ b. negation (membership a b)) (operand ts)
 related a (token (word not_word n) ts) operand = None
-related a (token (sign order) ts) operand = None
+related a (token (sign (compares c)) ts) operand = None
 related a (token (word is_word n) ts) operand = None
 related a ts operand = Some (reading a ts)
 

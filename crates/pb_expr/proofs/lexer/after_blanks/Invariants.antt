@@ -1,6 +1,6 @@
 -- What the loop keeps that goes past blanks.
 use Rattle.std.proofs.Common.{◌≡◌, length, drop, ◌-◌, ◌≤◌}
-use Rattle.pb_language.specs.plain.Tokens.{tokens_of}
+use Rattle.pb_language.specs.Tokens.{tokens_of}
 use Rattle.pb_expr.proofs.lexer.after_blanks.Given as goal
 
 abbrev pub invariant-loop-at : goal.invariant-loop-at

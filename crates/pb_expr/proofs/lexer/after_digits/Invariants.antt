@@ -1,6 +1,6 @@
 -- What the loop keeps that goes past digits.
 use Rattle.std.proofs.Common.{◌≡◌, List, ℕ, ◌++◌, true, length, drop, slice_range, ◌-◌, ◌≤◌}
-use Rattle.pb_language.specs.plain.Tokens.{a_number, are_digits, tokens_from}
+use Rattle.pb_language.specs.Tokens.{a_number, are_digits, tokens_from}
 use Rattle.pb_expr.proofs.lexer.after_digits.Given as goal
 
 abbrev pub invariant-loop-at : goal.invariant-loop-at

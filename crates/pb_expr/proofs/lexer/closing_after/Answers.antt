@@ -2,7 +2,7 @@
 use Rattle.std.proofs.Common.{◌≡◌, ◌+◌, ◌-◌, drop, slice_range, slice_index, sym, ap, ◌∙◌, arith}
 use Rattle.std.proofs.lemmas.List.Edits.{between_none}
 use Rattle.std.specs.Option.{is_some}
-use Rattle.pb_language.specs.plain.Tokens.{a_text, quoted, token, tokens_from, tokens_of}
+use Rattle.pb_language.specs.Tokens.{a_text, quoted, token, tokens_from, tokens_of}
 use Rattle.pb_expr.specs.Letters.{unescaped}
 use Rattle.pb_expr.proofs.Scanned.{text-begins, text-ends}
 use Rattle.pb_expr.proofs.Meanings.{whole-none, whole-turn, whole-escaped, meaning-turn, meaning-escaped}

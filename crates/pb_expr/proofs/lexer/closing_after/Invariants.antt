@@ -1,6 +1,6 @@
 -- What the loop keeps that goes to a text's end.
 use Rattle.std.proofs.Common.{◌≡◌, ℕ, List, ◌++◌, length, drop, slice_range, ◌-◌, ◌+◌, ◌≤◌}
-use Rattle.pb_language.specs.plain.Tokens.{a_text, tokens_from, tokens_of}
+use Rattle.pb_language.specs.Tokens.{a_text, tokens_from, tokens_of}
 use Rattle.pb_expr.specs.Letters.{unescaped}
 use Rattle.pb_expr.proofs.lexer.closing_after.Given as goal
 

@@ -1,7 +1,7 @@
 -- What the loop keeps that goes to a word's end.
 use Rattle.std.proofs.Common.{◌≡◌, true, length, drop, slice_range, ◌-◌, ◌+◌, ◌≤◌}
 use Rattle.pb_language.specs.Rules.{are_name_bytes}
-use Rattle.pb_language.specs.plain.Tokens.{a_word, tokens_from, tokens_of}
+use Rattle.pb_language.specs.Tokens.{a_word, tokens_from, tokens_of}
 use Rattle.pb_expr.proofs.lexer.word_at.Given as goal
 
 abbrev pub invariant-loop-end : goal.invariant-loop-end

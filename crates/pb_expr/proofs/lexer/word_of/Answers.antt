@@ -1,6 +1,6 @@
 -- The words of more than three letters.
 use Rattle.std.proofs.Common.{◌≡◌, ℕ, List, [], ◌∷◌, length, slice_index, true, false, refl, subst, arith}
-use Rattle.pb_language.specs.plain.Tokens.{Tokens, none_word, other_word, token, truth_word, word, word_token, Word}
+use Rattle.pb_language.specs.Tokens.{Tokens, none_word, other_word, token, truth_word, word, word_token, Word}
 use Rattle.pb_expr.proofs.lexer.word_of.Goals as goal
 
 four : (w : List ℕ) (a b c d : ℕ) → length w ≡ 4 → slice_index w 0 ≡ a → slice_index w 1 ≡ b → slice_index w 2 ≡ c → slice_index w 3 ≡ d → a ∷ b ∷ c ∷ d ∷ [] ≡ w

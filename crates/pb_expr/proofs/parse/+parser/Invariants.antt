@@ -3,7 +3,7 @@ use Rattle.pb_expr.specs.Letters.{tokens_at}
 use Rattle.pb_expr.specs.Reads.{IsToken}
 use Rattle.pb_expr.specs.declared.lexer.Sort.TheVariants as sort
 use Rattle.pb_language.specs.plain.Grammar.{conjunction_of, deeper, negation_of}
-use Rattle.pb_language.specs.plain.Tokens.{and_word, or_word}
+use Rattle.pb_language.specs.Tokens.{and_word, or_word}
 use Rattle.pb_expr.proofs.Chains.{Begun}
 use Rattle.pb_language.specs.Simple.{are_simple}
 use Rattle.std.proofs.Common.{◌≡◌, true, length, ◌-◌, ◌+◌, ◌*◌, ◌<◌, ◌≤◌}

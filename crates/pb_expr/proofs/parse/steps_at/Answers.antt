@@ -1,10 +1,18 @@
-use Rattle.std.proofs.Common.{◌-◌, sym, ap, ◌∙◌, rules, arith, vec_len, List, String, Global}
+use Rattle.std.proofs.Common.{◌≡◌, true, ◌-◌, sym, ap, ◌∙◌, rules, arith, vec_len, List, String, Global}
 use Rattle.pb_language.specs.plain.Grammar.{steps_of}
 use Rattle.pb_expr.specs.ExprView.{names_of}
+use denote.Enum.Bare.{sameb, same_true}
 use Rattle.pb_expr.specs.Letters.{tokens_at}
+use Rattle.pb_expr.specs.Place.{least_width}
+use Rattle.pb_expr.specs.declared.lexer.Sort.TheVariants as sort
 use Rattle.pb_expr.proofs.Refusals.{refuses-none, passed-refused}
 use Rattle.pb_expr.proofs.Steps.{with_steps, steps-unread, steps-stray, steps-many, steps-next, steps-cut, steps-done}
+use Rattle.pb_expr.specs.contracts.lexer.Sort.{the_type}
+use Rattle.pb_expr.specs.declared.lexer.Token.{Token}
 use Rattle.pb_expr.proofs.parse.steps_at.Goals as goal
+
+is_dot : (t : Token) → sameb the_type t.sort sort.Dot ≡ true → t.sort ≡ sort.Dot
+is_dot t h = same_true the_type (record {}) t.sort sort.Dot h
 
 pub returns-in_err-name-clause-refused : goal.returns-in_err-name-clause-refused
 returns-in_err-name-clause-refused c =
@@ -36,12 +44,17 @@ pub steps-preserved : goal.steps-preserved
 steps-preserved c = record {
   short = search rules;
   begins = search rules;
-  next = record { wide = c.in_ok-after.ensures.wide; within = c.in_ok-after.ensures.ends; lettered = c.in_ok-after.ensures.lettered };
+  next = record { wide = c.in_ok-after.ensures.wide; within = c.in_ok-after.ensures.ends; spelled = c.in_ok-after.ensures.spelled };
   left =
       steps-next c.args.text.now _ c.steps.steps.items (16 - vec_len c.steps.steps) (16 - vec_len c.push.new.self) c.steps.after c.in_ok-name.name c.in_ok-after.after c.in_ok-name_of.field-0
-      c.steps.invariant.left (search rules) (omega (arith, c.len.ensures, c.if-len-ge-STEPS.false, c.in_ok-push.ensures.len)) c.in_ok-name.ensures.read (sym c.if-not-is_step.ensures) c.in_ok-name_of.ensures.named c.in_ok-after.ensures.read
+      c.steps.invariant.left (is_dot c.steps.after (sym c.eq.ensures ∙ c.steps-test.true)) (omega (arith, c.len.ensures, c.if-len-ge-STEPS.false, c.in_ok-push.ensures.len)) c.in_ok-name.ensures.read (sym c.if-not-is_step.ensures) c.in_ok-name_of.ensures.named c.in_ok-after.ensures.read
       ∙ ap (λ (ns : List (String Global)). with_steps (names_of ns) (steps_of (16 - vec_len c.push.new.self) (tokens_at c.args.text.now c.in_ok-after.after))) (sym c.in_ok-push.ensures.items);
 }
 
 pub returns-clause-read : goal.returns-clause-read
 returns-clause-read c = steps-done c.args.text.now _ (names_of c.steps.steps.items) (16 - vec_len c.steps.steps) c.steps.after c.steps.invariant.left (search rules)
+
+pub steps-smaller : goal.steps-smaller
+steps-smaller c =
+    let width = ap least_width (is_dot c.steps.after (sym c.eq.ensures ∙ c.steps-test.true)) in
+    omega (arith, width, c.steps.invariant.next.wide, c.in_ok-name.ensures.begins, c.in_ok-name.ensures.wide, c.in_ok-after.ensures.begins)

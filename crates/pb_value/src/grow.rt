@@ -2,7 +2,8 @@
 ghost use Rattle.std.specs.Prelude.{◌≡◌, Bool, IfOk, OnOk, map, string_bytes, true};
 ghost use Rattle.pb_semantics.specs.Words.{all_sure, is_among, is_listed, is_sure, kind_with};
 ghost use Rattle.pb_semantics.specs.Words.{Cases, lists, marked, met, met_slots};
-ghost use Rattle.pb_semantics.specs.Words.{never, put_slot as with_slot, puts, recs, results, slot_at};
+ghost use Rattle.pb_semantics.specs.Words.{never, put_slot as with_slot, puts, recs, results};
+ghost use Rattle.pb_semantics.specs.Words.{slot_at};
 ghost use Rattle.pb_value.specs.KindView.{is_always as is_certain, kind_view, slots_view};
 ghost use Rattle.pb_value.specs.Growing.{growing_view, joined_onto, kinds_view};
 

@@ -11,7 +11,8 @@ use Rattle.pb_language.proofs.Untaught.{narrow_untaught}
 use Rattle.pb_value.specs.KindView.{kind_view}
 use Rattle.pb_value.specs.declared.kind.Kind.{Kind}
 use Rattle.pb_expr.specs.ExprView.{expr_view, exprs_view}
-use Rattle.pb_expr.specs.FitView.{LeadsTo, certain, joined_onto}
+use Rattle.pb_expr.specs.FitView.{LeadsTo, certain}
+use Rattle.pb_value.specs.Growing.{joined_onto}
 use Rattle.pb_expr.specs.declared.expr.Expr.{Expr}
 use Rattle.pb_expr.proofs.Untaught.{expr-untaught}
 

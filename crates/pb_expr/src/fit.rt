@@ -3,8 +3,7 @@ ghost use Rattle.std.specs.Prelude.{◌∷◌, ◌≡◌, Bool, IfOk, List, Matc
 ghost use Rattle.std.specs.Prelude.{option_map, string_bytes, true, ℕ};
 ghost use Rattle.pb_semantics.specs.Words.{Cases, Gives, any_case_holds, any_slot_holds};
 ghost use Rattle.pb_semantics.specs.Words.{booleans, count_of, holds_any as any_in};
-ghost use Rattle.pb_semantics.specs.Words.{join as least_above};
-ghost use Rattle.pb_semantics.specs.Words.{lists, never, put_slot, recs, results};
+ghost use Rattle.pb_semantics.specs.Words.{lists, put_slot, recs, results};
 ghost use Rattle.pb_semantics.specs.Words.{slot_at as spot_at, spot};
 ghost use Rattle.pb_language.specs.Words.{are_booleans, asks, can_compare, can_find, chain_fault};
 ghost use Rattle.pb_language.specs.Words.{count, equal, fault, fields_fault, first};
@@ -17,12 +16,11 @@ ghost use Rattle.pb_value.specs.Words.{cases_view, fields_view, items_view, kind
 ghost use Rattle.pb_value.specs.Words.{view};
 ghost use Rattle.pb_expr.specs.ExprView.{expr_view, exprs_view, names_of, parts_view};
 ghost use Rattle.pb_expr.specs.FitView.{LeadsTo, certain, fault_found, fault_view};
-ghost use Rattle.pb_expr.specs.FitView.{joined_onto, own_scope};
+ghost use Rattle.pb_expr.specs.FitView.{own_scope};
 
 use crate::expr::{Expr, Path};
 use pb_value::below::find;
-use pb_value::join::join;
-use pb_value::{Case, Fields, Kind, Slot, Slots, Value, put_slot};
+use pb_value::{Case, Fields, Kind, Slot, Slots, Value, join_all, put_slot};
 use std::alloc::{AllocError, AllocFailed, Global};
 use std::collections::BTreeMap;
 use thiserror::Error;
@@ -148,7 +146,7 @@ fn list_kind(alloc: Global, items: &[Expr], slots: &Slots) -> Result<Kind, KindF
         let kind = part_kind(alloc, item, slots)?;
         kinds.push(kind)?;
     }
-    let joined = join_all(alloc, kinds)?;
+    let joined = join_all(alloc, &kinds)?;
     Ok(Kind::of_item(alloc, joined, items.len())?)
 }
 
@@ -196,17 +194,6 @@ fn not_any(kind: Kind) -> Result<Kind, KindFault>
         return Err(KindFault::Unfit(Unfit::WrongKind));
     }
     Ok(kind)
-}
-
-// The least kind above all of these, from the last to the first.
-fn join_all(alloc: Global, kinds: Vec<Kind>) -> Result<Kind, AllocError>
-    ensures { IfOk result (λ k. kind_view k ≡ joined_onto kinds.items never) }
-{
-    let mut joined = Kind::Never;
-    for index in (0..kinds.len()).rev() {
-        joined = join(alloc, &kinds[index], &joined)?;
-    }
-    Ok(joined)
 }
 
 fn put(kinds: &mut Slots, name: &String, kind: Kind) -> Result<(), AllocError>
@@ -433,18 +420,13 @@ fn literal_items(alloc: Global, items: &[Value]) -> Result<Kind, AllocError>
         ≡ lists (known_items (items_view items.now))
         (count_of (items_view items.now))) }
 {
-    let mut joined = Kind::Never;
-    for index in (0..items.len()).rev() {
-        let kind = literal_kind(alloc, &items[index])?;
-        joined = joined_kind(alloc, kind, joined)?;
+    let mut kinds = Vec::new(alloc);
+    for item in items {
+        let kind = literal_kind(alloc, item)?;
+        kinds.push(kind)?;
     }
+    let joined = join_all(alloc, &kinds)?;
     Kind::of_item(alloc, joined, items.len())
-}
-
-fn joined_kind(alloc: Global, kind: Kind, joined: Kind) -> Result<Kind, AllocError>
-    ensures { IfOk result (λ k. kind_view k ≡ least_above (kind_view kind) (kind_view joined)) }
-{
-    join(alloc, &kind, &joined)
 }
 
 #[cycle(literal_kind)]

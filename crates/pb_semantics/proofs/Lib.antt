@@ -9,6 +9,7 @@ pub mod Through
 pub mod PutSlots
 pub mod JoinSlots
 pub mod JoinCases
+pub mod Ascents
 pub mod JoinAbove
 pub mod JoinLeast
 pub mod JoinWell

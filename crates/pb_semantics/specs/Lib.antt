@@ -4,6 +4,7 @@ pub mod Kind
 pub mod Keeps
 pub mod Below
 pub mod Join
+pub mod Grown
 pub mod Project
 pub mod Render
 pub mod Well

@@ -8,14 +8,15 @@ pub use Rattle.pb_semantics.specs.Equal.{data_eq, fields_eq, is_item, is_part, i
 pub use Rattle.pb_semantics.specs.Fit.{any_case_holds, any_slot_holds, holds_any, is_any}
 pub use Rattle.pb_semantics.specs.Fit.{is_boolean}
 pub use Rattle.pb_semantics.specs.Gives.{FaultGives, Gives}
+pub use Rattle.pb_semantics.specs.Grown.{all_sure, is_sure, marked, met, met_slots, puts}
 pub use Rattle.pb_semantics.specs.Join.{add_cases, add_names, append_cases, join, join_slots}
 pub use Rattle.pb_semantics.specs.Join.{joined, kind_with, new_cases, presence_with, record_with}
 pub use Rattle.pb_semantics.specs.Join.{with_others}
 pub use Rattle.pb_semantics.specs.Keeps.{all_items, all_listed, cases_kept, flag_is, has_status}
 pub use Rattle.pb_semantics.specs.Keeps.{is_among, keeps, slots_kept}
-pub use Rattle.pb_semantics.specs.Kind.{Cases, booleans, hosts, is_listed, lists, never, no_cases}
-pub use Rattle.pb_semantics.specs.Kind.{no_slots, ok_shape, one, put_slot, recs, results, shape_eq}
-pub use Rattle.pb_semantics.specs.Kind.{skipped_shape, slot_at, spot, texts}
+pub use Rattle.pb_semantics.specs.Kind.{Cases, Slots, booleans, hosts, is_listed, lists, never}
+pub use Rattle.pb_semantics.specs.Kind.{no_cases, no_slots, ok_shape, one, put_slot, recs, results}
+pub use Rattle.pb_semantics.specs.Kind.{shape_eq, skipped_shape, slot_at, spot, texts}
 pub use Rattle.pb_semantics.specs.Limits.{most_answer_bytes, most_book_bytes, most_hosts}
 pub use Rattle.pb_semantics.specs.Limits.{most_inventory_bytes, most_kind_weight, most_levels}
 pub use Rattle.pb_semantics.specs.Limits.{most_nesting, most_output_lines, most_path_steps}

@@ -6,4 +6,5 @@ pub mod Copies
 pub mod Projections
 pub mod KindLemmas
 pub mod JoinLemmas
+pub mod GrowLemmas
 mod Texts

@@ -1,5 +1,6 @@
 pub mod View
 pub mod KindView
+pub mod Growing
 pub mod FromJson
 pub mod Found
 pub mod Append

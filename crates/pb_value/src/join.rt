@@ -51,7 +51,7 @@ pub fn join(alloc: Global, first: &Kind, second: &Kind) -> Result<Kind, AllocErr
     }
 }
 
-fn larger(first: usize, second: usize) -> usize
+pub(crate) fn larger(first: usize, second: usize) -> usize
     ensures { result ≡ max first second }
 {
     if first < second { second } else { first }

@@ -9,6 +9,7 @@
 #![tactic(auto)]
 
 pub mod below;
+pub mod grow;
 pub mod join;
 pub mod keeps;
 pub mod kind;
@@ -19,6 +20,7 @@ pub mod render;
 pub mod value;
 pub mod weight;
 
+pub use grow::join_all;
 pub use join::join_slots;
 pub use kind::{Case, Kind, Presence, Shape, Slot, Slots, put_slot};
 pub use read::{JsonFault, read_json};

@@ -1,6 +1,8 @@
 pub mod Codes
 pub mod Meaning
 pub mod Way
+pub mod Avoids
+pub mod Environments
 pub mod ResultTables
 pub mod Faults
 pub mod Judges

@@ -10,6 +10,8 @@
 
 mod budget;
 pub mod checked;
+mod environment;
+mod reads;
 pub mod refusal;
 mod results;
 mod rules;

@@ -17,18 +17,19 @@ ghost use Rattle.pb_expr.specs.Words.{expr_view, fault_found, own_scope};
 ghost use Rattle.pb_sig.specs.Words.{module_at, modules_of, parameter_view};
 ghost use Rattle.pb_book.specs.Words.{are_known, argument_parts, condition_view, is_known};
 ghost use Rattle.pb_book.specs.Words.{plain_task, plain_tasks, work_of};
+ghost use Rattle.pb_verify.specs.Environments.{environment_view};
 ghost use Rattle.pb_verify.specs.Faults.{fault_refusal};
 ghost use Rattle.pb_verify.specs.ResultTables.{Lists};
 ghost use Rattle.pb_verify.specs.Way.{Stands, all_joined, all_set, join_slot, known_after};
 ghost use Rattle.pb_verify.specs.Way.{own_fault, own_sets, put_spot, register_joined, registered};
 ghost use Rattle.pb_verify.specs.Way.{sets_of, work_result, written_after, written_result};
 
+use crate::environment::{Environment, environment_of, make_ready, put_known, settled, widen};
 use crate::results::ResultTable;
 use pb_book::{Argument, Task, Work};
 use pb_expr::{Expr, KindFault, Unfit, kind_of};
 use pb_sig::{Module, Parameter, Registry};
-use pb_value::below::{below, find};
-use pb_value::join::join;
+use pb_value::below::below;
 use pb_value::{Kind, Slot, Slots, put_slot};
 use std::alloc::{AllocError, Global};
 use std::collections::BTreeSet;
@@ -70,8 +71,8 @@ pub fn follow(
         (slots_view f.known.entries)) }
 {
     let results = ResultTable::of(alloc, registry)?;
-    let mut environment = opening;
-    let mut known = Slots::new(alloc);
+    let mut environment = environment_of(opening);
+    let mut known = environment_of(Slots::new(alloc));
     let fault = first_fault(
         alloc,
         tasks,
@@ -80,6 +81,7 @@ pub fn follow(
         &mut environment,
         &mut known,
     )?;
+    let known = settled(alloc, known)?;
     Ok(Followed { fault, known })
 }
 
@@ -90,23 +92,23 @@ fn first_fault(
     tasks: &[Task],
     registry: &Registry,
     results: &ResultTable,
-    environment: &mut Slots,
-    known: &mut Slots,
+    environment: &mut Environment,
+    known: &mut Environment,
 ) -> Result<Option<FaultAt>, AllocError>
     requires known { are_known (modules_of registry.now) tasks.now ≡ true }
     requires plain { are_plain_tasks (plain_tasks tasks.now) ≡ true }
     requires ruled { plain_rules (modules_of registry.now) (plain_tasks tasks.now) ≡ None }
     requires listed { Lists results.now (modules_of registry.now) }
-    requires empty { slots_view known.old.entries ≡ no_slots }
+    requires empty { environment_view known.old ≡ no_slots }
 
     ensures fault { IfOk result
-        (λ f. (h : Name) → Stands h (slots_view environment.old.entries) no_slots
+        (λ f. (h : Name) → Stands h (environment_view environment.old) no_slots
         → option_map (fault_refusal h) f
         ≡ plain_flow (modules_of registry.now) h 0 no_slots (plain_tasks tasks.now)) }
     ensures known { IfOk result
-        (λ f. (h : Name) → Stands h (slots_view environment.old.entries) no_slots → f ≡ None
+        (λ f. (h : Name) → Stands h (environment_view environment.old) no_slots → f ≡ None
         → Joins (plain_writes (modules_of registry.now) h 0 no_slots (plain_tasks tasks.now))
-        (slots_view known.new.entries)) }
+        (environment_view known.new)) }
 {
     for task in tasks {
         match step(alloc, task, registry, results, environment, known) {
@@ -127,23 +129,23 @@ fn step(
     task: &Task,
     registry: &Registry,
     results: &ResultTable,
-    environment: &mut Slots,
-    known: &mut Slots,
+    environment: &mut Environment,
+    known: &mut Environment,
 ) -> Result<(), KindFault>
     requires { is_known (modules_of registry.now) task.now.work ≡ true }
     ensures fault { Gives (λ x. None) fault_found result
-        (own_fault (modules_of registry.now) (slots_view environment.old.entries)
+        (own_fault (modules_of registry.now) (environment_view environment.old)
         (plain_task task.now)) }
     ensures known { OnOk result
-        (Lists results.now (modules_of registry.now) → slots_view environment.new.entries
+        (Lists results.now (modules_of registry.now) → environment_view environment.new
         ≡ known_after (modules_of registry.now) (plain_task task.now)
-        (slots_view environment.old.entries)) }
+        (environment_view environment.old)) }
     ensures written { OnOk result
-        (Lists results.now (modules_of registry.now) → slots_view known.new.entries
+        (Lists results.now (modules_of registry.now) → environment_view known.new
         ≡ written_after (modules_of registry.now) (plain_task task.now)
-        (slots_view environment.old.entries) (slots_view known.old.entries)) }
+        (environment_view environment.old) (environment_view known.old)) }
 {
-    let sets = task_asked(alloc, task, registry, environment)?;
+    let sets = task_ready(alloc, task, registry, environment)?;
     learn(alloc, task, results, &sets, known)?;
     Ok(write(alloc, task, results, sets, environment)?)
 }
@@ -186,6 +188,26 @@ fn put_certain(
 }
 
 type Sets = Vec<(Arc<String>, Kind)>;
+
+// Asks the task where what it reads isn't kept apart.
+fn task_ready(
+    alloc: Global,
+    task: &Task,
+    registry: &Registry,
+    environment: &mut Environment,
+) -> Result<Sets, KindFault>
+    requires { is_known (modules_of registry.now) task.now.work ≡ true }
+    ensures fault { Gives (λ x. None) fault_found result
+        (own_fault (modules_of registry.now) (environment_view environment.old)
+        (plain_task task.now)) }
+    ensures sets { IfOk result (λ s. (a : Bool) → sets_of a s.items
+        ≡ own_sets (own_scope (environment_view environment.old)) a (plain_task task.now).work) }
+    ensures view { OnOk result (environment_view environment.new
+        ≡ environment_view environment.old) }
+{
+    make_ready(alloc, task, environment)?;
+    task_asked(alloc, task, registry, &environment.slots)
+}
 
 // Asks the task's texts, its condition and then its arguments by name, and answers what the task
 // sets.
@@ -357,49 +379,25 @@ fn learn(
     task: &Task,
     results: &ResultTable,
     sets: &Sets,
-    known: &mut Slots,
+    known: &mut Environment,
 ) -> Result<(), AllocError>
     ensures { OnOk result ((ms : Modules) → Lists results.now ms → is_known ms task.now.work ≡ true
         → (a : Bool)
-        → slots_view known.new.entries
+        → environment_view known.new
         ≡ all_joined (sets_of a sets.now.items)
         (register_joined (option_map (λ n. string_bytes n.value) task.now.register)
         (written_result ms (is_conditional (condition_view task.now.when))
         (work_of task.now.work no_parts))
-        (slots_view known.old.entries))) }
+        (environment_view known.old))) }
 {
     if let Some(name) = &task.register {
         let kind = results.written_kind(&task.work, task.when.is_some())?;
-        add(alloc, name, kind, known)?;
+        widen(alloc, name, kind, known)?;
     }
     for (name, kind) in sets {
-        add(alloc, name, kind.clone()?, known)?;
+        widen(alloc, name, kind.clone()?, known)?;
     }
     Ok(())
-}
-
-fn add(alloc: Global, name: &String, kind: Kind, known: &mut Slots) -> Result<(), AllocError>
-    ensures { OnOk result (slots_view known.new.entries
-        ≡ join_slot (string_bytes name.now) (kind_view kind) (slots_view known.old.entries)) }
-{
-    let slot = joined(alloc, find(known, name.as_str()), kind)?;
-    put_slot(known, name.clone()?, slot)
-}
-
-// A write that leaves what was there before possible.
-fn joined(alloc: Global, before: Option<&Slot<Kind>>, kind: Kind) -> Result<Slot<Kind>, AllocError>
-    ensures written { IfOk result (λ s. spot (is_always s.presence) (kind_view s.kind)
-        ≡ written_spot (spot_view before.entry) (kind_view kind)) }
-    ensures set { IfOk result (λ s. spot (is_always s.presence) (kind_view s.kind)
-        ≡ set_spot false (spot_view before.entry) (kind_view kind)) }
-{
-    match before {
-        Some(slot) => Ok(Slot {
-            presence: slot.presence,
-            kind: join(alloc, &slot.kind, &kind)?,
-        }),
-        None => Ok(Slot::maybe(kind)),
-    }
 }
 
 // What is known after the task: what it registers, then what it sets.
@@ -408,35 +406,36 @@ fn write(
     task: &Task,
     results: &ResultTable,
     sets: Sets,
-    environment: &mut Slots,
+    environment: &mut Environment,
 ) -> Result<(), AllocError>
     ensures { OnOk result ((ms : Modules) → Lists results.now ms → is_known ms task.now.work ≡ true
-        → slots_view environment.new.entries
+        → environment_view environment.new
         ≡ all_set (sets_of (not (is_conditional (condition_view task.now.when))) sets.items)
         (registered (option_map (λ n. string_bytes n.value) task.now.register)
         (work_result ms (is_conditional (condition_view task.now.when))
         (work_of task.now.work no_parts))
-        (slots_view environment.old.entries))) }
+        (environment_view environment.old))) }
 {
-    put_registered(task, results, environment)?;
+    put_registered(alloc, task, results, environment)?;
     set_all(alloc, sets, !task.when.is_some(), environment)
 }
 
 fn put_registered(
+    alloc: Global,
     task: &Task,
     results: &ResultTable,
-    environment: &mut Slots,
+    environment: &mut Environment,
 ) -> Result<(), AllocError>
     ensures { OnOk result ((ms : Modules) → Lists results.now ms → is_known ms task.now.work ≡ true
-        → slots_view environment.new.entries
+        → environment_view environment.new
         ≡ registered (option_map (λ n. string_bytes n.value) task.now.register)
         (work_result ms (is_conditional (condition_view task.now.when))
         (work_of task.now.work no_parts))
-        (slots_view environment.old.entries)) }
+        (environment_view environment.old)) }
 {
     if let Some(name) = &task.register {
         let kind = results.kind(&task.work, task.when.is_some())?;
-        put_slot(environment, (**name).clone()?, Slot::always(kind))?;
+        put_known(alloc, (**name).clone()?, kind, environment)?;
     }
     Ok(())
 }
@@ -446,10 +445,10 @@ fn set_all(
     alloc: Global,
     sets: Sets,
     is_certain: bool,
-    environment: &mut Slots,
+    environment: &mut Environment,
 ) -> Result<(), AllocError>
-    ensures { OnOk result (slots_view environment.new.entries
-        ≡ all_set (sets_of is_certain sets.items) (slots_view environment.old.entries)) }
+    ensures { OnOk result (environment_view environment.new
+        ≡ all_set (sets_of is_certain sets.items) (environment_view environment.old)) }
 {
     for (name, kind) in sets {
         set(alloc, &name, kind, is_certain, environment)?;
@@ -460,20 +459,21 @@ fn set_all(
 // A variable that is set, for certain or not.
 fn set(
     alloc: Global,
-    name: &String,
+    name: &Arc<String>,
     kind: Kind,
     is_certain: bool,
-    environment: &mut Slots,
+    environment: &mut Environment,
 ) -> Result<(), AllocError>
-    ensures { OnOk result (slots_view environment.new.entries ≡ put_spot (string_bytes name.now)
-        (set_spot is_certain (slot_at (string_bytes name.now) (slots_view environment.old.entries))
+    ensures { OnOk result (environment_view environment.new
+        ≡ put_spot (string_bytes name.now.value)
+        (set_spot is_certain (slot_at (string_bytes name.now.value)
+        (environment_view environment.old))
         (kind_view kind))
-        (slots_view environment.old.entries)) }
+        (environment_view environment.old)) }
 {
-    let slot = if is_certain {
-        Slot::always(kind)
+    if is_certain {
+        put_known(alloc, (**name).clone()?, kind, environment)
     } else {
-        joined(alloc, find(environment, name.as_str()), kind)?
-    };
-    put_slot(environment, name.clone()?, slot)
+        widen(alloc, name, kind, environment)
+    }
 }

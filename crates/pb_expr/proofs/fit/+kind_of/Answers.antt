@@ -1,12 +1,13 @@
 use Rattle.std.proofs.Common.{◌≡◌, true, ◌&&◌, ◌+◌, length, [], ◌∷◌, ◌++◌, drop, String, Global, string_bytes, sym, ap, ◌∙◌, subst, append_assoc, arith}
 use Rattle.std.proofs.lemmas.List.{append-nil, drop_all}
-use Rattle.pb_semantics.specs.Kind.{lists, recs, put_slot}
+use Rattle.pb_semantics.specs.Kind.{never, lists, recs, put_slot}
 use Rattle.pb_semantics.specs.Join.{join}
 use Rattle.pb_language.specs.Kinds.{count, kind_of, items_kind}
 use Rattle.pb_language.specs.Fit.{first, chain_fault, are_booleans, items_fault, fields_fault}
 use Rattle.pb_value.specs.KindView.{kind_view, slots_view}
 use Rattle.pb_expr.specs.ExprView.{expr_view, exprs_view, parts_view}
-use Rattle.pb_expr.specs.FitView.{own_scope, joined_onto}
+use Rattle.pb_expr.specs.FitView.{own_scope}
+use Rattle.pb_value.specs.Growing.{joined_onto}
 use Rattle.pb_expr.specs.declared.expr.Expr.{Expr}
 use Rattle.pb_expr.proofs.Ascending.{Ascending}
 use Rattle.pb_expr.proofs.Findings.{chain-turn, booleans-turn, onto-last, count-exprs}
@@ -62,7 +63,7 @@ list_kind-returns-clause-kind t c =
     let size : length items ≡ count es = omega (arith, count-exprs items) in
     let joined : items_kind s es ≡ kind_view c.in_ok-joined.joined =
     c.loop-item.invariant.kinds
-    ∙ ap (λ xs. joined_onto kinds (items_kind s (exprs_view xs))) past ∙ sym c.in_ok-joined.ensures in
+    ∙ ap (λ xs. joined_onto kinds (items_kind s (exprs_view xs))) past ∙ ap (λ ks. joined_onto ks never) (sym c.deref.ensures.value) ∙ sym c.in_ok-joined.ensures in
     c.in_ok-of_item.ensures ∙ ap (λ k. lists k (length items)) (sym joined)
     ∙ ap (lists (items_kind s es)) size
 

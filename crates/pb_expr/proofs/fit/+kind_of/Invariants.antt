@@ -3,7 +3,8 @@ use Rattle.pb_language.specs.Kinds.{kind_of, items_kind}
 use Rattle.pb_language.specs.Fit.{chain_fault, are_booleans, items_fault, fields_fault}
 use Rattle.pb_value.specs.KindView.{slots_view}
 use Rattle.pb_expr.specs.ExprView.{expr_view, exprs_view, parts_view}
-use Rattle.pb_expr.specs.FitView.{own_scope, joined_onto}
+use Rattle.pb_expr.specs.FitView.{own_scope}
+use Rattle.pb_value.specs.Growing.{joined_onto}
 use Rattle.pb_expr.specs.declared.expr.Expr.{Expr}
 use Rattle.pb_expr.proofs.Records.{slots_from}
 use Rattle.pb_expr.proofs.fit.+kind_of.Given as goal

@@ -2,7 +2,7 @@ use Rattle.std.proofs.Common.{◌≡◌, ◌+◌, ◌∷◌, Some, drop, refl, s
 use Rattle.std.proofs.lemmas.List.{drop_all}
 use Rattle.pb_semantics.specs.Gives.{FaultGives}
 use Rattle.pb_semantics.specs.Kind.{no_slots}
-use Rattle.pb_value.specs.KindView.{slots_view}
+use Rattle.pb_verify.specs.Environments.{environment_view}
 use Rattle.pb_expr.specs.FitView.{fault_found, fault_view}
 use Rattle.pb_expr.proofs.Turns.{drop-at}
 use Rattle.pb_sig.specs.Modules.{modules_of}
@@ -16,8 +16,8 @@ use Rattle.pb_verify.proofs.walk.first_fault.Goals as goal
 pub loop-task-init : goal.loop-task-init
 loop-task-init c = record {
   left = record { known = c.requires.known; plain = c.requires.plain; ruled = c.requires.ruled };
-  learned = subst (λ k. Learned (modules_of c.args.registry.now) (slots_view c.args.environment.now.entries) (slots_view c.args.environment.now.entries) k (plain_tasks c.args.tasks.now) (plain_tasks c.args.tasks.now)) (sym c.requires.empty)
-      (learned_none (modules_of c.args.registry.now) (slots_view c.args.environment.now.entries) (plain_tasks c.args.tasks.now));
+  learned = subst (λ k. Learned (modules_of c.args.registry.now) (environment_view c.args.environment.now) (environment_view c.args.environment.now) k (plain_tasks c.args.tasks.now) (plain_tasks c.args.tasks.now)) (sym c.requires.empty)
+      (learned_none (modules_of c.args.registry.now) (environment_view c.args.environment.now) (plain_tasks c.args.tasks.now));
   way = record { from = λ h s. (0, (no_slots, (s, refl))) };
 }
 
@@ -36,8 +36,8 @@ returns-in-Err-Unfit-clause-fault c =
     let i = c.loop-task.task-index in
     let t = c.task-item.result in
     let rest = drop (i + 1) tasks in
-    let before = slots_view c.args.environment.now.entries in
-    let now = slots_view c.loop-task.environment.entries in
+    let before = environment_view c.args.environment.now in
+    let now = environment_view c.loop-task.environment in
     let next : drop i tasks ≡ t ∷ rest = drop-at tasks i t c.loop-task-test.true c.task-item.is in
     let plain = first_plain ms t rest (subst (Rest ms) next c.loop-task.invariant.left) in
     let way = subst (λ ts. Way ms before now (plain_tasks tasks) (plain_tasks ts)) next c.loop-task.invariant.way in
@@ -55,9 +55,9 @@ loop-task-preserved c =
     let rest = drop (i + 1) tasks in
     let all = plain_tasks tasks in
     let later = plain_tasks rest in
-    let before = slots_view c.args.environment.now.entries in
-    let now = slots_view c.loop-task.environment.entries in
-    let written = slots_view c.loop-task.known.entries in
+    let before = environment_view c.args.environment.now in
+    let now = environment_view c.loop-task.environment in
+    let written = environment_view c.loop-task.known in
     let next : drop i tasks ≡ t ∷ rest = drop-at tasks i t c.loop-task-test.true c.task-item.is in
     let left = subst (Rest ms) next c.loop-task.invariant.left in
     let plain = first_plain ms t rest left in
@@ -76,8 +76,8 @@ pub returns-clause-fault : goal.returns-clause-fault
 returns-clause-fault c =
     let ms = modules_of c.args.registry.now in
     let tasks = c.args.tasks.now in
-    let before = slots_view c.args.environment.now.entries in
-    let now = slots_view c.loop-task.environment.entries in
+    let before = environment_view c.args.environment.now in
+    let now = environment_view c.loop-task.environment in
     let past = drop_all c.loop-task.task-index tasks c.loop-task-test.false in
     way_done ms before now (plain_tasks tasks) (subst (λ ts. Way ms before now (plain_tasks tasks) (plain_tasks ts)) past c.loop-task.invariant.way)
 
@@ -85,8 +85,8 @@ pub returns-clause-known : goal.returns-clause-known
 returns-clause-known c =
     let ms = modules_of c.args.registry.now in
     let tasks = c.args.tasks.now in
-    let before = slots_view c.args.environment.now.entries in
-    let now = slots_view c.loop-task.environment.entries in
-    let known = slots_view c.loop-task.known.entries in
+    let before = environment_view c.args.environment.now in
+    let now = environment_view c.loop-task.environment in
+    let known = environment_view c.loop-task.known in
     let past = drop_all c.loop-task.task-index tasks c.loop-task-test.false in
     λ h s n. learned_all ms before now known (plain_tasks tasks) (subst (λ ts. Learned ms before now known (plain_tasks tasks) (plain_tasks ts)) past c.loop-task.invariant.learned) h s

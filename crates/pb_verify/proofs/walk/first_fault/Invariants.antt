@@ -1,5 +1,5 @@
 use Rattle.std.proofs.Common.{drop}
-use Rattle.pb_value.specs.KindView.{slots_view}
+use Rattle.pb_verify.specs.Environments.{environment_view}
 use Rattle.pb_sig.specs.Modules.{modules_of}
 use Rattle.pb_book.specs.Meaning.{plain_tasks}
 use Rattle.pb_verify.proofs.WalkFlow.{Rest, Way}
@@ -12,6 +12,6 @@ invariant-loop-task l =
     let rest = drop l.task-index l.tasks in
     record {
       left : Rest ms rest;
-      learned : Learned ms (slots_view l.initial.environment.entries) (slots_view l.environment.entries) (slots_view l.known.entries) (plain_tasks l.tasks) (plain_tasks rest);
-      way : Way ms (slots_view l.initial.environment.entries) (slots_view l.environment.entries) (plain_tasks l.tasks) (plain_tasks rest);
+      learned : Learned ms (environment_view l.initial.environment) (environment_view l.environment) (environment_view l.known) (plain_tasks l.tasks) (plain_tasks rest);
+      way : Way ms (environment_view l.initial.environment) (environment_view l.environment) (plain_tasks l.tasks) (plain_tasks rest);
     }

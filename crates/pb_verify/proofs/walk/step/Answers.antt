@@ -1,7 +1,7 @@
 use Rattle.std.proofs.Common.{ap, ◌∙◌, not}
 use Rattle.pb_language.specs.Cases.{is_conditional}
 use Rattle.pb_language.specs.Expression.{no_parts}
-use Rattle.pb_value.specs.KindView.{slots_view}
+use Rattle.pb_verify.specs.Environments.{environment_view}
 use Rattle.pb_expr.specs.FitView.{own_scope}
 use Rattle.pb_sig.specs.Modules.{modules_of}
 use Rattle.pb_book.specs.Meaning.{argument_parts, plain_task, work_of}
@@ -15,7 +15,7 @@ returns-clause-written c l =
     let t = c.args.task.now in
     let p = plain_task t in
     let q = is_conditional p.condition in
-    let before = slots_view c.args.known.now.entries in
+    let before = environment_view c.args.known.now in
     c.in_ok-learn.ensures ms l c.requires (not q)
     ∙ ap (λ s. all_joined s (register_joined p.register (written_result ms q (work_of t.work no_parts)) before)) (c.in_ok-sets.ensures.sets (not q))
-    ∙ ap (λ k. all_joined (own_sets (own_scope (slots_view c.args.environment.now.entries)) (not q) p.work) (register_joined p.register k before)) (same_written ms q t.work no_parts (argument_parts t.arguments.items))
+    ∙ ap (λ k. all_joined (own_sets (own_scope (environment_view c.args.environment.now)) (not q) p.work) (register_joined p.register k before)) (same_written ms q t.work no_parts (argument_parts t.arguments.items))

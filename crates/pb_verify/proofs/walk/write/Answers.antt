@@ -3,7 +3,7 @@ use Rattle.std.proofs.lemmas.Result.{on_ok_weaker}
 use Rattle.pb_language.specs.Cases.{is_conditional}
 use Rattle.pb_book.specs.Meaning.{condition_view}
 use Rattle.pb_expr.specs.declared.expr.Expr.{Expr}
-use Rattle.pb_value.specs.KindView.{slots_view}
+use Rattle.pb_verify.specs.Environments.{environment_view}
 use Rattle.pb_verify.specs.Way.{all_set, sets_of}
 use Rattle.pb_verify.proofs.walk.write.Goals as goal
 
@@ -14,6 +14,6 @@ conditional (Some e) = refl
 pub returns : goal.returns
 returns c = on_ok_weaker c.set_all.result (λ set ms l k.
     set
-    ∙ ap (λ q. all_set (sets_of (not q) c.args.sets.items) (slots_view c.put_registered.new.environment.entries)) (c.is_some.ensures ∙ conditional c.args.task.now.when)
+    ∙ ap (λ q. all_set (sets_of (not q) c.args.sets.items) (environment_view c.put_registered.new.environment)) (c.is_some.ensures ∙ conditional c.args.task.now.when)
     ∙ ap (all_set (sets_of (not (is_conditional (condition_view c.args.task.now.when))) c.args.sets.items)) (c.in_ok-put_registered.ensures ms l k))
     c.set_all.ensures

@@ -28,8 +28,8 @@ refused-both : {Y W : Type 0} (e : FormFault) (y : Option Y) (z : Option W) → 
 refused-both form.NotBuilt y z h k = k h
 refused-both form.NoMemory y z h k = tt
 
-pub refused-exit : {Y Z W : Type 0} (g : Z → W) (r : Result Z FormFault) (e : FormFault) (y : Option Y) (z : Option W) → IsErrAnd r (λ d. d ≡ e) → FaultGives (refused e) y → (y ≡ None → z ≡ None) → Gives (λ x. Some (g x)) refused r z
-refused-exit g r e y z is h k =
+pub Gives-refused : {Y Z W : Type 0} (g : Z → W) (r : Result Z FormFault) (e : FormFault) (y : Option Y) (z : Option W) → IsErrAnd r (λ d. d ≡ e) → FaultGives (refused e) y → (y ≡ None → z ≡ None) → Gives (λ x. Some (g x)) refused r z
+Gives-refused g r e y z is h k =
     let p = err_from_is_err_and r is in
     rw (p.1, p.2) (refused-both e y z h k)
 
@@ -91,19 +91,19 @@ below-middle n m [] more h = is_less (slice_cmp nat_cmp n m) (and-left _ (is_bel
 below-middle n m (k ∷ ns) more h = below-middle n m ns more (and-right (is_lt (slice_cmp nat_cmp n k)) _ h)
 
 -- a name that is above those before it goes last
-pub insert-last : {V : Type 0} (done : List (String Global × V)) (k : String Global) (v : V) (more : List (List ℕ)) → are_ascending (entry_names done ++ string_bytes k ∷ more) ≡ true
+pub insert_entry-last : {V : Type 0} (done : List (String Global × V)) (k : String Global) (v : V) (more : List (List ℕ)) → are_ascending (entry_names done ++ string_bytes k ∷ more) ≡ true
     → insert_entry string_cmp done k v ≡ done ++ (k, v) ∷ []
-insert-last [] k v more h = refl
-insert-last (e ∷ done) k v more h =
+insert_entry-last [] k v more h = refl
+insert_entry-last (e ∷ done) k v more h =
     let above : slice_cmp nat_cmp (string_bytes k) (string_bytes e.0) ≡ Greater =
     nat_list_cmp_total.antisymm (string_bytes k) (string_bytes e.0) ∙ ap ordering_reverse (below-middle (string_bytes e.0) (string_bytes k) (entry_names done) more (and-left _ (are_ascending (entry_names done ++ string_bytes k ∷ more)) h)) in
-    rw above (ap (λ es. e ∷ es) (insert-last done k v more (and-right (is_below (string_bytes e.0) (entry_names done ++ string_bytes k ∷ more)) _ h)))
+    rw above (ap (λ es. e ∷ es) (insert_entry-last done k v more (and-right (is_below (string_bytes e.0) (entry_names done ++ string_bytes k ∷ more)) _ h)))
 
 -- names that are these of a map's entries ascend
-pub insert-next : {V W : Type 0} (done : List (String Global × V)) (k : String Global) (v : V) (e : String Global × W) (left all : List (String Global × W)) → string_bytes k ≡ string_bytes e.0
+pub insert_entry-next : {V W : Type 0} (done : List (String Global × V)) (k : String Global) (v : V) (e : String Global × W) (left all : List (String Global × W)) → string_bytes k ≡ string_bytes e.0
     → entry_names done ++ entry_names (e ∷ left) ≡ entry_names all → Ascending all → insert_entry string_cmp done k v ≡ done ++ (k, v) ∷ []
-insert-next done k v e left all h named ordered =
-    insert-last done k v (entry_names left) (ap (λ n. are_ascending (entry_names done ++ n ∷ entry_names left)) h ∙ ap are_ascending named ∙ are_ascending-entries all ordered)
+insert_entry-next done k v e left all h named ordered =
+    insert_entry-last done k v (entry_names left) (ap (λ n. are_ascending (entry_names done ++ n ∷ entry_names left)) h ∙ ap are_ascending named ∙ are_ascending-entries all ordered)
 
 -- one more entry has the first name of those that were left
 pub entry_names-push : {V W : Type 0} (done : List (String Global × V)) (k : String Global) (v : V) (e : String Global × W) (left : List (String Global × W)) → string_bytes k ≡ string_bytes e.0

@@ -26,10 +26,10 @@ parts_simple-insert (x ∷ es) k e h g =
     let rest = and-right (is_simple (expr_view x.1)) (parts_simple (parts_view es)) h in
     chosen (string_cmp k x.0) _ _ _ (and-both _ _ g h) (and-both _ _ g rest) (and-both _ _ here (parts_simple-insert es k e rest g))
 
-pub arguments-push : (done : List Argument) (a : Argument) → parts_simple (argument_parts done) ≡ true → is_simple (expr_view a.value) ≡ true → parts_simple (argument_parts (done ++ a ∷ [])) ≡ true
-arguments-push [] a h g = and-both _ _ g refl
-arguments-push (x ∷ more) a h g = and-both _ _ (and-left _ (parts_simple (argument_parts more)) h) (arguments-push more a (and-right (is_simple (expr_view x.value)) _ h) g)
+pub parts_simple-push : (done : List Argument) (a : Argument) → parts_simple (argument_parts done) ≡ true → is_simple (expr_view a.value) ≡ true → parts_simple (argument_parts (done ++ a ∷ [])) ≡ true
+parts_simple-push [] a h g = and-both _ _ g refl
+parts_simple-push (x ∷ more) a h g = and-both _ _ (and-left _ (parts_simple (argument_parts more)) h) (parts_simple-push more a (and-right (is_simple (expr_view x.value)) _ h) g)
 
-pub are_plain-push : (ts : List Task) (t : Task) → are_plain_tasks (plain_tasks ts) ≡ true → is_plain_task (plain_task t) ≡ true → are_plain_tasks (plain_tasks (ts ++ t ∷ [])) ≡ true
-are_plain-push [] t h g = and-both _ _ g refl
-are_plain-push (s ∷ ts) t h g = and-both _ _ (and-left _ (are_plain_tasks (plain_tasks ts)) h) (are_plain-push ts t (and-right (is_plain_task (plain_task s)) _ h) g)
+pub are_plain_tasks-push : (ts : List Task) (t : Task) → are_plain_tasks (plain_tasks ts) ≡ true → is_plain_task (plain_task t) ≡ true → are_plain_tasks (plain_tasks (ts ++ t ∷ [])) ≡ true
+are_plain_tasks-push [] t h g = and-both _ _ g refl
+are_plain_tasks-push (s ∷ ts) t h g = and-both _ _ (and-left _ (are_plain_tasks (plain_tasks ts)) h) (are_plain_tasks-push ts t (and-right (is_plain_task (plain_task s)) _ h) g)

@@ -1,14 +1,19 @@
 -- Tasks that are built in their order.
-use Rattle.std.proofs.Common.{◌≡◌, ℕ, ◌+◌, ◌<◌, ◌≤◌, List, [], ◌∷◌, ◌++◌, length, true, false, nat_le, Option, Some, None, refl, ap, ◌∙◌, add-one, arith}
+use Rattle.std.proofs.Common.{◌≡◌, ◌==◌, ℕ, suc, ◌+◌, length-append, ◌<◌, ◌≤◌, List, [], ◌∷◌, ◌++◌, length, true, false, nat_le, Option, Some, None, refl, sym, ap, ◌∙◌, add-one, arith}
+use Rattle.std.proofs.lemmas.Bool.{eqb-true}
 use Rattle.std.proofs.lemmas.Bool.Decides.{nat_tests}
-use Rattle.pb_semantics.specs.Data.{list}
+use Rattle.pb_semantics.proofs.Bools.{and-left}
+use Rattle.pb_semantics.specs.Data.{count_of, list}
 use Rattle.pb_semantics.specs.Signature.{ModuleData}
 use Rattle.pb_language.specs.plain.Books.{PlainTask}
 use Rattle.pb_value.specs.View.{view, items_view}
 use Rattle.pb_value.specs.declared.value.Value.{Value}
 use Rattle.pb_value.proofs.Fields.{count_of-items_view}
+use Rattle.pb_book.specs.Lines.{are_numbered, is_numbered}
 use Rattle.pb_book.specs.Meaning.{plain_task, plain_tasks}
-use Rattle.pb_book.specs.Reading.{book_from, few_tasks, task_of, tasks_of, with_task}
+use Rattle.pb_book.specs.Outlines.{may_be_book}
+use Rattle.pb_book.specs.Reading.{book_from, few_tasks, one_play, play_of, task_of, tasks_of, with_task}
+use Rattle.pb_book.specs.declared.book.Play.{Play}
 use Rattle.pb_book.specs.declared.book.Task.{Task}
 
 abbrev pub tasks_before : List PlainTask → Option (List PlainTask) → Option (List PlainTask)
@@ -43,17 +48,36 @@ pub tasks_of-next : (ms : List ModuleData) (l : ℕ) (vs left : List Value) (v :
     → tasks_of ms l (items_view vs) ≡ with_task (task_of ms l (view v)) (tasks_of ms (l + 1) (items_view left))
 tasks_of-next ms l vs left v e = ap (λ xs. tasks_of ms l (items_view xs)) e ∙ rw (add-one l)
 
-pub counted-next : (vs left : List Value) (v : Value) (m n : ℕ) → vs ≡ v ∷ left → length vs ≡ m → n + 1 ≡ m → length left ≡ n
-counted-next vs left v m n e h k =
+pub length-next : (vs left : List Value) (v : Value) (m n : ℕ) → vs ≡ v ∷ left → length vs ≡ m → n + 1 ≡ m → length left ≡ n
+length-next vs left v m n e h k =
     let longer : length vs ≡ length left + 1 = ap (λ (xs : List Value). length xs) e ∙ rw (add-one (length left)) in
     omega (arith, longer, h, k)
 
-pub none_left : (vs : List Value) → length vs ≡ 0 → vs ≡ []
-none_left [] h = refl
-none_left (v ∷ vs) h = absurd (omega (arith, h))
+pub length-zero : (vs : List Value) → length vs ≡ 0 → vs ≡ []
+length-zero [] h = refl
+length-zero (v ∷ vs) h = absurd (omega (arith, h))
 
 -- more than one play is no book
 pub book_from-crowded : (ms : List ModuleData) (vs : List Value) → 1 < length vs → book_from ms (list (items_view vs)) ≡ None
 book_from-crowded ms [] h = absurd (omega arith)
 book_from-crowded ms (v ∷ []) h = absurd (omega arith)
 book_from-crowded ms (v ∷ w ∷ vs) h = refl
+
+-- one play or none may be a book
+pub may_be_book-few : (vs : List Value) → length vs ≤ 1 → may_be_book (list (items_view vs)) ≡ true
+may_be_book-few vs h = rw (count_of-items_view vs) (short_enough (length vs) 1 h)
+
+-- as many as before are owned
+pub length-own : (own vs : List Value) → items_view own ≡ items_view vs → length own ≡ length vs
+length-own own vs e = sym (count_of-items_view own) ∙ ap count_of e ∙ count_of-items_view vs
+
+-- a list of one play is the book of that play
+pub book_from-lone : (ms : List ModuleData) (own rest : List Value) (item : Value) → own ≡ rest ++ item ∷ [] → length own ≤ 1 → book_from ms (list (items_view own)) ≡ one_play (play_of ms (view item))
+book_from-lone ms own [] item e h = ap (λ xs. book_from ms (list (items_view xs))) e
+book_from-lone ms own (v ∷ rest) item e h =
+    let longer : length own ≡ suc (length (rest ++ item ∷ [])) = ap (λ (xs : List Value). length xs) e in
+    let more = length-append rest (item ∷ []) in
+    absurd (omega (arith, longer, more, h))
+
+pub line-first : (p : Play) → is_numbered (p ∷ []) ≡ true → p.line ≡ 1
+line-first p h = eqb-true p.line 1 (and-left (p.line == 1) (are_numbered p.tasks.items) h)

@@ -11,6 +11,7 @@ use Rattle.pb_value.specs.View.{view, fields_view}
 use Rattle.pb_value.specs.declared.value.Value as Value-of
 use Rattle.pb_value.specs.declared.value.Value.{Value}
 use Rattle.pb_value.specs.declared.weight.Weighed.{Weighed}
+use Rattle.pb_book.specs.Outlines.{is_known_work, may_be_play, may_be_task}
 use Rattle.pb_book.specs.Reading.{condition_of, few_tasks, free_form, given_arguments, is_named, is_play, play_of, register_of, task_of, task_with, work_of, work_with, works_of, lone}
 use Rattle.pb_value.proofs.Views.{view-fields}
 
@@ -53,14 +54,21 @@ task_of-unnamed ms l v fields m b is behind e h =
     let unnamed : is_named (field_value (codes "name") (fields_view m.entries)) ≡ false = sym e ∙ h in
     ap (task_of ms l) (view-fields v fields m is behind) ∙ rw unnamed
 
-pub no_condition : (l : ℕ) (w : Option language.Work) (n : Option (Option Name)) → task_with l w None n ≡ None
-no_condition l None n = refl
-no_condition l (Some w) n = refl
+-- and where its one entry is known work, it may be a task
+pub may_be_task-named : (ms : List ModuleData) (v : Value) (fields : Arc (Weighed Map) Global) (m : Map) (b : Bool) → v ≡ Value-of.Rec fields → m ≡ fields.value.parts
+    → b ≡ is_named (field_value (codes "name") (fields_view m.entries)) → b ≡ true → may_be_task ms (view v) ≡ is_known_work ms (lone (works_of (fields_view fields.value.parts.entries)))
+may_be_task-named ms v fields m b is behind e h =
+    let named : is_named (field_value (codes "name") (fields_view m.entries)) ≡ true = sym e ∙ h in
+    ap (may_be_task ms) (view-fields v fields m is behind) ∙ rw (named, behind)
 
-pub no_register : (l : ℕ) (w : Option language.Work) (es : Option Expressions) → task_with l w es None ≡ None
-no_register l None es = refl
-no_register l (Some w) None = refl
-no_register l (Some w) (Some es) = refl
+pub task_with-no_condition : (l : ℕ) (w : Option language.Work) (n : Option (Option Name)) → task_with l w None n ≡ None
+task_with-no_condition l None n = refl
+task_with-no_condition l (Some w) n = refl
+
+pub task_with-no_register : (l : ℕ) (w : Option language.Work) (es : Option Expressions) → task_with l w es None ≡ None
+task_with-no_register l None es = refl
+task_with-no_register l (Some w) None = refl
+task_with-no_register l (Some w) (Some es) = refl
 
 -- a play has the tasks of its field
 pub play_of-play : (ms : List ModuleData) (v : Value) (fields : Arc (Weighed Map) Global) (m : Map) (b : Bool) → v ≡ Value-of.Rec fields → m ≡ fields.value.parts → b ≡ is_play (fields_view m.entries) → b ≡ true
@@ -74,3 +82,7 @@ pub play_of-other : (ms : List ModuleData) (v : Value) (fields : Arc (Weighed Ma
 play_of-other ms v fields m b is behind e h =
     let other : is_play (fields_view m.entries) ≡ false = sym e ∙ h in
     ap (play_of ms) (view-fields v fields m is behind) ∙ rw other
+
+pub may_be_play-play : (v : Value) (fields : Arc (Weighed Map) Global) (m : Map) (b : Bool) → v ≡ Value-of.Rec fields → m ≡ fields.value.parts → b ≡ is_play (fields_view m.entries) → b ≡ true
+    → may_be_play (view v) ≡ true
+may_be_play-play v fields m b is behind e h = ap may_be_play (view-fields v fields m is behind) ∙ sym e ∙ h

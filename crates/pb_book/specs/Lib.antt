@@ -3,4 +3,5 @@ pub mod Meaning
 pub mod Books
 pub mod Faults
 pub mod Reading
+pub mod Outlines
 pub mod Words

@@ -17,11 +17,14 @@ abbrev pub are_from : ℕ → List Task → Bool
 are_from n [] = true
 are_from n (t ∷ ts) = (t.line == n) && are_from (suc n) ts
 
--- no play, or one at line 1, with its tasks behind it, at most 4,096 lines in all
+-- they are a play's: from line 2 on, and not too many
+abbrev pub are_numbered : List Task → Bool
+are_numbered ts = are_from 2 ts && nat_le (length ts) most_tasks
+
+-- no play, or one at line 1, with its tasks behind it
 abbrev pub is_numbered : List Play → Bool
 is_numbered [] = true
-is_numbered (p ∷ []) =
-    (p.line == 1) && (are_from 2 p.tasks.items && nat_le (length p.tasks.items) most_tasks)
+is_numbered (p ∷ []) = (p.line == 1) && are_numbered p.tasks.items
 is_numbered (p ∷ q ∷ ps) = false
 
 -- a module that is named is one of these

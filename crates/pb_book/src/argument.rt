@@ -1,5 +1,5 @@
 // The arguments of a task.
-ghost use Rattle.std.specs.Prelude.{◌≡◌, Err, IfOk, Some, false, true};
+ghost use Rattle.std.specs.Prelude.{◌<◌, ◌≡◌, Err, IfOk, Some, false, true, ℕ};
 ghost use Rattle.pb_semantics.specs.Words.{Gives, most_levels};
 ghost use Rattle.pb_language.specs.Words.{are_simple, has_opening, is_mark, is_simple, no_parts};
 ghost use Rattle.pb_language.specs.Words.{parts_simple};
@@ -8,6 +8,7 @@ ghost use Rattle.pb_expr.specs.Words.{expr_view, exprs_view, parts_view};
 ghost use Rattle.pb_book.specs.Faults.{refused};
 ghost use Rattle.pb_book.specs.Lines.{are_ascending, argument_names};
 ghost use Rattle.pb_book.specs.Meaning.{argument_parts};
+ghost use Rattle.pb_book.specs.Outlines.{opening_in};
 ghost use Rattle.pb_book.specs.Reading.{argument_of, arguments_of, fields_fit, fits, holds_opening};
 ghost use Rattle.pb_book.specs.Reading.{items_fit, items_of, parts_of, some_field_holds};
 ghost use Rattle.pb_book.specs.Reading.{some_item_holds, text_fits, value_of, with_part};
@@ -72,6 +73,8 @@ fn argument_value(alloc: Global, value: &Value) -> Result<Expr, FormFault>
     ensures given { Gives (λ e. Some (expr_view e)) refused result (argument_of (view value.now)) }
     ensures large { fits most_levels (view value.now) ≡ false → result ≡ Err FormFault.NotBuilt }
     ensures simple { IfOk result (λ e. is_simple (expr_view e) ≡ true) }
+    ensures apart { (at : ℕ) → opening_in (view value.now) ≡ Some at → 0 < at
+        → result ≡ Err FormFault.NoMemory → ⊥ }
 {
     if !fits(value, MOST_LEVELS) {
         return Err(FormFault::NotBuilt);
@@ -186,6 +189,8 @@ fn some_field_holds(fields: &Fields) -> bool
 fn expr_of(alloc: Global, value: &Value) -> Result<Expr, FormFault>
     ensures given { Gives (λ e. Some (expr_view e)) refused result (value_of (view value.now)) }
     ensures simple { IfOk result (λ e. is_simple (expr_view e) ≡ true) }
+    ensures apart { (at : ℕ) → opening_in (view value.now) ≡ Some at → 0 < at
+        → result ≡ Err FormFault.NoMemory → ⊥ }
 {
     if !holds_template(value) {
         return Ok(Expr::Literal(value.clone()?));

@@ -3,15 +3,15 @@ ghost use Rattle.std.specs.Prelude.{[], ◌<◌, ◌∷◌, ◌≡◌, ◌≤◌
 ghost use Rattle.std.specs.Prelude.{length, option_map, true};
 ghost use Rattle.std.specs.Str.{is_utf8};
 ghost use Rattle.pb_semantics.specs.Words.{Gives, field_value, is_among, most_book_bytes};
-ghost use Rattle.pb_semantics.specs.Words.{most_tasks};
 ghost use Rattle.pb_language.specs.Words.{are_plain_tasks};
 ghost use Rattle.pb_value.specs.Words.{fields_view, json_data, view};
 ghost use Rattle.pb_sig.specs.Words.{modules_of};
 ghost use Rattle.pb_book.specs.Books.{plain_plays, plays_of};
 ghost use Rattle.pb_book.specs.Faults.{refused};
-ghost use Rattle.pb_book.specs.Lines.{are_from, are_known, are_ordered, are_ordered_plays};
+ghost use Rattle.pb_book.specs.Lines.{are_known, are_numbered, are_ordered, are_ordered_plays};
 ghost use Rattle.pb_book.specs.Lines.{is_numbered, names_known};
 ghost use Rattle.pb_book.specs.Meaning.{are_plain_plays, plain_tasks};
+ghost use Rattle.pb_book.specs.Outlines.{may_be_book, may_be_play, may_be_tasks};
 ghost use Rattle.pb_book.specs.Reading.{IsBook, IsNoBook, are_keys, book_from, few_tasks, is_play};
 ghost use Rattle.pb_book.specs.Reading.{names_all, play_of};
 
@@ -62,14 +62,15 @@ fn plays_in(alloc: Global, value: Value, registry: &Registry) -> Result<Vec<Play
     ensures known { IfOk result (λ ps. names_known (modules_of registry.now) ps.items ≡ true) }
     ensures plain { IfOk result (λ ps. are_plain_plays ps.items ≡ true) }
     ensures ordered { IfOk result (λ ps. are_ordered_plays ps.items ≡ true) }
+    ensures other { may_be_book (view value) ≡ false → result ≡ Err FormFault.NotBuilt }
 {
     let Value::List(items) = value else {
         return Err(FormFault::NotBuilt);
     };
-    let mut items = own_items(items)?;
     if items.len() > 1 {
         return Err(FormFault::NotBuilt);
     }
+    let mut items = own_items(items)?;
     match items.pop() {
         None => Ok(Vec::new(alloc)),
         Some(item) => Ok(vec![in alloc; play_of(alloc, item, registry)?]?),
@@ -79,11 +80,11 @@ fn plays_in(alloc: Global, value: Value, registry: &Registry) -> Result<Vec<Play
 fn play_of(alloc: Global, value: Value, registry: &Registry) -> Result<Play, FormFault>
     ensures given { Gives (λ p. Some (plain_tasks p.tasks.items)) refused result
         (play_of (modules_of registry.now) (view value)) }
-    ensures first { IfOk result (λ p. p.line ≡ 1) }
     ensures numbered { IfOk result (λ p. is_numbered (p ∷ []) ≡ true) }
     ensures known { IfOk result (λ p. are_known (modules_of registry.now) p.tasks.items ≡ true) }
     ensures plain { IfOk result (λ p. are_plain_tasks (plain_tasks p.tasks.items) ≡ true) }
     ensures ordered { IfOk result (λ p. are_ordered p.tasks.items ≡ true) }
+    ensures other { may_be_play (view value) ≡ false → result ≡ Err FormFault.NotBuilt }
 {
     let Value::Rec(fields) = value else {
         return Err(FormFault::NotBuilt);
@@ -107,11 +108,12 @@ fn tasks_in(
 ) -> Result<Vec<Task>, FormFault>
     ensures given { Gives (λ ts. Some (plain_tasks ts.items)) refused result
         (few_tasks (modules_of registry.now) (option_map view tasks)) }
-    ensures lines { IfOk result (λ ts. are_from 2 ts.items ≡ true) }
-    ensures few { IfOk result (λ ts. length ts.items ≤ most_tasks) }
+    ensures numbered { IfOk result (λ ts. are_numbered ts.items ≡ true) }
     ensures known { IfOk result (λ ts. are_known (modules_of registry.now) ts.items ≡ true) }
     ensures plain { IfOk result (λ ts. are_plain_tasks (plain_tasks ts.items) ≡ true) }
     ensures ordered { IfOk result (λ ts. are_ordered ts.items ≡ true) }
+    ensures other { may_be_tasks (option_map view tasks) ≡ false
+        → result ≡ Err FormFault.NotBuilt }
 {
     let Some(tasks) = tasks else {
         return Err(FormFault::NotBuilt);

@@ -1,7 +1,6 @@
 // The tasks of a play.
 ghost use Rattle.std.specs.Prelude.{◌<◌, ◌≡◌, ◌≤◌, Err, IfOk, None, Some, codes, length};
-ghost use Rattle.std.specs.Prelude.{option_map};
-ghost use Rattle.std.specs.Prelude.{string_bytes, true};
+ghost use Rattle.std.specs.Prelude.{false, option_map, string_bytes, true};
 ghost use Rattle.pb_semantics.specs.Words.{Gives, field_value, is_among, list, most_tasks};
 ghost use Rattle.pb_language.specs.Words.{Parts, are_name_bytes, are_plain_tasks, are_simple};
 ghost use Rattle.pb_language.specs.Words.{is_digit as is_name_digit, is_letter as is_name_letter};
@@ -9,10 +8,12 @@ ghost use Rattle.pb_language.specs.Words.{is_plain_task, is_variable_name, parts
 ghost use Rattle.pb_value.specs.Words.{fields_view, items_view, view};
 ghost use Rattle.pb_sig.specs.Words.{modules_of};
 ghost use Rattle.pb_book.specs.Faults.{refused};
-ghost use Rattle.pb_book.specs.Lines.{are_ascending, are_from, are_known, are_ordered};
+ghost use Rattle.pb_book.specs.Lines.{are_ascending, are_known, are_numbered, are_ordered};
 ghost use Rattle.pb_book.specs.Lines.{argument_names, is_known};
 ghost use Rattle.pb_book.specs.Meaning.{argument_parts, condition_view, plain_task, plain_tasks};
 ghost use Rattle.pb_book.specs.Meaning.{work_of};
+ghost use Rattle.pb_book.specs.Outlines.{is_known_work, may_be_arguments, may_be_condition};
+ghost use Rattle.pb_book.specs.Outlines.{may_be_task};
 ghost use Rattle.pb_book.specs.Reading.{condition_of, few_tasks, free_form, given_arguments};
 ghost use Rattle.pb_book.specs.Reading.{is_named, keywords, lone, register_of, task_of};
 ghost use Rattle.pb_book.specs.Reading.{work_of as work_in, work_with, works_of};
@@ -43,8 +44,7 @@ pub(crate) fn tasks_of(
 ) -> Result<Vec<Task>, FormFault>
     ensures given { Gives (λ ts. Some (plain_tasks ts.items)) refused result
         (few_tasks (modules_of registry.now) (Some (list (items_view items.items)))) }
-    ensures lines { IfOk result (λ ts. are_from 2 ts.items ≡ true) }
-    ensures few { IfOk result (λ ts. length ts.items ≤ most_tasks) }
+    ensures numbered { IfOk result (λ ts. are_numbered ts.items ≡ true) }
     ensures known { IfOk result (λ ts. are_known (modules_of registry.now) ts.items ≡ true) }
     ensures plain { IfOk result (λ ts. are_plain_tasks (plain_tasks ts.items) ≡ true) }
     ensures ordered { IfOk result (λ ts. are_ordered ts.items ≡ true) }
@@ -71,6 +71,8 @@ fn task_of(alloc: Global, value: Value, line: u32, registry: &Registry) -> Resul
     ensures known { IfOk result (λ t. is_known (modules_of registry.now) t.work ≡ true) }
     ensures plain { IfOk result (λ t. is_plain_task (plain_task t) ≡ true) }
     ensures ordered { IfOk result (λ t. are_ascending (argument_names t.arguments.items) ≡ true) }
+    ensures other { may_be_task (modules_of registry.now) (view value) ≡ false
+        → result ≡ Err FormFault.NotBuilt }
 {
     let Value::Rec(fields) = value else {
         return Err(FormFault::NotBuilt);
@@ -99,6 +101,9 @@ fn work_in(
     ensures known { IfOk result (λ w. is_known (modules_of registry.now) w.0 ≡ true) }
     ensures simple { IfOk result (λ w. parts_simple (argument_parts w.1.items) ≡ true) }
     ensures ordered { IfOk result (λ w. are_ascending (argument_names w.1.items) ≡ true) }
+    ensures other { is_known_work (modules_of registry.now)
+        (lone (works_of (fields_view fields.now.entries))) ≡ false
+        → result ≡ Err FormFault.NotBuilt }
 {
     let (key, given) = work_entry(fields).ok_or(FormFault::NotBuilt)?;
     let (work, free) = work_of(key, registry)?;
@@ -176,6 +181,8 @@ fn given_arguments(
         (given_arguments (option_map (λ n. n.now) free.entry) (view given.now)) }
     ensures simple { IfOk result (λ found. parts_simple (argument_parts found.items) ≡ true) }
     ensures ordered { IfOk result (λ found. are_ascending (argument_names found.items) ≡ true) }
+    ensures other { may_be_arguments (option_map (λ n. n.now) free.entry) (view given.now) ≡ false
+        → result ≡ Err FormFault.NotBuilt }
 {
     match given {
         Value::Null => Ok(Vec::new(alloc)),
@@ -193,6 +200,9 @@ fn condition_of(alloc: Global, fields: &Fields) -> Result<Option<Expr>, FormFaul
     ensures given { Gives (λ when. Some (condition_view when)) refused result
         (condition_of (field_value (codes "when") (fields_view fields.now.entries))) }
     ensures simple { IfOk result (λ when. are_simple (condition_view when) ≡ true) }
+    ensures other { may_be_condition (field_value (codes "when") (fields_view fields.now.entries))
+        ≡ false
+        → result ≡ Err FormFault.NotBuilt }
 {
     match field_of(fields, "when") {
         None => Ok(None),

@@ -16,9 +16,9 @@ added old new a app r more reads is = more.shape reads.local ∙ ap₂ with_rule
 stays_local : (old new : Command) (a : Arg) (r : Rule) → AddsArg old a new → Reads a r → IsLocal old → IsLocal new
 stays_local old new a r more reads local = more.globals ∙ ap₂ ◌||◌ local reads.local
 
-pub three_more : (one two three four : Command) (a b d : Arg) (r s t : Rule) → AddsArg one a two → AddsArg two b three → AddsArg three d four
+pub Extends-three : (one two three four : Command) (a b d : Arg) (r s t : Rule) → AddsArg one a two → AddsArg two b three → AddsArg three d four
     → Reads a r → Reads b s → Reads d t → Extends (λ app. with_rule (with_rule (with_rule app r) s) t) one four
-three_more one two three four a b d r s t first second third is_r is_s is_t = record {
+Extends-three one two three four a b d r s t first second third is_r is_s is_t = record {
   app =
       added three four d (with_rule (with_rule (app_of one) r) s) t third is_t
       (added two three b (with_rule (app_of one) r) s second is_s (added one two a (app_of one) r first is_r refl));

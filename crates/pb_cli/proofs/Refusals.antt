@@ -8,18 +8,18 @@ use Rattle.pb_cli.specs.declared.words.LineFault.{LineFault}
 use Rattle.pb_cli.specs.declared.words.LineFault.TheVariants.{Help, Version, Line, NoMemory}
 
 -- where `clap` finds nothing wrong
-pub no_command : (ks : Kinds) (found : Option (Text × List Row)) → ks ≡ [] → (f : LineFault) → IsMistakeWhere (SaysNone found) f → IsRefusal ks found f
-no_command ks found none (Help text) says = absurd says
-no_command ks found none (Version text) says = absurd says
-no_command ks found none (Line text) says = inl (none, says)
-no_command ks found none NoMemory says = tt
+pub IsRefusal-none : (ks : Kinds) (found : Option (Text × List Row)) → ks ≡ [] → (f : LineFault) → IsMistakeWhere (SaysNone found) f → IsRefusal ks found f
+IsRefusal-none ks found none (Help text) says = absurd says
+IsRefusal-none ks found none (Version text) says = absurd says
+IsRefusal-none ks found none (Line text) says = inl (none, says)
+IsRefusal-none ks found none NoMemory says = tt
 
 -- where `clap`'s error is of that kind
-pub is_told : (ks : Kinds) (found : Option (Text × List Row)) (k : ErrorKind) (f : LineFault) → (k ≡ OutOfMemory) ⊎ IsAmong k ks → IsOfKind f k → IsRefusal ks found f
-is_told ks all k (Help text) (inl out) is = let clash = sym is ∙ out in cc
-is_told ks all k (Help text) (inr found) is = subst (λ x. IsAmong x ks) is found
-is_told ks all k (Version text) (inl out) is = let clash = sym is ∙ out in cc
-is_told ks all k (Version text) (inr found) is = subst (λ x. IsAmong x ks) is found
-is_told ks all k (Line text) (inl out) is = let clash = sym (ap is_mistake out) ∙ is in cc
-is_told ks all k (Line text) (inr found) is = inr (k, (found, is))
-is_told ks all k NoMemory found is = tt
+pub IsRefusal-told : (ks : Kinds) (found : Option (Text × List Row)) (k : ErrorKind) (f : LineFault) → (k ≡ OutOfMemory) ⊎ IsAmong k ks → IsOfKind f k → IsRefusal ks found f
+IsRefusal-told ks all k (Help text) (inl out) is = let clash = sym is ∙ out in cc
+IsRefusal-told ks all k (Help text) (inr found) is = subst (λ x. IsAmong x ks) is found
+IsRefusal-told ks all k (Version text) (inl out) is = let clash = sym is ∙ out in cc
+IsRefusal-told ks all k (Version text) (inr found) is = subst (λ x. IsAmong x ks) is found
+IsRefusal-told ks all k (Line text) (inl out) is = let clash = sym (ap is_mistake out) ∙ is in cc
+IsRefusal-told ks all k (Line text) (inr found) is = inr (k, (found, is))
+IsRefusal-told ks all k NoMemory found is = tt

@@ -23,11 +23,11 @@ names_from hs i name e =
     ∙ ap (λ x. x ∷ drop (i + 1) (map name_in hs)) (get_or_from_slice_get (map name_in hs) i name name found)
 
 -- what is left after one line more
-pub next_line : (r : RunState) (i : ℕ) (name : List ℕ) (recap : Recap) (text line : List ℕ)
+pub run_lines-next : (r : RunState) (i : ℕ) (name : List ℕ) (recap : Recap) (text line : List ℕ)
     → option_map name_in (slice_get (inventory_view r.checked.inventory).hosts i) ≡ Some name → recap ≡ recap_of r.recaps i → i < length r.recaps
     → line ≡ recap_line name recap → run_lines r ≡ text ++ recap_lines (drop i (host_names r)) (drop i r.recaps)
     → run_lines r ≡ (text ++ line) ++ recap_lines (drop (i + 1) (host_names r)) (drop (i + 1) r.recaps)
-next_line r i name recap text line named counted within is so_far =
+run_lines-next r i name recap text line named counted within is so_far =
     let left : recap_lines (drop i (host_names r)) (drop i r.recaps) ≡ line ++ recap_lines (drop (i + 1) (host_names r)) (drop (i + 1) r.recaps) =
     rw (names_from (inventory_view r.checked.inventory).hosts i name named, drop_more r.recaps i nothing within, is, counted) refl in
     so_far ∙ ap (λ x. text ++ x) left ∙ sym (append_assoc text line _)
@@ -38,8 +38,8 @@ pub any_from : (test : Recap → Bool) (rs : List Recap) (i : ℕ) → i < lengt
 any_from test rs i within = ap (list_any test) (drop_more rs i nothing within)
 
 -- some host's task failed, where this host's did
-pub fails_here : (rs : List Recap) (i : ℕ) (r : Recap) → i < length rs → r ≡ recap_of rs i → 0 < r.failed → some_failed rs ≡ some_failed (drop i rs)
+pub some_failed-here : (rs : List Recap) (i : ℕ) (r : Recap) → i < length rs → r ≡ recap_of rs i → 0 < r.failed → some_failed rs ≡ some_failed (drop i rs)
     → some_failed rs ≡ true
-fails_here rs i r within is positive so_far =
+some_failed-here rs i r within is positive so_far =
     let here : nat_lt 0 (recap_of rs i).failed ≡ true = subst (λ x. nat_lt 0 x.failed ≡ true) is (lt-ltb 0 r.failed positive) in
     so_far ∙ any_from (λ x. nat_lt 0 x.failed) rs i within ∙ ap (λ b. b || some_failed (drop (i + 1) rs)) here

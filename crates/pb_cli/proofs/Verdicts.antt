@@ -1,6 +1,7 @@
 -- What the readers' answers say of the files that are judged.
-use Rattle.std.proofs.Common.{◌≡◌, ◌<◌, ◌≤◌, ℕ, List, length, nat_lt, Bool, true, false, if◌then◌else◌, Option, Some, None, Result, Ok, Err, refl, sym, is_some, option_map, ap, ◌∙◌}
+use Rattle.std.proofs.Common.{◌≡◌, ◌<◌, ◌≤◌, ℕ, List, length, nat_lt, Bool, true, false, if◌then◌else◌, Option, Some, None, Result, Ok, Err, refl, sym, is_some, option_map, ap, ◌∙◌, ◌&&◌, not, subst}
 use Rattle.std.proofs.lemmas.Bool.{ltb-true, ltb-false, le-ltb, lt-ltb}
+use Rattle.std.specs.Str.{is_utf8}
 use Rattle.pb_semantics.specs.Data.{Data}
 use Rattle.pb_semantics.specs.Gives.{FaultGives}
 use Rattle.pb_semantics.specs.Limits.{most_book_bytes, most_inventory_bytes}
@@ -26,13 +27,13 @@ use Rattle.pb_verify.specs.declared.refusal.Code.{Code}
 use Rattle.pb_verify.specs.declared.refusal.Code.TheVariants.{N00, P01, I01}
 use Rattle.pb_verify.specs.declared.verify.VerifyFault.{VerifyFault}
 use Rattle.pb_verify.specs.declared.verify.VerifyFault.TheVariants as verify
-use Rattle.pb_cli.specs.FileVerdicts.{Found, whole_file, verdict, Judges as JudgesFiles, Tells, book_verdict, found, found_by, inventory_verdict, of_book, of_bytes, of_inventory, of_text, of_verify}
+use Rattle.pb_cli.specs.FileVerdicts.{Found, whole_file, verdict, Judges as JudgesFiles, Tells, book_verdict, found, found_by, inventory_verdict, is_looked_into, of_book, of_bytes, of_inventory, of_text, of_verify}
 use Rattle.pb_cli.specs.declared.judge.Fault.{Fault}
 use Rattle.pb_cli.specs.declared.judge.Fault.TheVariants.{NoMemory}
 
 -- a text that isn't too long is short
-pub not_over : (most n : ℕ) → ¬ (most < n) → n ≤ most
-not_over most n bound = either (nat_lt most n) refl where
+pub le-not_over : (most n : ℕ) → ¬ (most < n) → n ≤ most
+le-not_over most n bound = either (nat_lt most n) refl where
   either : (b : Bool) → nat_lt most n ≡ b → n ≤ most
   either true e = absurd (bound (ltb-true most n e))
   either false e = ltb-false most n e
@@ -49,10 +50,10 @@ module _ {X : Type 0} (most : ℕ) (code : Code) (read : Data → Option X) (bs 
   short l = ap (λ b. if b then Err N00 else short_text) (le-ltb most (length bs) l)
 
   is_read : (x : X) → ¬ (most < length bs) → (d : Data) × (json_data bs ≡ Some d) × (read d ≡ Some x) → of_bytes most code read bs ≡ Ok x
-  is_read x bound found = short (not_over most (length bs) bound) ∙ rw (found.1, found.2) refl
+  is_read x bound found = short (le-not_over most (length bs) bound) ∙ rw (found.1, found.2) refl
 
   is_no_json : ¬ (most < length bs) → json_data bs ≡ None → of_bytes most code read bs ≡ Err code
-  is_no_json bound none = short (not_over most (length bs) bound) ∙ rw none refl
+  is_no_json bound none = short (le-not_over most (length bs) bound) ∙ rw none refl
 
   is_not_built : (length bs ≤ most → (d : Data) × (json_data bs ≡ Some d) × (read d ≡ None)) → of_bytes most code read bs ≡ Err N00
   is_not_built other = either (nat_lt most (length bs)) refl where
@@ -61,9 +62,9 @@ module _ {X : Type 0} (most : ℕ) (code : Code) (read : Data → Option X) (bs 
     either false e = let l = ltb-false most (length bs) e in let found = other l in short l ∙ rw (found.1, found.2) refl
 
 -- want of memory may come in the place of anything
-no_memory : (f : Found) → Tells (Err NoMemory) f
-no_memory (whole_file code) = tt
-no_memory (verdict v) = tt
+pub Tells-no_memory : (f : Found) → Tells (Err NoMemory) f
+Tells-no_memory (whole_file code) = tt
+Tells-no_memory (verdict v) = tt
 
 -- what a fault of an inventory, and of a book, says of the text
 abbrev pub InventorySays : InventoryFault → Result InventoryData Code → Type 0
@@ -79,47 +80,54 @@ BookSays book.NoMemory v = Unit {0}
 module _ (bs : List ℕ) where
   -- by the clauses of the reader of inventories
   module _ (r : Result Inventory InventoryFault) (large : most_inventory_bytes < length bs → r ≡ Err inventory.NotBuilt) where
-    pub inventory_read : (i : Inventory) → r ≡ Ok i → (d : Data) × (json_data bs ≡ Some d) × (inventory_of d ≡ Some (inventory_view i)) → inventory_verdict bs ≡ Ok (inventory_view i)
-    inventory_read i e found = is_read most_inventory_bytes I01 inventory_of bs (inventory_view i) (λ l. let clash = sym e ∙ large l in cc) found
+    pub inventory_verdict-read : (i : Inventory) → r ≡ Ok i → (d : Data) × (json_data bs ≡ Some d) × (inventory_of d ≡ Some (inventory_view i)) → inventory_verdict bs ≡ Ok (inventory_view i)
+    inventory_verdict-read i e found = is_read most_inventory_bytes I01 inventory_of bs (inventory_view i) (λ l. let clash = sym e ∙ large l in cc) found
 
-    pub inventory_says : (f : InventoryFault) → r ≡ Err f → (f ≡ inventory.NotJson → json_data bs ≡ None)
+    pub InventorySays-fault : (f : InventoryFault) → r ≡ Err f → (f ≡ inventory.NotJson → json_data bs ≡ None)
         → (f ≡ inventory.NotBuilt → length bs ≤ most_inventory_bytes → (d : Data) × (json_data bs ≡ Some d) × (inventory_of d ≡ None)) → InventorySays f (inventory_verdict bs)
-    inventory_says inventory.NotJson e none other = is_no_json most_inventory_bytes I01 inventory_of bs (λ l. let clash = sym e ∙ large l in cc) (none refl)
-    inventory_says inventory.NotBuilt e none other = is_not_built most_inventory_bytes I01 inventory_of bs (other refl)
-    inventory_says inventory.NoMemory e none other = tt
+    InventorySays-fault inventory.NotJson e none other = is_no_json most_inventory_bytes I01 inventory_of bs (λ l. let clash = sym e ∙ large l in cc) (none refl)
+    InventorySays-fault inventory.NotBuilt e none other = is_not_built most_inventory_bytes I01 inventory_of bs (other refl)
+    InventorySays-fault inventory.NoMemory e none other = tt
+
+    -- an inventory that isn't looked into is refused
+    pub read-unlooked : (P : Result Inventory InventoryFault → Type 0) → is_looked_into most_inventory_bytes bs ≡ false → (is_utf8 bs ≡ false → length bs ≤ most_inventory_bytes → r ≡ Err inventory.NotJson) → P (Err inventory.NotBuilt) → P (Err inventory.NotJson) → P r
+    read-unlooked P h no_text built json = either (nat_lt most_inventory_bytes (length bs)) refl where
+      either : (b : Bool) → nat_lt most_inventory_bytes (length bs) ≡ b → P r
+      either true e = subst P (sym (large (ltb-true most_inventory_bytes (length bs) e))) built
+      either false e = subst P (sym (no_text (sym (ap (λ b. not b && is_utf8 bs) e) ∙ h) (ltb-false most_inventory_bytes (length bs) e))) json
 
   -- and of the reader of books
   module _ (r : Result Book BookFault) (large : most_book_bytes < length bs → r ≡ Err book.NotBuilt) where
-    pub book_read : (b : Book) → r ≡ Ok b → (d : Data) × (json_data bs ≡ Some d) × (book_from built_modules d ≡ Some (book_of b)) → book_verdict bs ≡ Ok (book_of b)
-    book_read b e found = is_read most_book_bytes P01 (book_from built_modules) bs (book_of b) (λ l. let clash = sym e ∙ large l in cc) found
+    pub book_verdict-read : (b : Book) → r ≡ Ok b → (d : Data) × (json_data bs ≡ Some d) × (book_from built_modules d ≡ Some (book_of b)) → book_verdict bs ≡ Ok (book_of b)
+    book_verdict-read b e found = is_read most_book_bytes P01 (book_from built_modules) bs (book_of b) (λ l. let clash = sym e ∙ large l in cc) found
 
-    pub book_says : (f : BookFault) → r ≡ Err f → (f ≡ book.NotJson → json_data bs ≡ None)
+    pub BookSays-fault : (f : BookFault) → r ≡ Err f → (f ≡ book.NotJson → json_data bs ≡ None)
         → (f ≡ book.NotBuilt → length bs ≤ most_book_bytes → (d : Data) × (json_data bs ≡ Some d) × (book_from built_modules d ≡ None)) → BookSays f (book_verdict bs)
-    book_says book.NotJson e none other = is_no_json most_book_bytes P01 (book_from built_modules) bs (λ l. let clash = sym e ∙ large l in cc) (none refl)
-    book_says book.NotBuilt e none other = is_not_built most_book_bytes P01 (book_from built_modules) bs (other refl)
-    book_says book.NoMemory e none other = tt
+    BookSays-fault book.NotJson e none other = is_no_json most_book_bytes P01 (book_from built_modules) bs (λ l. let clash = sym e ∙ large l in cc) (none refl)
+    BookSays-fault book.NotBuilt e none other = is_not_built most_book_bytes P01 (book_from built_modules) bs (other refl)
+    BookSays-fault book.NoMemory e none other = tt
 
 -- the answer where the inventory isn't read
-pub tells_inventory : (e : InventoryFault) (v : Result InventoryData Code) (w : Result BookData Code) → InventorySays e v → Tells (Err (of_inventory e)) (found_by v w)
-tells_inventory inventory.NotJson v w says = rw says refl
-tells_inventory inventory.NotBuilt v w says = rw says refl
-tells_inventory inventory.NoMemory v w says = no_memory (found_by v w)
+pub Tells-inventory : (e : InventoryFault) (v : Result InventoryData Code) (w : Result BookData Code) → InventorySays e v → Tells (Err (of_inventory e)) (found_by v w)
+Tells-inventory inventory.NotJson v w says = rw says refl
+Tells-inventory inventory.NotBuilt v w says = rw says refl
+Tells-inventory inventory.NoMemory v w says = Tells-no_memory (found_by v w)
 
 -- where the book isn't
-pub tells_book : (i : InventoryData) (e : BookFault) (v : Result InventoryData Code) (w : Result BookData Code) → v ≡ Ok i → BookSays e w → Tells (Err (of_book e)) (found_by v w)
-tells_book i book.NotJson v w read says = rw (read, says) refl
-tells_book i book.NotBuilt v w read says = rw (read, says) refl
-tells_book i book.NoMemory v w read says = no_memory (found_by v w)
+pub Tells-book : (i : InventoryData) (e : BookFault) (v : Result InventoryData Code) (w : Result BookData Code) → v ≡ Ok i → BookSays e w → Tells (Err (of_book e)) (found_by v w)
+Tells-book i book.NotJson v w read says = rw (read, says) refl
+Tells-book i book.NotBuilt v w read says = rw (read, says) refl
+Tells-book i book.NoMemory v w read says = Tells-no_memory (found_by v w)
 
 -- where both are
-pub tells_refused : (i : InventoryData) (b : BookData) (e : VerifyFault) (v : Result InventoryData Code) (w : Result BookData Code) → v ≡ Ok i → w ≡ Ok b → FaultGives (refused_verdict e) (judged built_modules (inventory_data i) b) → Tells (Err (of_verify e)) (found_by v w)
-tells_refused i b (verify.Refused r) v w read read_book judges = rw (read, read_book) judges
-tells_refused i b verify.NoMemory v w read read_book judges = no_memory (found_by v w)
+pub Tells-refused : (i : InventoryData) (b : BookData) (e : VerifyFault) (v : Result InventoryData Code) (w : Result BookData Code) → v ≡ Ok i → w ≡ Ok b → FaultGives (refused_verdict e) (judged built_modules (inventory_data i) b) → Tells (Err (of_verify e)) (found_by v w)
+Tells-refused i b (verify.Refused r) v w read read_book judges = rw (read, read_book) judges
+Tells-refused i b verify.NoMemory v w read read_book judges = Tells-no_memory (found_by v w)
 
-pub tells_accepted : (i : InventoryData) (b : BookData) (a : Accepted) (v : Result InventoryData Code) (w : Result BookData Code) → v ≡ Ok i → w ≡ Ok b → judged built_modules (inventory_data i) b ≡ accepted a.budget → Tells (Ok a) (found_by v w)
-tells_accepted i b a v w read read_book judges = rw (read, read_book) judges
+pub Tells-accepted : (i : InventoryData) (b : BookData) (a : Accepted) (v : Result InventoryData Code) (w : Result BookData Code) → v ≡ Ok i → w ≡ Ok b → judged built_modules (inventory_data i) b ≡ accepted a.budget → Tells (Ok a) (found_by v w)
+Tells-accepted i b a v w read read_book judges = rw (read, read_book) judges
 
 -- without signatures
-pub judges_unsigned : {S : Type 0} (f : S → List ℕ) (signatures : Option S) (i b : List ℕ) (r : Result Accepted Fault) → is_some signatures ≡ false → Tells r (found i b) → JudgesFiles (option_map f signatures) i b r
-judges_unsigned f None i b r e tells = tells
-judges_unsigned f (Some s) i b r e tells = cc
+pub Judges-unsigned : {S : Type 0} (f : S → List ℕ) (signatures : Option S) (i b : List ℕ) (r : Result Accepted Fault) → is_some signatures ≡ false → Tells r (found i b) → JudgesFiles (option_map f signatures) i b r
+Judges-unsigned f None i b r e tells = tells
+Judges-unsigned f (Some s) i b r e tells = cc

@@ -1,6 +1,7 @@
 -- What becomes of the files that are judged.
 use Rattle.std.specs.Prelude.{◌≡◌, ◌<◌, ◌≤◌, ℕ, List, length, nat_lt, if◌then◌else◌, Option, Some}
-use Rattle.std.specs.Prelude.{None, Result, Ok, Err}
+use Rattle.std.specs.Prelude.{None, Result, Ok, Err, Bool, ◌&&◌, not}
+use Rattle.std.specs.Str.{is_utf8}
 use Rattle.pb_semantics.specs.Data.{Data}
 use Rattle.pb_semantics.specs.Gives.{FaultGives, Gives}
 use Rattle.pb_semantics.specs.Limits.{most_answer_bytes, most_book_bytes, most_inventory_bytes}
@@ -65,6 +66,10 @@ of_text not_json read (Some d) = built (read d)
 abbrev pub of_bytes : {X : Type 0} → ℕ → Code → (Data → Option X) → List ℕ → Result X Code
 of_bytes most not_json read bytes =
     if nat_lt most (length bytes) then Err N00 else of_text not_json read (json_data bytes)
+
+-- a text is looked into: it isn't too long, and is UTF-8
+abbrev pub is_looked_into : ℕ → List ℕ → Bool
+is_looked_into most bytes = not (nat_lt most (length bytes)) && is_utf8 bytes
 
 -- an inventory's text is this inventory, or is refused with this code
 abbrev pub inventory_verdict : List ℕ → Result InventoryData Code

@@ -1,9 +1,11 @@
 // The verdict on the bytes of a playbook and an inventory.
-ghost use Rattle.std.specs.Prelude.{◌≡◌, IfOk, Ok, option_map};
+ghost use Rattle.std.specs.Prelude.{◌≡◌, Err, IfOk, Ok, false, option_map};
+ghost use Rattle.pb_semantics.specs.Words.{most_inventory_bytes};
 ghost use Rattle.pb_sig.specs.Words.{built_modules, modules_of};
 ghost use Rattle.pb_inventory.specs.Words.{inventory_view};
 ghost use Rattle.pb_book.specs.Words.{book_of};
-ghost use Rattle.pb_cli.specs.FileVerdicts.{Judges, book_verdict, inventory_verdict, refused};
+ghost use Rattle.pb_cli.specs.FileVerdicts.{Judges, book_verdict, inventory_verdict};
+ghost use Rattle.pb_cli.specs.FileVerdicts.{is_looked_into, refused};
 
 use pb_book::{Book, BookFault};
 use pb_inventory::{Inventory, InventoryFault};
@@ -104,7 +106,8 @@ pub fn whole(code: Code) -> Fault
 
 /// Judges a playbook for an inventory. Refusals come in this order: the signatures, the inventory,
 /// the playbook as it is written, then what the verifier finds. Signatures aren't built yet. What
-/// is accepted is the inventory that was read, with the built-in modules.
+/// is accepted is the inventory that was read, with the built-in modules. Where there are
+/// signatures, and where the inventory is too long or isn't UTF-8, the refusal takes no memory.
 pub fn judge(
     alloc: Global,
     book: &[u8],
@@ -117,12 +120,14 @@ pub fn judge(
         (λ c. inventory_verdict inventory.now ≡ Ok (inventory_view c.inventory)) }
     ensures book_read { IfOk result (λ c. book_verdict book.now ≡ Ok (book_of c.book)) }
     ensures modules { IfOk result (λ c. modules_of c.registry ≡ built_modules) }
+    ensures apart { is_looked_into most_inventory_bytes inventory.now ≡ false
+        → result ≡ Err Fault.NoMemory → ⊥ }
 {
     if signatures.is_some() {
         return Err(whole(Code::N00));
     }
-    let registry = Registry::builtin(alloc)?;
     let inventory = Inventory::read(alloc, inventory)?;
+    let registry = Registry::builtin(alloc)?;
     let book = Book::read(alloc, book, &registry)?;
     Ok(verify(alloc, book, inventory, registry)?)
 }

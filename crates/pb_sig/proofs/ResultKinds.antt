@@ -26,5 +26,5 @@ pub kind_view-Bool : kind_view Kind-of.Bool ≡ booleans
 kind_view-Bool = search (rules, kind_lemmas)
 
 -- a shape that has no final status yet, with it
-pub ended : (ss : Slots) → is_listed (codes "failed") ss ≡ false → recs (put_slot (codes "failed") true booleans ss) ≡ ended_kind ss
-ended ss h = ap (λ us. recs (put_slot (codes "failed") true booleans us)) (sym (without_unlisted (codes "failed") ss h))
+pub recs-ended : (ss : Slots) → is_listed (codes "failed") ss ≡ false → recs (put_slot (codes "failed") true booleans ss) ≡ ended_kind ss
+recs-ended ss h = ap (λ us. recs (put_slot (codes "failed") true booleans us)) (sym (without_unlisted (codes "failed") ss h))

@@ -22,7 +22,7 @@ use Rattle.pb_book.specs.declared.book.Play.{Play}
 use Rattle.pb_verify.specs.Judges.{run_of_accepted}
 use Rattle.pb_verify.specs.Meaning.{inventory_of}
 use Rattle.pb_verify.specs.declared.checked.Accepted.{Accepted}
-use Rattle.pb_verify.proofs.Lone.{alone}
+use Rattle.pb_verify.proofs.Lone.{Alone-lone}
 use Rattle.pb_strategy.specs.Events.{event_data}
 use Rattle.pb_strategy.specs.Standing.{tasks_in, first_name, host_of, opening_run, plain_after}
 use Rattle.pb_strategy.specs.declared.event.Event.{Event}
@@ -49,10 +49,10 @@ module _ (a : Accepted) (forks : ℕ) where
       ≡ plain_state (modules_of a.registry) (first_name hs) (line_in (plays_of a.book)) (plain_tasks (tasks_in (plays_of a.book))) forks (plain_run_from (modules_of a.registry) (first_name hs) forks (opening_run (plays_of a.book)) es)
   on_lone i hs h stands there es = rw (stands, there) (plays_run (modules_of a.registry) h.name forks es (plays_of a.book) a.book.numbered a.book.plain)
 
-  pub runs_plain : (es : List Event) → run_of_accepted a forks (map event_data es) ≡ whole a forks (plain_after a forks es)
-  runs_plain es =
-      let there = alone (inventory_view a.inventory) a.inventory.lone in
+  pub run_of_accepted-plain : (es : List Event) → run_of_accepted a forks (map event_data es) ≡ whole a forks (plain_after a forks es)
+  run_of_accepted-plain es =
+      let there = Alone-lone (inventory_view a.inventory) a.inventory.lone in
       on_lone (inventory_of (inventory_view a.inventory)) (inventory_view a.inventory).hosts there.host there.stands there.hosts (map event_data es)
 
-  pub enabled_plain : (es : List Event) (e : machine.Event) → enabled (run_of_accepted a forks (map event_data es)) e ≡ plain_is_enabled forks (plain_after a forks es) e
-  enabled_plain es e = ap (λ s. enabled s e) (runs_plain es) ∙ plain_enabled (modules_of a.registry) (host_of a) (line_in (plays_of a.book)) (plain_tasks (tasks_in (plays_of a.book))) forks (plain_after a forks es) e
+  pub enabled-plain : (es : List Event) (e : machine.Event) → enabled (run_of_accepted a forks (map event_data es)) e ≡ plain_is_enabled forks (plain_after a forks es) e
+  enabled-plain es e = ap (λ s. enabled s e) (run_of_accepted-plain es) ∙ plain_enabled (modules_of a.registry) (host_of a) (line_in (plays_of a.book)) (plain_tasks (tasks_in (plays_of a.book))) forks (plain_after a forks es) e

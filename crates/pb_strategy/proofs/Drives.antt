@@ -12,7 +12,7 @@ use Rattle.pb_strategy.specs.declared.event.Event.TheVariants.{Start, Give, Turn
 use Rattle.pb_strategy.specs.declared.event.Taken.{Taken}
 use Rattle.pb_strategy.specs.declared.event.Taken.TheVariants as taken
 use Rattle.pb_strategy.proofs.Histories.{is_stopped-more, or-false}
-use Rattle.pb_strategy.proofs.Jobs.{ticket_more}
+use Rattle.pb_strategy.proofs.Jobs.{ticket_out-push}
 
 -- where no job is handed out: nothing is stopped, and each job that is out stays out
 pub record IsQuiet (r s : RunState) : Type 0 where
@@ -28,21 +28,21 @@ turned true r = record {
   forks = refl;
   handed = refl;
   going_on = is_stopped-more r.history Turn ∙ or-false (is_stopped r.history);
-  out = λ k. ticket_more k r.history Turn;
+  out = λ k. ticket_out-push k r.history Turn;
 }
 turned false r = record { checked = refl; forks = refl; handed = refl; going_on = refl; out = λ k. refl }
 
-pub no_job : (t : Taken) → ((j : Job) → t ≡ taken.Job j → ⊥) → is_job t ≡ false
-no_job (taken.Job j) unlike = absurd (unlike j refl)
-no_job taken.Idle unlike = refl
-no_job taken.Stopped unlike = refl
-no_job taken.Finished unlike = refl
+pub is_job-none : (t : Taken) → ((j : Job) → t ≡ taken.Job j → ⊥) → is_job t ≡ false
+is_job-none (taken.Job j) unlike = absurd (unlike j refl)
+is_job-none taken.Idle unlike = refl
+is_job-none taken.Stopped unlike = refl
+is_job-none taken.Finished unlike = refl
 
-pub quiet : (r s : RunState) (t : Taken) → is_job t ≡ false → IsAfterTake t r s → IsQuiet r s
-quiet r s (taken.Job j) none e = cc
-quiet r s taken.Idle none e = rw e (turned false r)
-quiet r s taken.Stopped none e = rw e (turned false r)
-quiet r s taken.Finished none e = rw e (turned _ r)
+pub IsQuiet-taken : (r s : RunState) (t : Taken) → is_job t ≡ false → IsAfterTake t r s → IsQuiet r s
+IsQuiet-taken r s (taken.Job j) none e = cc
+IsQuiet-taken r s taken.Idle none e = rw e (turned false r)
+IsQuiet-taken r s taken.Stopped none e = rw e (turned false r)
+IsQuiet-taken r s taken.Finished none e = rw e (turned _ r)
 
 ended : (q : Bool) (begun out : Option ℕ) (p : ℕ) → cond q None (cond q begun out) ≡ Some p → out ≡ Some p
 ended true begun out p e = cc
@@ -52,19 +52,19 @@ ended false begun out p e = e
 out_before : (k p : ℕ) (es : List Event) (h : ℕ) (answers : Vec Answer) → ticket_out k ((es ++ Start h ∷ []) ++ Give h answers ∷ []) ≡ Some p → ticket_out k es ≡ Some p
 out_before k p es h answers out =
     ended (h == k) (Some (length es)) (ticket_out k es) p
-    (ap (λ o. cond (h == k) None o) (sym (ticket_more k es (Start h))) ∙ sym (ticket_more k (es ++ Start h ∷ []) (Give h answers)) ∙ out)
+    (ap (λ o. cond (h == k) None o) (sym (ticket_out-push k es (Start h))) ∙ sym (ticket_out-push k (es ++ Start h ∷ []) (Give h answers)) ∙ out)
 
 -- what a Give leaves
-pub after_give : (h : ℕ) (answers : Vec Answer) (r s : RunState) → s.history ≡ r.history ++ Give h answers ∷ [] → s.checked ≡ r.checked → s.forks ≡ r.forks → s.handed ≡ r.handed → IsAfterGive h answers r s
-after_give h answers r s p a b n i = record { checked = a i; forks = b i; history = p i; recaps = s.recaps; handed = n i }
+pub IsAfterGive-given : (h : ℕ) (answers : Vec Answer) (r s : RunState) → s.history ≡ r.history ++ Give h answers ∷ [] → s.checked ≡ r.checked → s.forks ≡ r.forks → s.handed ≡ r.handed → IsAfterGive h answers r s
+IsAfterGive-given h answers r s p a b n i = record { checked = a i; forks = b i; history = p i; recaps = s.recaps; handed = n i }
 
 module _ {R : Type 0} (answers : R → Call → Answer → R → Type 0) where
   -- one more call is answered
-  pub answered_more : (r : R) (cs : List Call) (xs : List Answer) (q : R) (c : Call) (a : Answer) (s : R) → AreAnswered answers r cs xs q → answers q c a s → AreAnswered answers r (cs ++ c ∷ []) (xs ++ a ∷ []) s
-  answered_more r [] [] q c a s before one = (s, rw before one, refl)
-  answered_more r (d ∷ cs) (x ∷ xs) q c a s before one = (before.0, before.1, answered_more before.0 cs xs q c a s before.2 one)
-  answered_more r [] (x ∷ xs) q c a s before one = absurd before
-  answered_more r (d ∷ cs) [] q c a s before one = absurd before
+  pub AreAnswered-push : (r : R) (cs : List Call) (xs : List Answer) (q : R) (c : Call) (a : Answer) (s : R) → AreAnswered answers r cs xs q → answers q c a s → AreAnswered answers r (cs ++ c ∷ []) (xs ++ a ∷ []) s
+  AreAnswered-push r [] [] q c a s before one = (s, rw before one, refl)
+  AreAnswered-push r (d ∷ cs) (x ∷ xs) q c a s before one = (before.0, before.1, AreAnswered-push before.0 cs xs q c a s before.2 one)
+  AreAnswered-push r [] (x ∷ xs) q c a s before one = absurd before
+  AreAnswered-push r (d ∷ cs) [] q c a s before one = absurd before
 
   -- the events of a job
   job_events : (old : RunState) (r : R) (new : RunState) (s : R) (d : IsJobDone answers old r new s) → new.history ≡ (old.history ++ Start d.job.host ∷ []) ++ Give d.job.host d.given ∷ []
@@ -78,19 +78,19 @@ module _ {R : Type 0} (answers : R → Call → Answer → R → Type 0) where
 
   -- a driven run is as stopped as it was
   pub drives_going_on : (old : RunState) (r : R) (new : RunState) (s : R) → Drives answers old r new s → is_stopped new.history ≡ is_stopped old.history
-  drives_going_on old r new s (ends t none e) = (quiet old new t none e).going_on
+  drives_going_on old r new s (ends t none e) = (IsQuiet-taken old new t none e).going_on
   drives_going_on old r new s (goes_on {mid} {q = q} d more) = drives_going_on mid q new s more ∙ job_going_on old r mid q d
 
   -- what is out then was out before
   pub drives_others : (old : RunState) (r : R) (new : RunState) (s : R) → Drives answers old r new s → (k p : ℕ) → ticket_out k new.history ≡ Some p → ticket_out k old.history ≡ Some p
-  drives_others old r new s (ends t none e) k p out = sym ((quiet old new t none e).out k) ∙ out
+  drives_others old r new s (ends t none e) k p out = sym ((IsQuiet-taken old new t none e).out k) ∙ out
   drives_others old r new s (goes_on {mid} {q = q} d more) k p out =
       out_before k p old.history d.job.host d.given (ap (ticket_out k) (sym (job_events old r mid q d)) ∙ drives_others mid q new s more k p out)
 
   -- a run in which nothing had happened is driven to its end
-  pub to_the_end : (old : RunState) (r : R) (new : RunState) (s : R) → old.history ≡ [] → Drives answers old r new s → (is_over new ≡ true) ⊎ ((k : ℕ) × (p : ℕ) × (ticket_out k new.history ≡ Some p))
+  pub is_ended-driven : (old : RunState) (r : R) (new : RunState) (s : R) → old.history ≡ [] → Drives answers old r new s → (is_over new ≡ true) ⊎ ((k : ℕ) × (p : ℕ) × (ticket_out k new.history ≡ Some p))
       → (is_ended new ≡ true) × (is_stopped new.history ≡ false)
-  to_the_end old r new s none d over =
+  is_ended-driven old r new s none d over =
       let going : is_stopped new.history ≡ false = drives_going_on old r new s d ∙ ap is_stopped none in
       elim over [
         | inl ended ↦ (ap (λ b. b || is_ended new) (sym going) ∙ ended, going)

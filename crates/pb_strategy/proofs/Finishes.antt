@@ -27,14 +27,14 @@ use Rattle.pb_strategy.specs.declared.outcome.Outcome.{Outcome}
 use Rattle.pb_strategy.specs.declared.recap.Ending.TheVariants as ending
 
 -- one more that is written
-pub written_more : (ws : List Entry) (e : Entry) (fs : Fields) → append_fields (fields_view (ws ++ e ∷ [])) fs ≡ append_fields (fields_view ws) (field (string_bytes e.0) (view e.1) fs)
-written_more [] e fs = refl
-written_more (w ∷ ws) e fs = ap (field (string_bytes w.0) (view w.1)) (written_more ws e fs)
+pub append_fields-push : (ws : List Entry) (e : Entry) (fs : Fields) → append_fields (fields_view (ws ++ e ∷ [])) fs ≡ append_fields (fields_view ws) (field (string_bytes e.0) (view e.1) fs)
+append_fields-push [] e fs = refl
+append_fields-push (w ∷ ws) e fs = ap (field (string_bytes w.0) (view w.1)) (append_fields-push ws e fs)
 
 -- what is set is written behind the result
-pub writes_with : (n : Option Name) (d : Data) (fs : Fields) → append_fields (result_writes n d no_fields) fs ≡ result_writes n d fs
-writes_with None d fs = refl
-writes_with (Some n) d fs = refl
+pub append_fields-writes : (n : Option Name) (d : Data) (fs : Fields) → append_fields (result_writes n d no_fields) fs ≡ result_writes n d fs
+append_fields-writes None d fs = refl
+append_fields-writes (Some n) d fs = refl
 
 true_flag : (b : Bool) → flag_is true (Some (boolean b)) ≡ b
 true_flag true = refl
@@ -45,9 +45,9 @@ module _ (m : ModuleData) (t : Task) (v : Data) (o : Outcome) where
   abbrev registered : Option Name
   registered = option_map (λ n. string_bytes n.value) t.register
 
-  pub taken_comes : (e : Data) (c : Bool) → admission m.ok m.failure v ≡ taken e → ((fs : Fields) → e ≡ rec fs → c ≡ flag_is true (field_value (codes "changed") fs)) → ((fs : Fields) → e ≡ rec fs → IsSettled fs)
+  pub AnswersAs-taken : (e : Data) (c : Bool) → admission m.ok m.failure v ≡ taken e → ((fs : Fields) → e ≡ rec fs → c ≡ flag_is true (field_value (codes "changed") fs)) → ((fs : Fields) → e ≡ rec fs → IsSettled fs)
       → o.ending ≡ ending.Ok c → fields_view o.writes.items ≡ result_writes registered e no_fields → AnswersAs m t v o
-  taken_comes e c a changed settled x y = λ ms n ps d xs plain w f h r ts.
+  AnswersAs-taken e c a changed settled x y = λ ms n ps d xs plain w f h r ts.
       let found = taken_record m v e a in
       let fs = found.0 in
       let here : admission m.ok m.failure v ≡ taken (rec fs) = a ∙ ap taken found.1 in
@@ -56,24 +56,24 @@ module _ (m : ModuleData) (t : Task) (v : Data) (o : Outcome) where
       let other = not-true (is_setup m) (and-right (is_lawful m) (not (is_setup m)) plain) in
       (r.failure, rw (x, y, found.1, same) (taken_gives ms h r (plain_task t) ts xs d v n ps m w f fs status.0 status.1 other here status.2 (settled fs found.1 status.0 false status.1 status.2)))
 
-  pub failed_comes : (e : Data) → admission m.ok m.failure v ≡ failed e → ((fs : Fields) → e ≡ rec fs → IsSettled fs)
+  pub AnswersAs-failed : (e : Data) → admission m.ok m.failure v ≡ failed e → ((fs : Fields) → e ≡ rec fs → IsSettled fs)
       → o.ending ≡ ending.Failed → fields_view o.writes.items ≡ result_writes registered e no_fields → AnswersAs m t v o
-  failed_comes e a settled x y = λ ms n ps d xs plain w f h r ts.
+  AnswersAs-failed e a settled x y = λ ms n ps d xs plain w f h r ts.
       let found = failed_record m v e a in
       let fs = found.0 in
       let here : admission m.ok m.failure v ≡ failed (rec fs) = a ∙ ap failed found.1 in
       let status = failed_fields m v fs (and-left (is_lawful m) (not (is_setup m)) plain) here in
       rw (x, y, found.1) (failed_gives ms h r (plain_task t) ts xs d v n ps m w f fs status.0 status.1 here status.2 (settled fs found.1 status.0 true status.1 status.2))
 
-  pub breach_comes : admission m.ok m.failure v ≡ breach → o.ending ≡ ending.Failed → fields_view o.writes.items ≡ no_fields → AnswersAs m t v o
-  breach_comes a x y = λ ms n ps d xs plain w f h r ts. (r.failure, rw (x, y) (breach_gives ms h r (plain_task t) ts xs d v n ps m w f a))
+  pub AnswersAs-breach : admission m.ok m.failure v ≡ breach → o.ending ≡ ending.Failed → fields_view o.writes.items ≡ no_fields → AnswersAs m t v o
+  AnswersAs-breach a x y = λ ms n ps d xs plain w f h r ts. (r.failure, rw (x, y) (breach_gives ms h r (plain_task t) ts xs d v n ps m w f a))
 
 -- the first of the answers decides, once their task has called
 module _ (ms : Registry) (t : Task) (o : Outcome) where
-  pub first_comes : (xs : List Answer) (a : Answer) (d : AnswerData) → answer_data a ≡ d → Some a ≡ slice_get xs 0 → ((x : Data) (more : List AnswerData) → IsOutcome ms t (d ∷ more) (a_pass (calls x)) o) → ComesTo ms t pending.Call xs o
-  first_comes [] a d e h f = cc
-  first_comes (b ∷ xs) a d e h f = λ ps p. let same : answer_data b ≡ d = cc in rw (p.1, same) (f p.0 (map answer_data xs))
+  pub ComesTo-first : (xs : List Answer) (a : Answer) (d : AnswerData) → answer_data a ≡ d → Some a ≡ slice_get xs 0 → ((x : Data) (more : List AnswerData) → IsOutcome ms t (d ∷ more) (a_pass (calls x)) o) → ComesTo ms t pending.Call xs o
+  ComesTo-first [] a d e h f = cc
+  ComesTo-first (b ∷ xs) a d e h f = λ ps p. let same : answer_data b ≡ d = cc in rw (p.1, same) (f p.0 (map answer_data xs))
 
-  pub none_comes : (xs : List Answer) → None ≡ slice_get xs 0 → o.ending ≡ ending.Failed → fields_view o.writes.items ≡ no_fields → ComesTo ms t pending.Call xs o
-  none_comes [] e x y = λ ps p h r ts. (r.failure, rw (p.1, x, y) (missing_gives ms h r (plain_task t) ts [] p.0))
-  none_comes (b ∷ xs) e x y = cc
+  pub ComesTo-none : (xs : List Answer) → None ≡ slice_get xs 0 → o.ending ≡ ending.Failed → fields_view o.writes.items ≡ no_fields → ComesTo ms t pending.Call xs o
+  ComesTo-none [] e x y = λ ps p h r ts. (r.failure, rw (p.1, x, y) (missing_gives ms h r (plain_task t) ts [] p.0))
+  ComesTo-none (b ∷ xs) e x y = cc

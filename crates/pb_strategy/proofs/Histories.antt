@@ -53,45 +53,45 @@ stop_over true r s e going over = ap is_over (over e) ∙ e
 stop_over false r s e going over = ap is_over (going e) ∙ is_over-stop r
 
 -- a run that was stopped is over
-pub stopped_over : (r s : RunState) → (is_over r ≡ false → s ≡ after r Stop) → (is_over r ≡ true → s ≡ r) → is_over s ≡ true
-stopped_over r s going over = stop_over (is_over r) r s refl going over
+pub is_over-stopped : (r s : RunState) → (is_over r ≡ false → s ≡ after r Stop) → (is_over r ≡ true → s ≡ r) → is_over s ≡ true
+is_over-stopped r s going over = stop_over (is_over r) r s refl going over
 
 pub is_over-turn : (r : RunState) → is_over (after r Turn) ≡ true
 is_over-turn r =
     rw (is_turned-more r.history Turn, or-true (is_turned r.history), or-true (has_no_plays (plays_of r.checked.book))) (or-true (is_stopped (r.history ++ Turn ∷ [])))
 
 -- what was within a history's length still is
-pub longer : (n : ℕ) (es : List Event) (e : Event) → n ≤ length es → n ≤ length (es ++ e ∷ [])
-longer n es e within = omega (arith, within, length_push es e)
+pub length-longer : (n : ℕ) (es : List Event) (e : Event) → n ≤ length es → n ≤ length (es ++ e ∷ [])
+length-longer n es e within = omega (arith, within, length_push es e)
 
 pub is_over-same : (r s : RunState) → r.checked ≡ s.checked → r.history ≡ s.history → is_over r ≡ is_over s
 is_over-same r s book same = rw (book, same) refl
 
 -- a Stop leaves the book and the forks
-pub stop_keeps : (r s : RunState) → (is_over r ≡ false → s ≡ after r Stop) → (is_over r ≡ true → s ≡ r) → (s.checked ≡ r.checked) × (s.forks ≡ r.forks)
-stop_keeps r s going over = by (is_over r) refl where
+pub checked-stop : (r s : RunState) → (is_over r ≡ false → s ≡ after r Stop) → (is_over r ≡ true → s ≡ r) → (s.checked ≡ r.checked) × (s.forks ≡ r.forks)
+checked-stop r s going over = by (is_over r) refl where
   by : (b : Bool) → is_over r ≡ b → (s.checked ≡ r.checked) × (s.forks ≡ r.forks)
   by false e = rw (going e) (refl, refl)
   by true e = rw (over e) (refl, refl)
 
 -- a run as its callers see it, by what may have changed
-pub same_state : (a : Accepted) (forks : ℕ) (es fs : List Event) (rs ss : List Recap) (m n : ℕ) → es ≡ fs → rs ≡ ss → m ≡ n
+pub RunState-same : (a : Accepted) (forks : ℕ) (es fs : List Event) (rs ss : List Recap) (m n : ℕ) → es ≡ fs → rs ≡ ss → m ≡ n
     → ◌≡◌ {A = RunState} (record { checked = a; forks = forks; history = es; recaps = rs; handed = m }) (record { checked = a; forks = forks; history = fs; recaps = ss; handed = n })
-same_state a forks es fs rs ss m n p q r i = record { checked = a; forks = forks; history = p i; recaps = q i; handed = r i }
+RunState-same a forks es fs rs ss m n p q r i = record { checked = a; forks = forks; history = p i; recaps = q i; handed = r i }
 
-pub same_machine : (c d : Accepted) (m n : ℕ) (es fs : List Event) (hosts : List HostState) (p q : Phase) → d ≡ c → n ≡ m → fs ≡ es → q ≡ p → IsMachine c m es hosts p → IsMachine d n fs hosts q
-same_machine c d m n es fs hosts p q a b e f i = rw (a, b, e, f) i
+pub IsMachine-same : (c d : Accepted) (m n : ℕ) (es fs : List Event) (hosts : List HostState) (p q : Phase) → d ≡ c → n ≡ m → fs ≡ es → q ≡ p → IsMachine c m es hosts p → IsMachine d n fs hosts q
+IsMachine-same c d m n es fs hosts p q a b e f i = rw (a, b, e, f) i
 
 same_tally : (es fs : List Event) (rs ss : List Recap) → fs ≡ es → ss ≡ rs → IsTally es rs → IsTally fs ss
 same_tally es fs rs ss p q t = rw (p, q) t
 
 -- after a Start or a Give, in the same phase
-pub goes_on : (a b : Inside) (e : Event) → IsRun a → is_stop e ≡ false → is_turn e ≡ false → b.checked ≡ a.checked → b.forks ≡ a.forks → b.fixed ≡ a.fixed → b.phase ≡ a.phase
+pub IsRun-push : (a b : Inside) (e : Event) → IsRun a → is_stop e ≡ false → is_turn e ≡ false → b.checked ≡ a.checked → b.forks ≡ a.forks → b.fixed ≡ a.fixed → b.phase ≡ a.phase
     → b.history.items ≡ a.history.items ++ e ∷ [] → length b.history.items < vec_capacity b.history
     → length (recaps_of b.hosts.items) ≡ length (recaps_of a.hosts.items) → IsTally b.history.items (recaps_of b.hosts.items)
     → handed_of b.hosts.items ≤ length b.history.items → ((k : ℕ) → get_or (tickets_of b.hosts.items) k None ≡ ticket_out k b.history.items)
     → IsMachine a.checked a.forks (a.history.items ++ e ∷ []) b.hosts.items a.phase → IsRun b
-goes_on a b e i unlike other book forks fixed same items room many tally handed tickets machine = record {
+IsRun-push a b e i unlike other book forks fixed same items room many tally handed tickets machine = record {
   room = λ _. room;
   stopped = rw (items, is_stopped-more a.history.items e, unlike, or-false (is_stopped a.history.items), same) i.stopped;
   over = is_over-same (run_state b) (after (run_state a) e) book items ∙ is_over-more (run_state a) e unlike other ∙ i.over ∙ ap is_phase_over (sym same);
@@ -101,15 +101,15 @@ goes_on a b e i unlike other book forks fixed same items room many tally handed 
   tickets = tickets;
   skipped = ap (λ f. view f.skipped) fixed ∙ i.skipped;
   unchanged = ap (λ f. view f.unchanged) fixed ∙ i.unchanged;
-  machine = same_machine a.checked b.checked a.forks b.forks (a.history.items ++ e ∷ []) b.history.items b.hosts.items a.phase b.phase book forks items same machine;
+  machine = IsMachine-same a.checked b.checked a.forks b.forks (a.history.items ++ e ∷ []) b.history.items b.hosts.items a.phase b.phase book forks items same machine;
   forks = subst (λ n. 0 < n) (sym forks) i.forks;
 }
 
 -- where nothing has happened, but there is more room
-pub stays : (a b : Inside) → IsRun a → b.checked ≡ a.checked → b.forks ≡ a.forks → b.fixed ≡ a.fixed → b.phase ≡ a.phase → b.history.items ≡ a.history.items
+pub IsRun-same : (a b : Inside) → IsRun a → b.checked ≡ a.checked → b.forks ≡ a.forks → b.fixed ≡ a.fixed → b.phase ≡ a.phase → b.history.items ≡ a.history.items
     → (b.phase ≡ phase.Going → length b.history.items < vec_capacity b.history) → recaps_of b.hosts.items ≡ recaps_of a.hosts.items → handed_of b.hosts.items ≡ handed_of a.hosts.items
     → tickets_of b.hosts.items ≡ tickets_of a.hosts.items → IsMachine a.checked a.forks a.history.items b.hosts.items a.phase → IsRun b
-stays a b i book forks fixed same items room recaps handed tickets machine = record {
+IsRun-same a b i book forks fixed same items room recaps handed tickets machine = record {
   room = room;
   stopped = ap is_stopped items ∙ i.stopped ∙ ap is_phase_stopped (sym same);
   over = is_over-same (run_state b) (run_state a) book items ∙ i.over ∙ ap is_phase_over (sym same);
@@ -119,6 +119,6 @@ stays a b i book forks fixed same items room recaps handed tickets machine = rec
   tickets = λ k. ap (λ ts. get_or ts k None) tickets ∙ i.tickets k ∙ ap (ticket_out k) (sym items);
   skipped = ap (λ f. view f.skipped) fixed ∙ i.skipped;
   unchanged = ap (λ f. view f.unchanged) fixed ∙ i.unchanged;
-  machine = same_machine a.checked b.checked a.forks b.forks a.history.items b.history.items b.hosts.items a.phase b.phase book forks items same machine;
+  machine = IsMachine-same a.checked b.checked a.forks b.forks a.history.items b.history.items b.hosts.items a.phase b.phase book forks items same machine;
   forks = subst (λ n. 0 < n) (sym forks) i.forks;
 }

@@ -32,10 +32,10 @@ at_insert p [] k v = refl
 at_insert p (e ∷ es) k v = insert_step (bytes_eq (string_bytes k) (string_bytes e.0)) p k v e es _ refl (at_insert p es k v)
 
 -- a value that is written under a name
-pub insert_same : (es : List Entry) (k : String Global) (v : Value) → AreSame (fields_view (insert_entry string_eq es k v)) (put_field (string_bytes k) (view v) (fields_view es))
-insert_same es k v = λ p. at_insert p es k v ∙ sym (at_put_field p (string_bytes k) (view v) (fields_view es))
+pub AreSame-insert : (es : List Entry) (k : String Global) (v : Value) → AreSame (fields_view (insert_entry string_eq es k v)) (put_field (string_bytes k) (view v) (fields_view es))
+AreSame-insert es k v = λ p. at_insert p es k v ∙ sym (at_put_field p (string_bytes k) (view v) (fields_view es))
 
 -- the list of names, each in something of its own
-pub names_items : {X : Type 0} (f : X → Name) (xs : List X) → items_of (map (λ x. text (f x)) xs) ≡ names_list (map f xs)
-names_items f [] = refl
-names_items f (x ∷ xs) = ap (item (text (f x))) (names_items f xs)
+pub items_of-names : {X : Type 0} (f : X → Name) (xs : List X) → items_of (map (λ x. text (f x)) xs) ≡ names_list (map f xs)
+items_of-names f [] = refl
+items_of-names f (x ∷ xs) = ap (item (text (f x))) (items_of-names f xs)

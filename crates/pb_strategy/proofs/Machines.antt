@@ -30,8 +30,8 @@ use Rattle.pb_book.specs.declared.book.Work.{Work}
 use Rattle.pb_book.specs.declared.book.Work.TheVariants.{Module, Debug, SetFact}
 use Rattle.pb_verify.specs.Judges.{is_accepted, run_of_accepted}
 use Rattle.pb_verify.specs.declared.checked.Accepted.{Accepted}
-use Rattle.pb_verify.proofs.AcceptedRuns.{accepted_never_stuck}
-use Rattle.pb_verify.proofs.RuleModules.{module_found}
+use Rattle.pb_verify.proofs.AcceptedRuns.{is_stuck-accepted}
+use Rattle.pb_verify.proofs.RuleModules.{module_named-found}
 use Rattle.pb_strategy.specs.Events.{answer_data, event_data, call_data, recap_data}
 use Rattle.pb_strategy.specs.Inside.{IsMachine, is_phase_ended, is_phase_stopped}
 use Rattle.pb_strategy.specs.Outcomes.{Makes, ComesTo, IsSettledHost, called_name}
@@ -51,15 +51,15 @@ use Rattle.pb_strategy.specs.declared.host.Stage.TheVariants as stage
 use Rattle.pb_strategy.specs.declared.outcome.Outcome.{Outcome}
 use Rattle.pb_strategy.specs.declared.run.Phase.{Phase}
 use Rattle.pb_strategy.specs.declared.run.Phase.TheVariants as phase
-use Rattle.pb_strategy.proofs.Accepts.{whole, runs_plain, enabled_plain}
-use Rattle.pb_strategy.proofs.PlainNext.{Starts, plain_start_at, plain_give_at, plain_no_other}
-use Rattle.pb_strategy.proofs.Standings.{lower_both, left_same, task_at, begun, start_made, start_at, came_there, give_at, turn_at, stop_at}
+use Rattle.pb_strategy.proofs.Accepts.{whole, run_of_accepted-plain, enabled-plain}
+use Rattle.pb_strategy.proofs.PlainNext.{Starts, Starts-plain, Gives-plain, plain_is_enabled-other}
+use Rattle.pb_strategy.proofs.Standings.{nat_lt-suc, are_left-same, plain_task-at, begun, IsPending-start, IsAt-start, after_came-there, IsAt-give, IsAt-turn, IsAt-stop}
 
 -- a place below the number of tasks is that of one
 pub task_there : (ts : List Task) (p : ℕ) → nat_lt p (length ts) ≡ true → (t : Task) × (slice_get ts p ≡ Some t)
 task_there [] p e = untrue (sym (le-ltb p 0 (omega arith)) ∙ e)
 task_there (t ∷ ts) zero e = (t, refl)
-task_there (t ∷ ts) (suc p) e = task_there ts p (lower_both p (length ts) ∙ e)
+task_there (t ∷ ts) (suc p) e = task_there ts p (nat_lt-suc p (length ts) ∙ e)
 
 -- what is so of each task of a list is so of the one at a place
 at_each : (f : Task → Bool) (g : List Task → Bool) → ((t : Task) (ts : List Task) → g (t ∷ ts) ≡ f t && g ts) → (ts : List Task) (p : ℕ) (t : Task) → slice_get ts p ≡ Some t → g ts ≡ true → f t ≡ true
@@ -98,7 +98,7 @@ module_name n [] m h = cc
 module_name n (x ∷ ms) m h = name_step (bytes_eq x.name n) n x m (module_at n ms) refl (module_name n ms m) h
 
 named_as : (n : List ℕ) (ms : List ModuleData) (o : Option ModuleData) → module_at n ms ≡ o → is_some o ≡ true → n ≡ (module_named n ms).name
-named_as n ms (Some m) e h = sym (module_name n ms m e) ∙ ap (λ (k : ModuleData). k.name) (sym (module_found n ms m e))
+named_as n ms (Some m) e h = sym (module_name n ms m e) ∙ ap (λ (k : ModuleData). k.name) (sym (module_named-found n ms m e))
 named_as n ms None e h = untrue h
 
 called_same : (ms : List ModuleData) (t : Task) (w : Work) → t.work ≡ w → is_known ms w ≡ true → called_name w ≡ action_name (plain_action ms (work_of w (argument_parts t.arguments.items)))
@@ -184,15 +184,15 @@ module _ (a : Accepted) (forks : ℕ) where
       ∙ sym (map_push event_data es e)
 
   pub never_stuck : is_accepted a ≡ true → (es : List Event) → (here es).is_stuck ≡ false
-  never_stuck h es = ap (λ s. s.is_stuck) (sym (runs_plain a forks es)) ∙ accepted_never_stuck a h forks (map event_data es)
+  never_stuck h es = ap (λ s. s.is_stuck) (sym (run_of_accepted-plain a forks es)) ∙ is_stuck-accepted a h forks (map event_data es)
 
   begins_at : (es : List Event) → enabled (there es) (start 0) ≡ true → is_accepted a ≡ true → Starts (modules_of a.registry) (host_of a) forks (here es) (goes (here es) (start 0))
-  begins_at es on h = plain_start_at (modules_of a.registry) (host_of a) forks (here es) (sym (enabled_plain a forks es (start 0)) ∙ on) (ap (λ (r : PlainRun). r.is_stuck) (sym (here_more es (Start 0))) ∙ never_stuck h (es ++ Start 0 ∷ []))
+  begins_at es on h = Starts-plain (modules_of a.registry) (host_of a) forks (here es) (sym (enabled-plain a forks es (start 0)) ∙ on) (ap (λ (r : PlainRun). r.is_stuck) (sym (here_more es (Start 0))) ∙ never_stuck h (es ++ Start 0 ∷ []))
 
   -- a Start of a host that isn't the first isn't enabled
   start_first : (es : List Event) (k : ℕ) → enabled (there es) (start k) ≡ true → k ≡ 0
   start_first es zero on = refl
-  start_first es (suc k) on = untrue (sym (enabled_plain a forks es (start (suc k)) ∙ (plain_no_other forks (here es) k []).0) ∙ on)
+  start_first es (suc k) on = untrue (sym (enabled-plain a forks es (start (suc k)) ∙ (plain_is_enabled-other forks (here es) k []).0) ∙ on)
 
   module _ (es : List Event) (hosts : List HostState) (p : Phase) (m : IsMachine a forks es hosts p) where
     abbrev now : PlainRun
@@ -221,7 +221,7 @@ module _ (a : Accepted) (forks : ℕ) where
       begins = begins_at es on m.accepted
 
       is_going_now : now.is_over ≡ false
-      is_going_now = going_over now.is_stopped now.is_over _ (sym (enabled_plain a forks es (start 0)) ∙ on)
+      is_going_now = going_over now.is_stopped now.is_over _ (sym (enabled-plain a forks es (start 0)) ∙ on)
 
       simple_here : is_plain_task (plain_task t) ≡ true
       simple_here = task_plain (plays_of a.book) m.host.place t e a.book.plain
@@ -232,24 +232,24 @@ module _ (a : Accepted) (forks : ℕ) where
       pub start_kept : (hosts' : List HostState) → hosts' ≡ started_host ∷ [] → IsMachine a forks (es ++ Start 0 ∷ []) hosts' p
       start_kept hosts' f =
           more (Start 0) started_host hosts' p on f
-          (start_at (host_of a) (tasks_in (plays_of a.book)) m.host now m.at (modules_of a.registry) forks ticket q cs t e simple_here made begins is_going_now)
+          (IsAt-start (host_of a) (tasks_in (plays_of a.book)) m.host now m.at (modules_of a.registry) forks ticket q cs t e simple_here made begins is_going_now)
           (same_ended (goes now (start 0)) (ap (λ (r : PlainRun). r.is_over) begins.after))
           (ap (λ (r : PlainRun). r.is_stopped) begins.after ∙ m.stopped)
 
       -- its job's calls are those of the passes that the machine has it in
       pub start_calls : map call_data cs ≡ job_calls 0 now.handed (there (es ++ Start 0 ∷ []))
       start_calls =
-          let same = task_at (host_of a) (tasks_in (plays_of a.book)) m.host now m.at t begins.task begins.more e begins.tasks in
-          let made = start_made (host_of a) (tasks_in (plays_of a.book)) m.host now m.at (modules_of a.registry) forks ticket q cs t e simple_here made begins in
+          let same = plain_task-at (host_of a) (tasks_in (plays_of a.book)) m.host now m.at t begins.task begins.more e begins.tasks in
+          let made = IsPending-start (host_of a) (tasks_in (plays_of a.book)) m.host now m.at (modules_of a.registry) forks ticket q cs t e simple_here made begins in
           let name = called_same (modules_of a.registry) t t.work refl (task_known (plays_of a.book) m.host.place t e (modules_of a.registry) m.known) in
           let inside : there (es ++ Start 0 ∷ []) ≡ whole a forks (record now { standing = inside begins.passes; handed = now.handed + call_count begins.passes }) =
-          runs_plain a forks (es ++ Start 0 ∷ []) ∙ ap (whole a forks) (here_more es (Start 0) ∙ begins.after) in
+          run_of_accepted-plain a forks (es ++ Start 0 ∷ []) ∙ ap (whole a forks) (here_more es (Start 0) ∙ begins.after) in
           made.1
           ∙ ap (λ n. pass_calls 0 (host_of a) n begins.passes now.handed) (name ∙ ap (λ (u : PlainTask). action_name (plain_action (modules_of a.registry) u.work)) same.0)
           ∙ sym (ap (job_calls 0 now.handed) inside ∙ running_calls (modules_of a.registry) (host_of a) now.place now.tasks begins.task begins.more begins.passes now.handed begins.tasks)
 
-    pub start_within : (k : ℕ) → enabled (there es) (start k) ≡ true → k < length hosts
-    start_within k on = omega (arith, start_first es k on, ap length m.alone)
+    pub within-start : (k : ℕ) → enabled (there es) (start k) ≡ true → k < length hosts
+    within-start k on = omega (arith, start_first es k on, ap length m.alone)
 
     -- the host that may start is there, and so is its task
     module _ (k : ℕ) (on : enabled (there es) (start k) ≡ true) where
@@ -259,10 +259,10 @@ module _ (a : Accepted) (forks : ℕ) where
       task_first : (t : Task) × (slice_get (tasks_in (plays_of a.book)) m.host.place ≡ Some t)
       task_first =
           let st = begins_at es (ap (λ n. enabled (there es) (start n)) (sym (start_first es k on)) ∙ on) m.accepted in
-          task_there (tasks_in (plays_of a.book)) m.host.place (sym (left_same (tasks_in (plays_of a.book)) m.host.place now.tasks m.at.tasks_left) ∙ rw st.tasks refl)
+          task_there (tasks_in (plays_of a.book)) m.host.place (sym (are_left-same (tasks_in (plays_of a.book)) m.host.place now.tasks m.at.tasks_left) ∙ rw st.tasks refl)
 
-      pub start_there : (slice_get hosts k ≡ Some m.host) × (is_some (slice_get (tasks_in (plays_of a.book)) m.host.place) ≡ true)
-      start_there = (at_first, ap is_some task_first.1)
+      pub slice_get-start : (slice_get hosts k ≡ Some m.host) × (is_some (slice_get (tasks_in (plays_of a.book)) m.host.place) ≡ true)
+      slice_get-start = (at_first, ap is_some task_first.1)
 
     -- a Start of any host that may, by what is evaluated for the task at hand and what becomes of the host's state
     module _ (k ticket : ℕ) (q : Pending) (cs : List Call) (hosts' : List HostState) (on : enabled (there es) (start k) ≡ true)
@@ -277,29 +277,29 @@ module _ (a : Accepted) (forks : ℕ) where
       made_first : (i : ℕ) → Makes q cs (task_first k on).0 0 m.host (plan_of (own_world (own_fields m.host.vars)) (plain_run (modules_of a.registry) i (plain_task (task_first k on).0)) None)
       made_first i = subst (λ n. Makes q cs (task_first k on).0 n m.host (plan_of (own_world (own_fields m.host.vars)) (plain_run (modules_of a.registry) i (plain_task (task_first k on).0)) None)) first (made m.host (task_first k on).0 (modules_of a.registry) i (at_first k on) (task_first k on).1)
 
-      pub start_run : (n : ℕ) → n ≡ length cs → m.host.calls + n < 2 ^ 64
+      pub IsMachine-start : (n : ℕ) → n ≡ length cs → m.host.calls + n < 2 ^ 64
           → ((s : HostState) → slice_get hosts k ≡ Some s → s.calls + n < 2 ^ 64 → hosts' ≡ set hosts k (record s { calls = s.calls + n; stage = stage.Running ticket q }))
           → IsMachine a forks (es ++ Start k ∷ []) hosts' p
-      start_run n count few placed =
+      IsMachine-start n count few placed =
           let one : hosts' ≡ record m.host { calls = m.host.calls + n; stage = stage.Running ticket q } ∷ [] =
           placed m.host (at_first k on) few ∙ ap₂ (λ hs i. set hs i (record m.host { calls = m.host.calls + n; stage = stage.Running ticket q })) m.alone first in
           let counted = one ∙ ap (λ i. record m.host { calls = m.host.calls + i; stage = stage.Running ticket q } ∷ []) count in
           subst (λ i. IsMachine a forks (es ++ Start i ∷ []) hosts' p) (sym first) (start_kept ticket q cs (task_first k on).0 on_first (task_first k on).1 made_first hosts' counted)
 
-      pub start_run_calls : map call_data cs ≡ job_calls k now.handed (there (es ++ Start k ∷ []))
-      start_run_calls = start_calls ticket q cs (task_first k on).0 on_first (task_first k on).1 made_first ∙ ap (λ n. job_calls n now.handed (there (es ++ Start n ∷ []))) (sym first)
+      pub calls-start : map call_data cs ≡ job_calls k now.handed (there (es ++ Start k ∷ []))
+      calls-start = start_calls ticket q cs (task_first k on).0 on_first (task_first k on).1 made_first ∙ ap (λ n. job_calls n now.handed (there (es ++ Start n ∷ []))) (sym first)
 
     -- a Give to the task at hand
     module _ (q : Pending) (t : Task) (answers : Vec Answer Global) (o : Outcome) (n : HostState) (hosts' : List HostState) (e : slice_get (tasks_in (plays_of a.book)) m.host.place ≡ Some t) (i : IsInside q now) (live : is_phase_stopped p ≡ false) where
       give_enabled : enabled (there es) (event_data (Give 0 answers)) ≡ true
-      give_enabled = enabled_plain a forks es (event_data (Give 0 answers)) ∙ rw (m.stopped ∙ live, i.going, i.standing, i.left) refl
+      give_enabled = enabled-plain a forks es (event_data (Give 0 answers)) ∙ rw (m.stopped ∙ live, i.going, i.standing, i.left) refl
 
       pub give_kept : ComesTo (modules_of a.registry) t q answers.items o → IsSettledHost o m.host n → hosts' ≡ n ∷ [] → IsMachine a forks (es ++ Give 0 answers ∷ []) hosts' p
       give_kept comes settled f =
-          let g = plain_give_at (modules_of a.registry) (host_of a) forks now (map answer_data answers.items) (sym (enabled_plain a forks es (event_data (Give 0 answers))) ∙ give_enabled) in
-          let came = came_there (host_of a) (tasks_in (plays_of a.book)) m.host now m.at (modules_of a.registry) forks q t answers.items o n e i comes g in
+          let g = Gives-plain (modules_of a.registry) (host_of a) forks now (map answer_data answers.items) (sym (enabled-plain a forks es (event_data (Give 0 answers))) ∙ give_enabled) in
+          let came = after_came-there (host_of a) (tasks_in (plays_of a.book)) m.host now m.at (modules_of a.registry) forks q t answers.items o n e i comes g in
           more (Give 0 answers) n hosts' p give_enabled f
-          (give_at (host_of a) (tasks_in (plays_of a.book)) m.host now m.at (modules_of a.registry) forks q t answers.items o n e i comes g settled)
+          (IsAt-give (host_of a) (tasks_in (plays_of a.book)) m.host now m.at (modules_of a.registry) forks q t answers.items o n e i comes g settled)
           (same_ended (goes now (event_data (Give 0 answers))) (ap (λ (r : PlainRun). r.is_over) came.1))
           (ap (λ (r : PlainRun). r.is_stopped) came.1 ∙ m.stopped)
 
@@ -308,36 +308,36 @@ module _ (a : Accepted) (forks : ℕ) where
     only_host k s e = only_at m.host k s (ap (λ hs. slice_get hs k) (sym m.alone) ∙ e)
 
     -- a host with a job out is in the task at hand
-    pub running_host : (k : ℕ) (s : HostState) → slice_get hosts k ≡ Some s → is_some (ticket_in s.stage) ≡ true → is_some (slice_get (tasks_in (plays_of a.book)) s.place) ≡ true
-    running_host k s e f =
+    pub slice_get-running : (k : ℕ) (s : HostState) → slice_get hosts k ≡ Some s → is_some (ticket_in s.stage) ≡ true → is_some (slice_get (tasks_in (plays_of a.book)) s.place) ≡ true
+    slice_get-running k s e f =
         let only = only_host k s e in
         let stands = running_at m.host.stage now (ap (λ (h : HostState). is_some (ticket_in h.stage)) (sym only.1) ∙ f) m.at.standing in
-        let task = task_there (tasks_in (plays_of a.book)) m.host.place (sym (left_same (tasks_in (plays_of a.book)) m.host.place now.tasks m.at.tasks_left) ∙ stands.inside.left) in
+        let task = task_there (tasks_in (plays_of a.book)) m.host.place (sym (are_left-same (tasks_in (plays_of a.book)) m.host.place now.tasks m.at.tasks_left) ∙ stands.inside.left) in
         ap (λ (h : HostState). is_some (slice_get (tasks_in (plays_of a.book)) h.place)) only.1 ∙ ap is_some task.1
 
     -- the place of a host with a job out is one of few
-    pub running_place : (k : ℕ) (s : HostState) → slice_get hosts k ≡ Some s → is_some (ticket_in s.stage) ≡ true → s.place + 1 < 2 ^ 64
-    running_place k s e f =
+    pub place-running : (k : ℕ) (s : HostState) → slice_get hosts k ≡ Some s → is_some (ticket_in s.stage) ≡ true → s.place + 1 < 2 ^ 64
+    place-running k s e f =
         let few = few_tasks (plays_of a.book) a.book.numbered in
-        let within = some_within (tasks_in (plays_of a.book)) s.place (running_host k s e f) in
+        let within = some_within (tasks_in (plays_of a.book)) s.place (slice_get-running k s e f) in
         omega (arith, few, within)
 
     -- a Give to a host with a job out, by what it comes to and what becomes of the host's state
-    pub give_run : (k : ℕ) (s : HostState) (answers : Vec Answer Global) (o : Outcome) (hosts' : List HostState) → slice_get hosts k ≡ Some s → is_some (ticket_in s.stage) ≡ true → is_phase_stopped p ≡ false
+    pub IsMachine-give : (k : ℕ) (s : HostState) (answers : Vec Answer Global) (o : Outcome) (hosts' : List HostState) → slice_get hosts k ≡ Some s → is_some (ticket_in s.stage) ≡ true → is_phase_stopped p ≡ false
         → ((q : Pending) (ticket : ℕ) (t : Task) → s.stage ≡ stage.Running ticket q → slice_get (tasks_in (plays_of a.book)) s.place ≡ Some t → ComesTo (modules_of a.registry) t q answers.items o)
         → (n : HostState) × ((hosts' ≡ set hosts k n) × IsSettledHost o s n) → IsMachine a forks (es ++ Give k answers ∷ []) hosts' p
-    give_run k s answers o hosts' e f live comes settled =
+    IsMachine-give k s answers o hosts' e f live comes settled =
         let only = only_host k s e in
         let stands = running_at m.host.stage now (ap (λ (h : HostState). is_some (ticket_in h.stage)) (sym only.1) ∙ f) m.at.standing in
-        let task = task_there (tasks_in (plays_of a.book)) m.host.place (sym (left_same (tasks_in (plays_of a.book)) m.host.place now.tasks m.at.tasks_left) ∙ stands.inside.left) in
+        let task = task_there (tasks_in (plays_of a.book)) m.host.place (sym (are_left-same (tasks_in (plays_of a.book)) m.host.place now.tasks m.at.tasks_left) ∙ stands.inside.left) in
         let came = comes stands.pending stands.ticket task.0 (ap (λ (h : HostState). h.stage) only.1 ∙ stands.stage) (ap (λ (h : HostState). slice_get (tasks_in (plays_of a.book)) h.place) only.1 ∙ task.1) in
         let one : hosts' ≡ settled.0 ∷ [] = settled.1.0 ∙ ap₂ (λ hs i. set hs i settled.0) m.alone only.0 in
         subst (λ i. IsMachine a forks (es ++ Give i answers ∷ []) hosts' p) (sym only.0)
         (give_kept stands.pending task.0 answers o settled.0 hosts' task.1 stands.inside live came (subst (λ h. IsSettledHost o h settled.0) only.1 settled.1.1) one)
 
     -- with more room for the host's variables
-    pub room_kept : (k : ℕ) (s : HostState) (hosts' : List HostState) → slice_get hosts k ≡ Some s → (n : HostState) × ((hosts' ≡ set hosts k n) × IsRoomier s n) → IsMachine a forks es hosts' p
-    room_kept k s hosts' e roomier =
+    pub IsMachine-room : (k : ℕ) (s : HostState) (hosts' : List HostState) → slice_get hosts k ≡ Some s → (n : HostState) × ((hosts' ≡ set hosts k n) × IsRoomier s n) → IsMachine a forks es hosts' p
+    IsMachine-room k s hosts' e roomier =
         let only = only_host k s e in
         let n = roomier.0 in
         let r : IsRoomier m.host n = subst (λ h. IsRoomier h n) only.1 roomier.1.1 in record {
@@ -352,57 +352,57 @@ module _ (a : Accepted) (forks : ℕ) where
         }
 
     -- where a Turn is enabled the run goes on
-    pub turn_going : enabled (there es) turn ≡ true → is_phase_stopped p ≡ false
-    turn_going on = sym m.stopped ∙ going_halted now.is_stopped now.is_over (is_through now) (sym (enabled_plain a forks es turn) ∙ on)
+    pub is_phase_stopped-turn : enabled (there es) turn ≡ true → is_phase_stopped p ≡ false
+    is_phase_stopped-turn on = sym m.stopped ∙ going_halted now.is_stopped now.is_over (is_through now) (sym (enabled-plain a forks es turn) ∙ on)
 
     -- a Turn, where one is enabled
-    pub turn_kept : (p' : Phase) → is_phase_ended p' ≡ true → is_phase_stopped p' ≡ false → enabled (there es) turn ≡ true → IsMachine a forks (es ++ Turn ∷ []) hosts p'
-    turn_kept p' over live on =
-        let may = sym (enabled_plain a forks es turn) ∙ on in
+    pub IsMachine-turn : (p' : Phase) → is_phase_ended p' ≡ true → is_phase_stopped p' ≡ false → enabled (there es) turn ≡ true → IsMachine a forks (es ++ Turn ∷ []) hosts p'
+    IsMachine-turn p' over live on =
+        let may = sym (enabled-plain a forks es turn) ∙ on in
         let through : is_through now ≡ true = and-right (is_going now) (is_through now) may in
         let step : goes now turn ≡ record now { is_over = true } = ap (λ b. cond b (record now { is_over = true }) now) may in
         let halted : now.is_stopped ≡ false = going_halted now.is_stopped now.is_over (is_through now) may in
         more Turn m.host hosts p' on m.alone
-        (subst (IsAt (host_of a) (tasks_in (plays_of a.book)) m.host) (sym step) (turn_at (host_of a) (tasks_in (plays_of a.book)) m.host now m.at through))
+        (subst (IsAt (host_of a) (tasks_in (plays_of a.book)) m.host) (sym step) (IsAt-turn (host_of a) (tasks_in (plays_of a.book)) m.host now m.at through))
         (ap (λ (r : PlainRun). r.is_over) step ∙ sym over)
         (ap (λ (r : PlainRun). r.is_stopped) step ∙ halted ∙ sym live)
 
     -- a Stop of a run that goes on
-    pub stop_kept : (p' : Phase) → is_phase_ended p' ≡ false → is_phase_stopped p' ≡ true → p ≡ phase.Going → IsMachine a forks (es ++ Stop ∷ []) hosts p'
-    stop_kept p' over halted going =
+    pub IsMachine-stop : (p' : Phase) → is_phase_ended p' ≡ false → is_phase_stopped p' ≡ true → p ≡ phase.Going → IsMachine a forks (es ++ Stop ∷ []) hosts p'
+    IsMachine-stop p' over halted going =
         let on : is_phase_ended p ≡ false = ap is_phase_ended going in
         let live : is_phase_stopped p ≡ false = ap is_phase_stopped going in
         let may : plain_is_enabled forks now stop ≡ true = rw (m.ended ∙ on, m.stopped ∙ live) refl in
         let step : goes now stop ≡ record now { is_stopped = true } = rw (m.ended ∙ on, m.stopped ∙ live) refl in
-        more Stop m.host hosts p' (enabled_plain a forks es stop ∙ may) m.alone
-        (subst (IsAt (host_of a) (tasks_in (plays_of a.book)) m.host) (sym step) (stop_at (host_of a) (tasks_in (plays_of a.book)) m.host now m.at))
+        more Stop m.host hosts p' (enabled-plain a forks es stop ∙ may) m.alone
+        (subst (IsAt (host_of a) (tasks_in (plays_of a.book)) m.host) (sym step) (IsAt-stop (host_of a) (tasks_in (plays_of a.book)) m.host now m.at))
         (ap (λ (r : PlainRun). r.is_over) step ∙ m.ended ∙ on ∙ sym over)
         (ap (λ (r : PlainRun). r.is_stopped) step ∙ sym halted)
 
 -- a task that is looked up stands in the order that its list has
-pub found_ordered : (ts : List Task) (p : ℕ) (r : Option (Bor Task)) → is_some r ≡ nat_lt p (length ts) → IfSome r (λ t. t.now ≡ get_or ts p t.now) → are_ordered ts ≡ true → IfSome r (λ t. are_ascending (argument_names t.now.arguments.items) ≡ true)
-found_ordered ts p None i e h = tt
-found_ordered ts p (Some t) i e h = ordered_at ts p t.now (slice_get_read ts (length ts) p t.now refl (ltb-true p (length ts) (sym i)) e) h
+pub are_ascending-found : (ts : List Task) (p : ℕ) (r : Option (Bor Task)) → is_some r ≡ nat_lt p (length ts) → IfSome r (λ t. t.now ≡ get_or ts p t.now) → are_ordered ts ≡ true → IfSome r (λ t. are_ascending (argument_names t.now.arguments.items) ≡ true)
+are_ascending-found ts p None i e h = tt
+are_ascending-found ts p (Some t) i e h = ordered_at ts p t.now (slice_get_read ts (length ts) p t.now refl (ltb-true p (length ts) (sym i)) e) h
 
-pub found_known : (ms ns : List ModuleData) (ts : List Task) (p : ℕ) (t : Task) → ns ≡ ms → true ≡ nat_lt p (length ts) → t ≡ get_or ts p t → are_known ms ts ≡ true → is_known ns t.work ≡ true
-found_known ms ns ts p t n i e h = rw n (known_at ms ts p t (slice_get_read ts (length ts) p t refl (ltb-true p (length ts) (sym i)) e) h)
+pub is_known-found : (ms ns : List ModuleData) (ts : List Task) (p : ℕ) (t : Task) → ns ≡ ms → true ≡ nat_lt p (length ts) → t ≡ get_or ts p t → are_known ms ts ≡ true → is_known ns t.work ≡ true
+is_known-found ms ns ts p t n i e h = rw n (known_at ms ts p t (slice_get_read ts (length ts) p t refl (ltb-true p (length ts) (sym i)) e) h)
 
 -- a place that is past the last host is that of none
-pub past_none : {A : Type 0} → (xs : List A) (i : ℕ) (x : A) → false ≡ nat_lt i (length xs) → slice_get xs i ≡ Some x → ⊥
-past_none xs i x e f = let none = slice_get_past xs i (ltb-false i (length xs) (sym e)) in cc
+pub slice_get-past : {A : Type 0} → (xs : List A) (i : ℕ) (x : A) → false ≡ nat_lt i (length xs) → slice_get xs i ≡ Some x → ⊥
+slice_get-past xs i x e f = let none = slice_get_past xs i (ltb-false i (length xs) (sym e)) in cc
 
-pub read_at : {A : Type 0} → (xs ys : List A) (i : ℕ) (x : A) → xs ≡ ys → true ≡ nat_lt i (length xs) → x ≡ get_or xs i x → slice_get ys i ≡ Some x
-read_at xs ys i x same l e = ap (λ zs. slice_get zs i) (sym same) ∙ slice_get_read xs (length xs) i x refl (ltb-true i (length xs) (sym l)) e
+pub slice_get-read : {A : Type 0} → (xs ys : List A) (i : ℕ) (x : A) → xs ≡ ys → true ≡ nat_lt i (length xs) → x ≡ get_or xs i x → slice_get ys i ≡ Some x
+slice_get-read xs ys i x same l e = ap (λ zs. slice_get zs i) (sym same) ∙ slice_get_read xs (length xs) i x refl (ltb-true i (length xs) (sym l)) e
 
 -- what stands at a place is the one thing there
-pub same_at : {A : Type 0} → (xs : List A) (i : ℕ) (x y : A) → nat_lt i (length xs) ≡ true → x ≡ get_or xs i x → slice_get xs i ≡ Some y → y ≡ x
-same_at xs i x y l e f = let there = slice_get_read xs (length xs) i x refl (ltb-true i (length xs) l) e in cc
+pub slice_get-same : {A : Type 0} → (xs : List A) (i : ℕ) (x y : A) → nat_lt i (length xs) ≡ true → x ≡ get_or xs i x → slice_get xs i ≡ Some y → y ≡ x
+slice_get-same xs i x y l e f = let there = slice_get_read xs (length xs) i x refl (ltb-true i (length xs) l) e in cc
 
 -- the same of the same task and host
-pub makes_same : (q : Pending) (cs ds : List Call) (k : ℕ) (t u : Task) (s d : HostState) (ms : Registry) (i : ℕ) → t ≡ u → s ≡ d → ds ≡ cs
+pub Makes-same : (q : Pending) (cs ds : List Call) (k : ℕ) (t u : Task) (s d : HostState) (ms : Registry) (i : ℕ) → t ≡ u → s ≡ d → ds ≡ cs
     → Makes q cs u k d (plan_of (own_world (own_fields d.vars)) (plain_run ms i (plain_task u)) None) → Makes q ds t k s (plan_of (own_world (own_fields s.vars)) (plain_run ms i (plain_task t)) None)
-makes_same q cs ds k t u s d ms i a b e m = rw (a, b, e) m
+Makes-same q cs ds k t u s d ms i a b e m = rw (a, b, e) m
 
 -- and what comes of the same task that waits for the same
-pub comes_same : (ms ns : Registry) (t u : Task) (q p : Pending) (xs : List Answer) (o : Outcome) → ns ≡ ms → t ≡ u → q ≡ p → ComesTo ms u p xs o → ComesTo ns t q xs o
-comes_same ms ns t u q p xs o a b c h = rw (a, b, c) h
+pub ComesTo-same : (ms ns : Registry) (t u : Task) (q p : Pending) (xs : List Answer) (o : Outcome) → ns ≡ ms → t ≡ u → q ≡ p → ComesTo ms u p xs o → ComesTo ns t q xs o
+ComesTo-same ms ns t u q p xs o a b c h = rw (a, b, c) h

@@ -15,7 +15,7 @@ use Rattle.pb_book.specs.Books.{plays_of, book_of}
 use Rattle.pb_book.specs.Meaning.{plain_tasks}
 use Rattle.pb_verify.specs.Meaning.{inventory_of}
 use Rattle.pb_verify.specs.declared.checked.Accepted.{Accepted}
-use Rattle.pb_verify.proofs.AcceptedRuns.{accepted_never_stuck, accepted_within_budget, hosts_distinct, verdict_is}
+use Rattle.pb_verify.proofs.AcceptedRuns.{is_stuck-accepted, handed-accepted, are_distinct-hosts, judged-accepted}
 use Rattle.pb_strategy.specs.Events.{event_data, recap_data}
 use Rattle.pb_strategy.specs.Inside.{IsMachine, IsRun, recaps_of, run_state, is_phase_ended, is_phase_stopped}
 use Rattle.pb_strategy.specs.Jobs.{ticket_in}
@@ -31,10 +31,10 @@ use Rattle.pb_strategy.specs.declared.host.Stage.{Stage}
 use Rattle.pb_strategy.specs.declared.host.Stage.TheVariants as stage
 use Rattle.pb_strategy.specs.declared.run.Phase.{Phase}
 use Rattle.pb_strategy.specs.declared.run.Run.TheInside.{Inside}
-use Rattle.pb_strategy.proofs.Accepts.{line_in, whole, runs_plain, enabled_plain}
-use Rattle.pb_strategy.proofs.PlainNext.{plain_next_start, few_events}
+use Rattle.pb_strategy.proofs.Accepts.{line_in, whole, run_of_accepted-plain, enabled-plain}
+use Rattle.pb_strategy.proofs.PlainNext.{next_start-plain, length-events}
 use Rattle.pb_strategy.proofs.Machines.{there}
-use Rattle.pb_strategy.proofs.Standings.{left_same, waiting_same, through_same}
+use Rattle.pb_strategy.proofs.Standings.{are_left-same, is_before-same, is_through-same}
 
 module _ (a : Accepted) (forks : ℕ) where
   abbrev goes : PlainRun → machine.Event → PlainRun
@@ -60,7 +60,7 @@ module _ (a : Accepted) (forks : ℕ) where
   next_plain r =
       ap (λ s. cond r.is_stopped stopped (start_or (next_start s) s.batches)) (turned_whole r)
       ∙ ap (λ o. cond r.is_stopped stopped (start_or o (whole a forks (plain_turned r)).batches))
-      (plain_next_start (modules_of a.registry) (host_of a) (line_in (plays_of a.book)) (plain_tasks (tasks_in (plays_of a.book))) forks (plain_turned r))
+      (next_start-plain (modules_of a.registry) (host_of a) (line_in (plays_of a.book)) (plain_tasks (tasks_in (plays_of a.book))) forks (plain_turned r))
 
   abbrev next_by : Bool → Bool → Bool → Bool → Next
   next_by x o through begins = cond x stopped (cond (o || through) ended (cond begins (starts 0) waits))
@@ -108,32 +108,32 @@ module _ (a : Accepted) (forks : ℕ) (es : List Event) (hosts : List HostState)
   left = nat_lt m.host.place (length (tasks_in (plays_of a.book)))
 
   left_now : are_left now.tasks ≡ left
-  left_now = left_same (tasks_in (plays_of a.book)) m.host.place now.tasks m.at.tasks_left
+  left_now = are_left-same (tasks_in (plays_of a.book)) m.host.place now.tasks m.at.tasks_left
 
   through_now : is_through now ≡ is_done m.host.stage left
-  through_now = through_same m.host.stage now left m.at.standing left_now
+  through_now = is_through-same m.host.stage now left m.at.standing left_now
 
   begins_now : can_begin forks now ≡ is_waiting m.host.stage && (left && nat_lt 0 forks)
-  begins_now = ap₂ (λ b c. b && (c && nat_lt 0 forks)) (waiting_same m.host.stage now m.at.standing) left_now
+  begins_now = ap₂ (λ b c. b && (c && nat_lt 0 forks)) (is_before-same m.host.stage now m.at.standing) left_now
 
   next_now : next_of (there a forks es) ≡ next_by a forks (is_phase_stopped p) (is_phase_ended p) (is_done m.host.stage left) (is_waiting m.host.stage && (left && nat_lt 0 forks))
   next_now =
-      ap next_of (runs_plain a forks es)
+      ap next_of (run_of_accepted-plain a forks es)
       ∙ next_whole a forks now (is_phase_stopped p) (is_phase_ended p) (is_done m.host.stage left) m.stopped m.ended through_now
       ∙ ap (next_by a forks (is_phase_stopped p) (is_phase_ended p) (is_done m.host.stage left)) begins_now
 
-  pub next_stopped : is_phase_stopped p ≡ true → next_of (there a forks es) ≡ stopped
-  next_stopped e = next_now ∙ rw e refl
+  pub next_of-stopped : is_phase_stopped p ≡ true → next_of (there a forks es) ≡ stopped
+  next_of-stopped e = next_now ∙ rw e refl
 
-  pub next_ended : is_phase_stopped p ≡ false → is_phase_ended p ≡ true → (next_of (there a forks es) ≡ ended) × (enabled (there a forks es) turn ≡ false)
-  next_ended live over = (next_now ∙ rw (live, over) refl, enabled_plain a forks es turn ∙ rw (m.stopped ∙ live, m.ended ∙ over) refl)
+  pub next_of-ended : is_phase_stopped p ≡ false → is_phase_ended p ≡ true → (next_of (there a forks es) ≡ ended) × (enabled (there a forks es) turn ≡ false)
+  next_of-ended live over = (next_now ∙ rw (live, over) refl, enabled-plain a forks es turn ∙ rw (m.stopped ∙ live, m.ended ∙ over) refl)
 
   module _ (live : is_phase_stopped p ≡ false) (on : is_phase_ended p ≡ false) where
-    pub turn_now : enabled (there a forks es) turn ≡ is_done m.host.stage left
-    turn_now = enabled_plain a forks es turn ∙ rw (m.stopped ∙ live, m.ended ∙ on) through_now
+    pub enabled-turn : enabled (there a forks es) turn ≡ is_done m.host.stage left
+    enabled-turn = enabled-plain a forks es turn ∙ rw (m.stopped ∙ live, m.ended ∙ on) through_now
 
-    pub start_now : enabled (there a forks es) (start 0) ≡ is_waiting m.host.stage && (left && nat_lt 0 forks)
-    start_now = enabled_plain a forks es (start 0) ∙ rw (m.stopped ∙ live, m.ended ∙ on) begins_now
+    pub enabled-start : enabled (there a forks es) (start 0) ≡ is_waiting m.host.stage && (left && nat_lt 0 forks)
+    enabled-start = enabled-plain a forks es (start 0) ∙ rw (m.stopped ∙ live, m.ended ∙ on) begins_now
 
     module _ (some : 0 < forks) where
       -- the host that is ready, if there is one
@@ -143,23 +143,23 @@ module _ (a : Accepted) (forks : ℕ) (es : List Event) (hosts : List HostState)
       ready_is : ready ≡ cond (is_waiting m.host.stage && left) (Some 0) None
       ready_is = ap (λ b. cond (b && (is_waiting m.host.stage && left)) (Some 0) None) (lt-ltb 0 forks some)
 
-      pub next_starts : (k : ℕ) → ready ≡ Some k → (next_of (there a forks es) ≡ starts k) × (enabled (there a forks es) (start k) ≡ true)
-      next_starts k e =
+      pub next_of-starts : (k : ℕ) → ready ≡ Some k → (next_of (there a forks es) ≡ starts k) × (enabled (there a forks es) (start k) ≡ true)
+      next_of-starts k e =
           let x = runs_by m.host.stage left k (sym ready_is ∙ e) in
-          let on_start : enabled (there a forks es) (start 0) ≡ true = start_now ∙ rw (x.0, x.1.0) (lt-ltb 0 forks some) in
+          let on_start : enabled (there a forks es) (start 0) ≡ true = enabled-start ∙ rw (x.0, x.1.0) (lt-ltb 0 forks some) in
           (next_now ∙ rw (live, on, undone m.host.stage left x.0 x.1.0, x.0, x.1.0, lt-ltb 0 forks some, x.1.1) refl, ap (λ n. enabled (there a forks es) (start n)) x.1.1 ∙ on_start)
 
-      pub next_waits : is_some (ticket_in m.host.stage) ≡ true → next_of (there a forks es) ≡ waits
-      next_waits e = let x = busy_by m.host.stage left e in next_now ∙ rw (live, on, x.0, x.1) refl
+      pub next_of-waits : is_some (ticket_in m.host.stage) ≡ true → next_of (there a forks es) ≡ waits
+      next_of-waits e = let x = busy_by m.host.stage left e in next_now ∙ rw (live, on, x.0, x.1) refl
 
-      pub next_turns : ready ≡ None → is_some (ticket_in m.host.stage) ≡ false → (next_of (there a forks es) ≡ ended) × (enabled (there a forks es) turn ≡ true)
-      next_turns e f =
+      pub next_of-turns : ready ≡ None → is_some (ticket_in m.host.stage) ≡ false → (next_of (there a forks es) ≡ ended) × (enabled (there a forks es) turn ≡ true)
+      next_of-turns e f =
           let x = done_by m.host.stage left (sym ready_is ∙ e) f in
-          (next_now ∙ rw (live, on, x) refl, turn_now ∙ x)
+          (next_now ∙ rw (live, on, x) refl, enabled-turn ∙ x)
 
 -- of a list of one host
-pub alone_sum : (f : HostState → ℕ) (s : HostState) (hosts : List HostState) → hosts ≡ s ∷ [] → sum_by f hosts ≡ f s
-alone_sum f s hosts e = ap (sum_by f) e ∙ omega (arith, sum_by-cons f s [])
+pub sum_by-alone : (f : HostState → ℕ) (s : HostState) (hosts : List HostState) → hosts ≡ s ∷ [] → sum_by f hosts ≡ f s
+sum_by-alone f s hosts e = ap (sum_by f) e ∙ omega (arith, sum_by-cons f s [])
 
 busy_sum : (o : Option ℕ) → 0 < cond (is_some o) 1 0 → is_some o ≡ true
 busy_sum (Some k) l = refl
@@ -169,31 +169,31 @@ idle_sum : (o : Option ℕ) → cond (is_some o) 1 0 ≤ 0 → is_some o ≡ fal
 idle_sum (Some k) l = let no : ⊥ = omega (arith, l) in absurd no
 idle_sum None l = refl
 
-pub busy_alone : (s : HostState) (hosts : List HostState) → hosts ≡ s ∷ [] → 0 < count_by (λ h. is_some (ticket_in h.stage)) hosts → is_some (ticket_in s.stage) ≡ true
-busy_alone s hosts e l = busy_sum (ticket_in s.stage) (omega (arith, l, alone_sum (λ h. cond (is_some (ticket_in h.stage)) 1 0) s hosts e))
+pub ticket_in-busy : (s : HostState) (hosts : List HostState) → hosts ≡ s ∷ [] → 0 < count_by (λ h. is_some (ticket_in h.stage)) hosts → is_some (ticket_in s.stage) ≡ true
+ticket_in-busy s hosts e l = busy_sum (ticket_in s.stage) (omega (arith, l, sum_by-alone (λ h. cond (is_some (ticket_in h.stage)) 1 0) s hosts e))
 
-pub idle_alone : (s : HostState) (hosts : List HostState) → hosts ≡ s ∷ [] → count_by (λ h. is_some (ticket_in h.stage)) hosts ≤ 0 → is_some (ticket_in s.stage) ≡ false
-idle_alone s hosts e l = idle_sum (ticket_in s.stage) (omega (arith, l, alone_sum (λ h. cond (is_some (ticket_in h.stage)) 1 0) s hosts e))
+pub ticket_in-idle : (s : HostState) (hosts : List HostState) → hosts ≡ s ∷ [] → count_by (λ h. is_some (ticket_in h.stage)) hosts ≤ 0 → is_some (ticket_in s.stage) ≡ false
+ticket_in-idle s hosts e l = idle_sum (ticket_in s.stage) (omega (arith, l, sum_by-alone (λ h. cond (is_some (ticket_in h.stage)) 1 0) s hosts e))
 
--- each run is sound
-pub sound : (x : Inside) → IsRun x → IsSound (run_state x)
-sound x i =
+-- each run is IsSound-run
+pub IsSound-run : (x : Inside) → IsRun x → IsSound (run_state x)
+IsSound-run x i =
     let m = i.machine in
     let at = m.at in
-    let state = runs_plain x.checked x.forks x.history.items in
-    let handed = alone_sum (λ h. h.calls) m.host x.hosts.items m.alone ∙ at.calls ∙ sym (ap (λ s. s.handed) state) in record {
+    let state = run_of_accepted-plain x.checked x.forks x.history.items in
+    let handed = sum_by-alone (λ h. h.calls) m.host x.hosts.items m.alone ∙ at.calls ∙ sym (ap (λ s. s.handed) state) in record {
       enabled = m.enabled;
-      never_stuck = accepted_never_stuck x.checked m.accepted x.forks (map event_data x.history.items);
+      never_stuck = is_stuck-accepted x.checked m.accepted x.forks (map event_data x.history.items);
       recaps = ap (λ hs. map recap_data (recaps_of hs)) m.alone ∙ ap (λ r. r ∷ []) at.recap ∙ sym (ap (λ s. map (λ h. h.recap) s.hosts) state);
       handed = handed;
-      within = omega (arith, handed, accepted_within_budget x.checked m.accepted x.forks (map event_data x.history.items));
-      short = omega (arith, length-map x.history.items event_data, few_events (modules_of x.checked.registry) (inventory_of (inventory_view x.checked.inventory)) (book_of x.checked.book) x.checked.budget x.forks (map event_data x.history.items) (hosts_distinct x.checked) (verdict_is x.checked m.accepted) m.enabled);
+      within = omega (arith, handed, handed-accepted x.checked m.accepted x.forks (map event_data x.history.items));
+      short = omega (arith, length-map x.history.items event_data, length-events (modules_of x.checked.registry) (inventory_of (inventory_view x.checked.inventory)) (book_of x.checked.book) x.checked.budget x.forks (map event_data x.history.items) (are_distinct-hosts x.checked) (judged-accepted x.checked m.accepted) m.enabled);
     }
 
 -- the recap of a host is the machine's
-pub recap_same : (rs : List Recap) (hs : List Host) (k : ℕ) → map recap_data rs ≡ map (λ h. h.recap) hs → recap_data (recap_of rs k) ≡ recap_in k hs
-recap_same [] [] k e = ap recap_data (get_or_past [] k nothing (omega arith))
-recap_same [] (h ∷ hs) k e = cc
-recap_same (r ∷ rs) [] k e = cc
-recap_same (r ∷ rs) (h ∷ hs) zero e = cc
-recap_same (r ∷ rs) (h ∷ hs) (suc k) e = recap_same rs hs k (cc)
+pub recap_data-same : (rs : List Recap) (hs : List Host) (k : ℕ) → map recap_data rs ≡ map (λ h. h.recap) hs → recap_data (recap_of rs k) ≡ recap_in k hs
+recap_data-same [] [] k e = ap recap_data (get_or_past [] k nothing (omega arith))
+recap_data-same [] (h ∷ hs) k e = cc
+recap_data-same (r ∷ rs) [] k e = cc
+recap_data-same (r ∷ rs) (h ∷ hs) zero e = cc
+recap_data-same (r ∷ rs) (h ∷ hs) (suc k) e = recap_data-same rs hs k (cc)

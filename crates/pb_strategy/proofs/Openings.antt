@@ -16,7 +16,7 @@ use Rattle.pb_book.specs.declared.book.Play.{Play}
 use Rattle.pb_book.specs.declared.book.Task.{Task}
 use Rattle.pb_verify.specs.Judges.{is_accepted}
 use Rattle.pb_verify.specs.declared.checked.Accepted.{Accepted}
-use Rattle.pb_verify.proofs.Lone.{alone}
+use Rattle.pb_verify.proofs.Lone.{Alone-lone}
 use Rattle.pb_strategy.specs.Events.{recap_data}
 use Rattle.pb_strategy.specs.History.{has_no_plays}
 use Rattle.pb_strategy.specs.Inside.{IsMachine, is_phase_ended, is_phase_stopped}
@@ -60,10 +60,10 @@ opening_halted [] = refl
 opening_halted (p ∷ ps) = refl
 
 module _ (a : Accepted) (forks : ℕ) (hosts : List HostState) (p : Phase) where
-  pub opening_machine : ((h : HostData) → (inventory_view a.inventory).hosts ≡ h ∷ [] → (s : HostState) × ((hosts ≡ s ∷ []) × IsOpening h s))
+  pub IsMachine-opening : ((h : HostData) → (inventory_view a.inventory).hosts ≡ h ∷ [] → (s : HostState) × ((hosts ≡ s ∷ []) × IsOpening h s))
       → is_phase_ended p ≡ has_no_plays (plays_of a.book) → is_phase_stopped p ≡ false → is_accepted a ≡ true → names_known (modules_of a.registry) (plays_of a.book) ≡ true → IsMachine a forks [] hosts p
-  opening_machine opening ended live accepted known =
-      let host = alone (inventory_view a.inventory) a.inventory.lone in
+  IsMachine-opening opening ended live accepted known =
+      let host = Alone-lone (inventory_view a.inventory) a.inventory.lone in
       let s = opening host.host host.hosts in
       let named : host_of a ≡ host.host.name = ap first_name host.hosts in record {
         host = s.0;

@@ -43,12 +43,12 @@ module _ (ms : Registry) (h : Name) (l : ℕ) (all : List PlainTask) (forks : �
   next_at r s ts = rw (and-false (is_going r)) refl
 
   -- the one host starts next, where it can
-  pub plain_next_start : (r : PlainRun) → next_start (plain_state ms h l all forks r) ≡ cond (plain_is_enabled forks r (start 0)) (Some (record { number = 0; place = r.place })) None
-  plain_next_start r = next_at r r.standing r.tasks
+  pub next_start-plain : (r : PlainRun) → next_start (plain_state ms h l all forks r) ≡ cond (plain_is_enabled forks r (start 0)) (Some (record { number = 0; place = r.place })) None
+  next_start-plain r = next_at r r.standing r.tasks
 
 -- no other host does anything
-pub plain_no_other : (forks : ℕ) (r : PlainRun) (k : ℕ) (xs : List Answer) → (plain_is_enabled forks r (start (suc k)) ≡ false) × (plain_is_enabled forks r (give (suc k) xs) ≡ false)
-plain_no_other forks r k xs = (and-false (is_going r), and-false (is_going r))
+pub plain_is_enabled-other : (forks : ℕ) (r : PlainRun) (k : ℕ) (xs : List Answer) → (plain_is_enabled forks r (start (suc k)) ≡ false) × (plain_is_enabled forks r (give (suc k) xs) ≡ false)
+plain_is_enabled-other forks r k xs = (and-false (is_going r), and-false (is_going r))
 
 module _ (ms : Registry) (h : Name) (forks : ℕ) where
   -- the run was before a task, which has a plan, and is in it then
@@ -80,20 +80,20 @@ module _ (ms : Registry) (h : Name) (forks : ℕ) where
     start_at true before (t ∷ ts) on c s e f = planned_start t ts (plan_of (plain_world h r.variables) (plain_run ms r.place t) None) refl s e f
     start_at q z ts on c s e f = cc
 
-    pub plain_start_at : plain_is_enabled forks r (start 0) ≡ true → (plain_step ms h forks r (start 0)).is_stuck ≡ false → Starts r (plain_step ms h forks r (start 0))
-    plain_start_at e f = start_at (plain_is_enabled forks r (start 0)) r.standing r.tasks e (and-right (is_going r) (can_begin forks r) e) refl refl f
+    pub Starts-plain : plain_is_enabled forks r (start 0) ≡ true → (plain_step ms h forks r (start 0)).is_stuck ≡ false → Starts r (plain_step ms h forks r (start 0))
+    Starts-plain e f = start_at (plain_is_enabled forks r (start 0)) r.standing r.tasks e (and-right (is_going r) (can_begin forks r) e) refl refl f
 
     give_at : (q : Bool) (s : Standing) (ts : List PlainTask) (xs : List Answer) → q ≡ true → is_inside s ts ≡ true → r.standing ≡ s → r.tasks ≡ ts → Gives xs r (cond q (given_to ms h r xs s) r)
     give_at true (inside ps) (t ∷ ts) xs on c s e = record { task = t; more = ts; passes = ps; standing = s; tasks = e; after = ap (λ us. answered ms h r xs us ps) e }
     give_at q z ts xs on c s e = cc
 
-    pub plain_give_at : (xs : List Answer) → plain_is_enabled forks r (give 0 xs) ≡ true → Gives xs r (plain_step ms h forks r (give 0 xs))
-    plain_give_at xs e = give_at (plain_is_enabled forks r (give 0 xs)) r.standing r.tasks xs e (and-right (is_going r) (is_inside r.standing r.tasks) e) refl refl
+    pub Gives-plain : (xs : List Answer) → plain_is_enabled forks r (give 0 xs) ≡ true → Gives xs r (plain_step ms h forks r (give 0 xs))
+    Gives-plain xs e = give_at (plain_is_enabled forks r (give 0 xs)) r.standing r.tasks xs e (and-right (is_going r) (is_inside r.standing r.tasks) e) refl refl
 
 -- a history of an accepted book is short
-pub few_events : (ms : Registry) (inventory : Inventory) (b : Book) (n forks : ℕ) (es : List Event) → are_distinct (host_names inventory.hosts) ≡ true → judged ms inventory b ≡ accepted n
+pub length-events : (ms : Registry) (inventory : Inventory) (b : Book) (n forks : ℕ) (es : List Event) → are_distinct (host_names inventory.hosts) ≡ true → judged ms inventory b ≡ accepted n
     → history (opening (program_of ms inventory b) inventory forks) es ≡ es → length es ≤ occurrence_events (all_batches (program_of ms inventory b)) + length (all_batches (program_of ms inventory b)) + 1
-few_events ms inventory b n forks es d ok e =
+length-events ms inventory b n forks es d ok e =
     let i = short_history_from (never_stuck_from after_claim start_claim give_claim) ms inventory b n forks es d ok in
     let j = ap length e in
     omega (arith, i, j)

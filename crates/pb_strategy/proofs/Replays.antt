@@ -24,10 +24,10 @@ use Rattle.pb_strategy.specs.declared.host.Stage.TheVariants as stage
 use Rattle.pb_strategy.specs.declared.run.Phase.{Phase}
 use Rattle.pb_strategy.specs.declared.run.Phase.TheVariants as phase
 use Rattle.pb_strategy.specs.declared.run.Run.TheInside.{Inside}
-use Rattle.pb_strategy.proofs.Accepts.{enabled_plain}
+use Rattle.pb_strategy.proofs.Accepts.{enabled-plain}
 use Rattle.pb_strategy.proofs.Machines.{there}
-use Rattle.pb_strategy.proofs.Nexts.{start_now}
-use Rattle.pb_strategy.proofs.PlainNext.{plain_no_other}
+use Rattle.pb_strategy.proofs.Nexts.{enabled-start}
+use Rattle.pb_strategy.proofs.PlainNext.{plain_is_enabled-other}
 
 going_in : (p : Phase) → not (is_phase_stopped p) && not (is_phase_ended p) ≡ not (is_phase_over p)
 going_in phase.Going = refl
@@ -47,47 +47,47 @@ inside_same stage.Left r x i e = rw i (and-false (is_going r) ∙ sym (and-false
 module _ (a : Accepted) (forks : ℕ) (es : List Event) (hosts : List HostState) (p : Phase) (m : IsMachine a forks es hosts p) where
   -- nothing is enabled once the run is over, and until then what the host may do
   enabled_now : (e : machine.Event) → enabled (there a forks es) e ≡ not (is_phase_over p) && plain_is_possible forks (plain_after a forks es) e
-  enabled_now e = enabled_plain a forks es e ∙ ap (λ b. b && plain_is_possible forks (plain_after a forks es) e) (ap₂ (λ x o. not x && not o) m.stopped m.ended ∙ going_in p)
+  enabled_now e = enabled-plain a forks es e ∙ ap (λ b. b && plain_is_possible forks (plain_after a forks es) e) (ap₂ (λ x o. not x && not o) m.stopped m.ended ∙ going_in p)
 
-  pub none_enabled : (e : machine.Event) → (p ≡ phase.Ended) ⊎ (p ≡ phase.Stopped) → enabled (there a forks es) e ≡ false
-  none_enabled e over = enabled_now e ∙ elim over [ inl x ↦ rw x refl | inr x ↦ rw x refl ]
+  pub enabled-none : (e : machine.Event) → (p ≡ phase.Ended) ⊎ (p ≡ phase.Stopped) → enabled (there a forks es) e ≡ false
+  enabled-none e over = enabled_now e ∙ elim over [ inl x ↦ rw x refl | inr x ↦ rw x refl ]
 
   pub stop_enabled : enabled (there a forks es) stop ≡ not (is_phase_over p)
   stop_enabled = enabled_now stop ∙ and-true (not (is_phase_over p))
 
-  pub start_enabled : (k : ℕ) → is_phase_stopped p ≡ false → is_phase_ended p ≡ false → enabled (there a forks es) (start k) ≡ (k == 0) && (nat_lt 0 forks && can_run m.host (length (tasks_in (plays_of a.book))))
-  start_enabled zero live on = start_now a forks es hosts p m live on ∙ forks_first (is_waiting m.host.stage) (nat_lt m.host.place (length (tasks_in (plays_of a.book)))) (nat_lt 0 forks)
-  start_enabled (suc k) live on = enabled_plain a forks es (start (suc k)) ∙ (plain_no_other forks (plain_after a forks es) k []).0 ∙ rw eqb-suc-zero refl
+  pub enabled-started : (k : ℕ) → is_phase_stopped p ≡ false → is_phase_ended p ≡ false → enabled (there a forks es) (start k) ≡ (k == 0) && (nat_lt 0 forks && can_run m.host (length (tasks_in (plays_of a.book))))
+  enabled-started zero live on = enabled-start a forks es hosts p m live on ∙ forks_first (is_waiting m.host.stage) (nat_lt m.host.place (length (tasks_in (plays_of a.book)))) (nat_lt 0 forks)
+  enabled-started (suc k) live on = enabled-plain a forks es (start (suc k)) ∙ (plain_is_enabled-other forks (plain_after a forks es) k []).0 ∙ rw eqb-suc-zero refl
 
   -- a Give is enabled where the run isn't stopped and the host has a job out
   pub give_enabled : (k : ℕ) (xs : List language.Answer) → enabled (there a forks es) (give k xs) ≡ not (is_phase_stopped p) && is_some (get_or (tickets_of hosts) k None)
-  give_enabled zero xs = enabled_plain a forks es (give 0 xs) ∙ inside_same m.host.stage (plain_after a forks es) (is_phase_stopped p) m.at.standing m.stopped ∙ rw m.alone refl
-  give_enabled (suc k) xs = enabled_plain a forks es (give (suc k) xs) ∙ (plain_no_other forks (plain_after a forks es) k xs).1 ∙ sym (rw m.alone (and-false (not (is_phase_stopped p))))
+  give_enabled zero xs = enabled-plain a forks es (give 0 xs) ∙ inside_same m.host.stage (plain_after a forks es) (is_phase_stopped p) m.at.standing m.stopped ∙ rw m.alone refl
+  give_enabled (suc k) xs = enabled-plain a forks es (give (suc k) xs) ∙ (plain_is_enabled-other forks (plain_after a forks es) k xs).1 ∙ sym (rw m.alone (and-false (not (is_phase_stopped p))))
 
 module _ (x : Inside) (i : IsRun x) (r : RunState) (view : run_state x ≡ r) where
-  pub stop_possible : enabled (state_of r) stop ≡ not (is_over r)
-  stop_possible = rw (← view) (stop_enabled x.checked x.forks x.history.items x.hosts.items x.phase i.machine ∙ ap not (sym i.over))
+  pub enabled-stop : enabled (state_of r) stop ≡ not (is_over r)
+  enabled-stop = rw (← view) (stop_enabled x.checked x.forks x.history.items x.hosts.items x.phase i.machine ∙ ap not (sym i.over))
 
-  pub give_possible : (k : ℕ) (xs : List language.Answer) → enabled (state_of r) (give k xs) ≡ not (is_stopped r.history) && is_some (ticket_out k r.history)
-  give_possible k xs = rw (← view) (give_enabled x.checked x.forks x.history.items x.hosts.items x.phase i.machine k xs ∙ ap₂ (λ b o. not b && is_some o) (sym i.stopped) (i.tickets k))
+  pub enabled-give : (k : ℕ) (xs : List language.Answer) → enabled (state_of r) (give k xs) ≡ not (is_stopped r.history) && is_some (ticket_out k r.history)
+  enabled-give k xs = rw (← view) (give_enabled x.checked x.forks x.history.items x.hosts.items x.phase i.machine k xs ∙ ap₂ (λ b o. not b && is_some o) (sym i.stopped) (i.tickets k))
 
 -- in a run that isn't stopped, a job that is out can be answered
-pub is_answerable : (stopped : Bool) (ticket : ℕ) (out : Option ℕ) → (stopped ≡ true → false ≡ true) → is_ticket ticket out ≡ true → not stopped && is_some out ≡ true
-is_answerable true k out e h = untrue (e refl)
-is_answerable false k (Some p) e h = refl
-is_answerable false k None e h = untrue h
+pub is_some-answerable : (stopped : Bool) (ticket : ℕ) (out : Option ℕ) → (stopped ≡ true → false ≡ true) → is_ticket ticket out ≡ true → not stopped && is_some out ≡ true
+is_some-answerable true k out e h = untrue (e refl)
+is_some-answerable false k (Some p) e h = refl
+is_some-answerable false k None e h = untrue h
 
 -- an event that isn't enabled leaves the run as it was, and one that is enabled is one more
-pub passed_over : (e : Event) (old new : RunState) → enabled (state_of old) (event_data e) ≡ false → new ≡ old → Follows e old new
-passed_over e old new off same = rw (off, same) (sym (append-nil (map event_view old.history)))
+pub Follows-none : (e : Event) (old new : RunState) → enabled (state_of old) (event_data e) ≡ false → new ≡ old → Follows e old new
+Follows-none e old new off same = rw (off, same) (sym (append-nil (map event_view old.history)))
 
-pub one_more : (e x : Event) (old new : RunState) → enabled (state_of old) (event_data e) ≡ true → event_view x ≡ event_view e → new.history ≡ old.history ++ x ∷ [] → Follows e old new
-one_more e x old new on same more = rw (on, more, ← same) (map_push event_view old.history x)
+pub Follows-one : (e x : Event) (old new : RunState) → enabled (state_of old) (event_data e) ≡ true → event_view x ≡ event_view e → new.history ≡ old.history ++ x ∷ [] → Follows e old new
+Follows-one e x old new on same more = rw (on, more, ← same) (map_push event_view old.history x)
 
 -- a Stop is one more until the run is over
-pub stop_follows : (old new : RunState) (over : Bool) → is_over old ≡ over → enabled (state_of old) stop ≡ not over → (is_over old ≡ false → new ≡ after old Stop) → (is_over old ≡ true → new ≡ old) → Follows Stop old new
-stop_follows old new true e on going past = passed_over Stop old new on (past e)
-stop_follows old new false e on going past = one_more Stop Stop old new on refl (ap (λ r. r.history) (going e))
+pub Follows-stop : (old new : RunState) (over : Bool) → is_over old ≡ over → enabled (state_of old) stop ≡ not over → (is_over old ≡ false → new ≡ after old Stop) → (is_over old ≡ true → new ≡ old) → Follows Stop old new
+Follows-stop old new true e on going past = Follows-none Stop old new on (past e)
+Follows-stop old new false e on going past = Follows-one Stop Stop old new on refl (ap (λ r. r.history) (going e))
 
 data_of_views : (es : List Event) → map (λ v. v.0) (map event_view es) ≡ map event_data es
 data_of_views [] = refl
@@ -116,9 +116,9 @@ enabled_more s (x ∷ es) e = rw (enabled_more (step s (event_data x)) es e) (fi
   first false xs ys = refl
 
 -- a run that followed events has those that were enabled, and one more that it follows then
-pub enabled_follows : (a : Accepted) (forks : ℕ) (xs : List Event) (x : Event) (old new : RunState) → old.checked ≡ a → old.forks ≡ forks → map event_view old.history ≡ map event_view (enabled_of (there a forks []) xs)
+pub enabled_of-push : (a : Accepted) (forks : ℕ) (xs : List Event) (x : Event) (old new : RunState) → old.checked ≡ a → old.forks ≡ forks → map event_view old.history ≡ map event_view (enabled_of (there a forks []) xs)
     → Follows x old new → map event_view new.history ≡ map event_view (enabled_of (there a forks []) (xs ++ x ∷ []))
-enabled_follows a forks xs x old new book same kept follows =
+enabled_of-push a forks xs x old new book same kept follows =
     let first = there a forks [] in
     let here : state_of old ≡ run_from first (map event_data xs) =
     ap₂ (λ b n. there b n old.history) book same

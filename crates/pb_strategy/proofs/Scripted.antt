@@ -58,5 +58,5 @@ driven old r new s (goes_on {mid} {q = q} d more) fine =
     (job.fine, goes_on done (subst (λ fs. Drives (IsFromFile fs) mid q new s) job.same rest.1))
 
 -- a run whose runner isn't short at its end was answered by the file
-pub driven_from_file : (old : RunState) (r : ScriptRunner) (new : RunState) (s : ScriptRunner) → Drives IsScripted old r new s → s.is_short ≡ false → Drives (IsFromFile (answers_in r)) old r new s
-driven_from_file old r new s d fine = (driven old r new s d fine).1
+pub Drives-file : (old : RunState) (r : ScriptRunner) (new : RunState) (s : ScriptRunner) → Drives IsScripted old r new s → s.is_short ≡ false → Drives (IsFromFile (answers_in r)) old r new s
+Drives-file old r new s d fine = (driven old r new s d fine).1

@@ -13,6 +13,6 @@ item_at-view (v ∷ vs) zero = refl
 item_at-view (v ∷ vs) (suc n) = item_at-view vs n
 
 -- what a list's look-up finds
-pub found_item : (r : Option (Bor Value)) (vs : List Value) (n : ℕ) → is_some r ≡ nat_lt n (length vs) → IfSome r (λ x. x.now ≡ get_or vs n x.now) → option_map (λ x. view x.now) r ≡ item_at n (items_view vs)
-found_item None vs n e h = sym (item_at-view vs n ∙ ap (option_map view) (slice_get_past vs n (ltb-false n (length vs) (sym e))))
-found_item (Some x) vs n e h = sym (item_at-view vs n ∙ ap (option_map view) (slice_get_read vs (length vs) n x.now refl (ltb-true n (length vs) (sym e)) h))
+pub item_at-found : (r : Option (Bor Value)) (vs : List Value) (n : ℕ) → is_some r ≡ nat_lt n (length vs) → IfSome r (λ x. x.now ≡ get_or vs n x.now) → option_map (λ x. view x.now) r ≡ item_at n (items_view vs)
+item_at-found None vs n e h = sym (item_at-view vs n ∙ ap (option_map view) (slice_get_past vs n (ltb-false n (length vs) (sym e))))
+item_at-found (Some x) vs n e h = sym (item_at-view vs n ∙ ap (option_map view) (slice_get_read vs (length vs) n x.now refl (ltb-true n (length vs) (sym e)) h))

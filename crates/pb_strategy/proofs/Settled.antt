@@ -24,11 +24,11 @@ settled_from o s n m r i = record {
   calls = i.calls ∙ r.calls;
 }
 
-pub settled_of : (hs os ns : List HostState) (i : ℕ) (o : Outcome) (s : HostState) (tasks : ℕ) → slice_get hs i ≡ Some s → s.place + 1 < 2 ^ 64 → Counts s.recap tasks → tasks + 1 < 2 ^ 64
+pub IsSettledHost-roomier : (hs os ns : List HostState) (i : ℕ) (o : Outcome) (s : HostState) (tasks : ℕ) → slice_get hs i ≡ Some s → s.place + 1 < 2 ^ 64 → Counts s.recap tasks → tasks + 1 < 2 ^ 64
     → ((s : HostState) → slice_get hs i ≡ Some s → (n : HostState) × ((os ≡ set hs i n) × IsRoomier s n))
     → ((s : HostState) → slice_get os i ≡ Some s → s.place + 1 < 2 ^ 64 → (tasks : ℕ) → Counts s.recap tasks → tasks + 1 < 2 ^ 64 → (n : HostState) × ((ns ≡ set os i n) × IsSettledHost o s n))
     → (n : HostState) × ((ns ≡ set hs i n) × IsSettledHost o s n)
-settled_of hs os ns i o s tasks e short counts few kept settled =
+IsSettledHost-roomier hs os ns i o s tasks e short counts few kept settled =
     let k = kept s e in
     let within = slice_get_within hs i s e in
     let there : slice_get os i ≡ Some k.0 = rw k.1.0 (slice_get-get_or (set hs i k.0) i s (omega (arith, within, length-set hs i k.0)) ∙ ap Some (get_or-set_same hs i k.0 s within)) in

@@ -42,8 +42,8 @@ tasks_at [] p t e = cc
 tasks_at (x ∷ ts) zero t e = let same : x ≡ t = cc in rw same refl
 tasks_at (x ∷ ts) (suc p) t e = tasks_at ts p t e
 
-pub lower_both : (p n : ℕ) → nat_lt p n ≡ nat_lt (suc p) (suc n)
-lower_both p n = elim (cases_lt p n) [
+pub nat_lt-suc : (p n : ℕ) → nat_lt p n ≡ nat_lt (suc p) (suc n)
+nat_lt-suc p n = elim (cases_lt p n) [
   | inl l ↦ lt-ltb p n l ∙ sym (lt-ltb (suc p) (suc n) (omega (arith, l)))
   | inr l ↦ le-ltb p n l ∙ sym (le-ltb (suc p) (suc n) (omega (arith, l)))
 ]
@@ -52,21 +52,21 @@ left_there : (ts : List Task) (p : ℕ) → are_left (plain_tasks (drop p ts)) �
 left_there [] zero = sym (le-ltb 0 0 (omega arith))
 left_there [] (suc p) = sym (le-ltb (suc p) 0 (omega arith))
 left_there (t ∷ ts) zero = sym (lt-ltb 0 (suc (length ts)) (omega arith))
-left_there (t ∷ ts) (suc p) = left_there ts p ∙ lower_both p (length ts)
+left_there (t ∷ ts) (suc p) = left_there ts p ∙ nat_lt-suc p (length ts)
 
 -- a task is left where the place is one of theirs
-pub left_same : (ts : List Task) (p : ℕ) (us : List PlainTask) → plain_tasks (drop p ts) ≡ us → are_left us ≡ nat_lt p (length ts)
-left_same ts p us e = ap are_left (sym e) ∙ left_there ts p
+pub are_left-same : (ts : List Task) (p : ℕ) (us : List PlainTask) → plain_tasks (drop p ts) ≡ us → are_left us ≡ nat_lt p (length ts)
+are_left-same ts p us e = ap are_left (sym e) ∙ left_there ts p
 
-pub waiting_same : (g : Stage) (r : PlainRun) → IsStanding g r → is_before r.standing ≡ is_waiting g
-waiting_same stage.Waiting r i = rw i refl
-waiting_same (stage.Running k q) r i = rw i.standing refl
-waiting_same stage.Left r i = rw i refl
+pub is_before-same : (g : Stage) (r : PlainRun) → IsStanding g r → is_before r.standing ≡ is_waiting g
+is_before-same stage.Waiting r i = rw i refl
+is_before-same (stage.Running k q) r i = rw i.standing refl
+is_before-same stage.Left r i = rw i refl
 
-pub through_same : (g : Stage) (r : PlainRun) (b : Bool) → IsStanding g r → are_left r.tasks ≡ b → is_through r ≡ is_done g b
-through_same stage.Waiting r b i e = rw (i, e) refl
-through_same (stage.Running k q) r b i e = rw (i.standing, i.left) refl
-through_same stage.Left r b i e = rw i refl
+pub is_through-same : (g : Stage) (r : PlainRun) (b : Bool) → IsStanding g r → are_left r.tasks ≡ b → is_through r ≡ is_done g b
+is_through-same stage.Waiting r b i e = rw (i, e) refl
+is_through-same (stage.Running k q) r b i e = rw (i.standing, i.left) refl
+is_through-same stage.Left r b i e = rw i refl
 
 length_entry : (k : ℕ) (host m : Name) (count : ℕ) (x : Entry) (more : ℕ → List CallData) (n : ℕ) → ((i : ℕ) → length (more i) ≡ count) → length (entry_calls k host m x more n) ≡ is_call x + count
 length_entry k host m count skips more n h = omega (arith, h n)
@@ -83,8 +83,8 @@ task_same ts us more t u e f = (cc, cc)
 
 module _ (h : Name) (tasks : List Task) (s : HostState) (r : PlainRun) (at : IsAt h tasks s r) where
   -- the task at hand, and those behind it, as the machine has them
-  pub task_at : (t : Task) (u : PlainTask) (more : List PlainTask) → slice_get tasks s.place ≡ Some t → r.tasks ≡ u ∷ more → (plain_task t ≡ u) × (plain_tasks (drop (suc s.place) tasks) ≡ more)
-  task_at t u more e f = task_same r.tasks (plain_tasks (drop (suc s.place) tasks)) more (plain_task t) u (sym at.tasks_left ∙ ap plain_tasks (tasks_at tasks s.place t e)) f
+  pub plain_task-at : (t : Task) (u : PlainTask) (more : List PlainTask) → slice_get tasks s.place ≡ Some t → r.tasks ≡ u ∷ more → (plain_task t ≡ u) × (plain_tasks (drop (suc s.place) tasks) ≡ more)
+  plain_task-at t u more e f = task_same r.tasks (plain_tasks (drop (suc s.place) tasks)) more (plain_task t) u (sym at.tasks_left ∙ ap plain_tasks (tasks_at tasks s.place t e)) f
 
   -- its names and variables are those of its world in the machine
   names_same : SameMine (own_world (own_fields s.vars)) (plain_world h r.variables)
@@ -102,25 +102,25 @@ module _ (h : Name) (tasks : List Task) (s : HostState) (r : PlainRun) (at : IsA
 
     module _ (simple : is_plain_task (plain_task t) ≡ true) (made : (p : ℕ) → Makes q cs t 0 s (plan_of (own_world (own_fields s.vars)) (plain_run ms p (plain_task t)) None)) (st : Starts ms h forks r next) where
       -- what is waited for, and what is called
-      pub start_made : IsPending q st.passes × (map call_data cs ≡ pass_calls 0 h (called_name t.work) st.passes r.handed)
-      start_made =
-          let same = task_at t st.task st.more e st.tasks in
+      pub IsPending-start : IsPending q st.passes × (map call_data cs ≡ pass_calls 0 h (called_name t.work) st.passes r.handed)
+      IsPending-start =
+          let same = plain_task-at t st.task st.more e st.tasks in
           let plan = same_plan ms r.place (plain_task t) (own_world (own_fields s.vars)) (plain_world h r.variables) simple names_same in
           let m = made r.place st.passes (plan ∙ ap (λ u. plan_of (plain_world h r.variables) (plain_run ms r.place u) None) same.0 ∙ st.plan) in
           (m.0, rw (← at.name, ← at.calls) m.1)
 
       pub start_count : length cs ≡ call_count st.passes
-      start_count = sym (length-map cs call_data) ∙ ap length start_made.1 ∙ length_calls 0 h (called_name t.work) st.passes r.handed
+      start_count = sym (length-map cs call_data) ∙ ap length IsPending-start.1 ∙ length_calls 0 h (called_name t.work) st.passes r.handed
 
-      pub start_at : r.is_over ≡ false → IsAt h tasks begun next
-      start_at going = subst (IsAt h tasks begun) (sym st.after) (record {
+      pub IsAt-start : r.is_over ≡ false → IsAt h tasks begun next
+      IsAt-start going = subst (IsAt h tasks begun) (sym st.after) (record {
         name = at.name;
         own_name = at.own_name;
         groups = at.groups;
         values = at.values;
         place = at.place;
         tasks_left = at.tasks_left;
-        standing = record { passes = st.passes; standing = refl; left = rw st.tasks refl; going = going; pending = start_made.0 };
+        standing = record { passes = st.passes; standing = refl; left = rw st.tasks refl; going = going; pending = IsPending-start.0 };
         recap = at.recap;
         calls = rw (at.calls, start_count) refl;
       })
@@ -155,23 +155,23 @@ module _ (h : Name) (tasks : List Task) (s : HostState) (r : PlainRun) (at : IsA
 
     module _ (comes : ComesTo ms t q xs o) (g : Gives ms h forks (map answer_data xs) r ended) where
       -- the machine makes of the answers what the outcome says
-      pub came_there : (message : List ℕ) × (ended ≡ after_came (came_of o.ending) (fields_view o.writes.items) message g.more r)
-      came_there =
-          let same = task_at t g.task g.more e g.tasks in
+      pub after_came-there : (message : List ℕ) × (ended ≡ after_came (came_of o.ending) (fields_view o.writes.items) message g.more r)
+      after_came-there =
+          let same = plain_task-at t g.task g.more e g.tasks in
           let passes : inside.passes ≡ g.passes = cc in
           let out = comes g.passes (subst (IsPending q) passes inside.pending) h r g.more in
           (out.0, g.after ∙ ap (λ u. answered ms h r (map answer_data xs) (u ∷ g.more) g.passes) (sym same.0) ∙ out.1)
 
-      pub give_at : IsSettledHost o s n → IsAt h tasks n ended
-      give_at settled =
+      pub IsAt-give : IsSettledHost o s n → IsAt h tasks n ended
+      IsAt-give settled =
           let place : n.place ≡ cond (goes_on (came_of o.ending)) (suc r.place) r.place = settled.place ∙ came_place (came_of o.ending) in
-          subst (IsAt h tasks n) (sym came_there.1) (record {
+          subst (IsAt h tasks n) (sym after_came-there.1) (record {
             name = ap (λ x. string_bytes x.value) settled.name ∙ at.name;
             own_name = ap view settled.own_name ∙ at.own_name;
             groups = ap view settled.groups ∙ at.groups;
             values = λ p. settled.values p ∙ put_all_at p (fields_view o.writes.items) (fields_view s.vars.values.entries) r.variables at.values;
             place = place;
-            tasks_left = ap (λ p. plain_tasks (drop p tasks)) place ∙ came_tasks (came_of o.ending) g.more (task_at t g.task g.more e g.tasks).1;
+            tasks_left = ap (λ p. plain_tasks (drop p tasks)) place ∙ came_tasks (came_of o.ending) g.more (plain_task-at t g.task g.more e g.tasks).1;
             standing = rw settled.stage (came_standing (goes_on (came_of o.ending)) _ refl);
             recap = ap recap_data settled.recap ∙ came_counts o.ending s.recap ∙ ap (came_recap (came_of o.ending)) at.recap;
             calls = settled.calls ∙ at.calls;
@@ -202,8 +202,8 @@ module _ (h : Name) (tasks : List Task) (s : HostState) (r : PlainRun) (at : IsA
   stopped_standing (stage.Running k q) i = record { passes = i.passes; standing = i.standing; left = i.left; going = i.going; pending = i.pending }
   stopped_standing stage.Left i = i
 
-  pub turn_at : is_through r ≡ true → IsAt h tasks s (record r { is_over = true })
-  turn_at f = moved s.stage refl (record r { is_over = true }) (turned_standing s.stage f) refl refl refl refl refl
+  pub IsAt-turn : is_through r ≡ true → IsAt h tasks s (record r { is_over = true })
+  IsAt-turn f = moved s.stage refl (record r { is_over = true }) (turned_standing s.stage f) refl refl refl refl refl
 
-  pub stop_at : IsAt h tasks s (record r { is_stopped = true })
-  stop_at = moved s.stage refl (record r { is_stopped = true }) (stopped_standing s.stage) refl refl refl refl refl
+  pub IsAt-stop : IsAt h tasks s (record r { is_stopped = true })
+  IsAt-stop = moved s.stage refl (record r { is_stopped = true }) (stopped_standing s.stage) refl refl refl refl refl

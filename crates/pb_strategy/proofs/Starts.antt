@@ -50,18 +50,18 @@ alone_plan m = with_pass None m (planned [])
 abbrev pub alone_condition : Outcome → Outcome
 alone_condition o = then_go o (λ d. and_then d (value (boolean true)))
 
-pub skip_planned : (o : Outcome) (m : Made) (ps : List Pass) → is_true (shown o) ≡ false → alone_plan (made_with (alone_condition o) (on_condition m)) ≡ planned ps → ps ≡ a_pass skips
-skip_planned (value (boolean true)) m ps f h = cc
-skip_planned (value (boolean false)) m ps f h = cc
-skip_planned (value d) m ps f h = cc
-skip_planned (stuck s) m ps f h = cc
+pub planned-skip : (o : Outcome) (m : Made) (ps : List Pass) → is_true (shown o) ≡ false → alone_plan (made_with (alone_condition o) (on_condition m)) ≡ planned ps → ps ≡ a_pass skips
+planned-skip (value (boolean true)) m ps f h = cc
+planned-skip (value (boolean false)) m ps f h = cc
+planned-skip (value d) m ps f h = cc
+planned-skip (stuck s) m ps f h = cc
 
-pub run_planned : (o : Outcome) (m : Made) → is_true (shown o) ≡ true → alone_plan (made_with (alone_condition o) (on_condition m)) ≡ alone_plan m
-run_planned (value (boolean true)) m f = refl
-run_planned (value (boolean false)) m f = cc
-run_planned (value d) m f = cc
-run_planned (stuck s) m f = cc
+pub alone_plan-run : (o : Outcome) (m : Made) → is_true (shown o) ≡ true → alone_plan (made_with (alone_condition o) (on_condition m)) ≡ alone_plan m
+alone_plan-run (value (boolean true)) m f = refl
+alone_plan-run (value (boolean false)) m f = cc
+alone_plan-run (value d) m f = cc
+alone_plan-run (stuck s) m f = cc
 
-pub call_planned : (o u : Outcome) (d : Data) (ps : List Pass) → ((r : Data) → o ≡ value r → u ≡ value r) → d ≡ shown u → alone_plan (made_with o (λ x. made (calls x))) ≡ planned ps → ps ≡ a_pass (calls d)
-call_planned (value x) u d ps f e h = let same : d ≡ x = e ∙ ap shown (f x refl) in rw same cc
-call_planned (stuck s) u d ps f e h = cc
+pub planned-call : (o u : Outcome) (d : Data) (ps : List Pass) → ((r : Data) → o ≡ value r → u ≡ value r) → d ≡ shown u → alone_plan (made_with o (λ x. made (calls x))) ≡ planned ps → ps ≡ a_pass (calls d)
+planned-call (value x) u d ps f e h = let same : d ≡ x = e ∙ ap shown (f x refl) in rw same cc
+planned-call (stuck s) u d ps f e h = cc

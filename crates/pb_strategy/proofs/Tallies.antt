@@ -80,22 +80,22 @@ abbrev recap_in : HostState → Recap
 recap_in h = h.recap
 
 -- a host's state gives way to one with the same recap
-pub recaps_kept : (hs : List HostState) (i : ℕ) (x y : HostState) → x ≡ get_or hs i x → y.recap ≡ x.recap → recaps_of (set hs i y) ≡ recaps_of hs
-recaps_kept hs i x y at same = map-set_same recap_in hs i y x (same ∙ ap recap_in at)
+pub recaps_of-kept : (hs : List HostState) (i : ℕ) (x y : HostState) → x ≡ get_or hs i x → y.recap ≡ x.recap → recaps_of (set hs i y) ≡ recaps_of hs
+recaps_of-kept hs i x y at same = map-set_same recap_in hs i y x (same ∙ ap recap_in at)
 
-pub recap_at : (hs : List HostState) (i : ℕ) (x : HostState) → x ≡ get_or hs i x → i < length hs → recap_of (recaps_of hs) i ≡ x.recap
-recap_at hs i x at within = get_or-map recap_in hs i x nothing within ∙ ap recap_in (sym at)
+pub recap_of-at : (hs : List HostState) (i : ℕ) (x : HostState) → x ≡ get_or hs i x → i < length hs → recap_of (recaps_of hs) i ≡ x.recap
+recap_of-at hs i x at within = get_or-map recap_in hs i x nothing within ∙ ap recap_in (sym at)
 
 -- a host's state gives way to one with another recap
-pub recap_replaced : (hs : List HostState) (i : ℕ) (x y : HostState) (e : Ending) → x ≡ get_or hs i x → i < length hs → y.recap ≡ counted e x.recap
+pub recaps_of-set : (hs : List HostState) (i : ℕ) (x y : HostState) (e : Ending) → x ≡ get_or hs i x → i < length hs → y.recap ≡ counted e x.recap
     → recaps_of (set hs i y) ≡ set (recaps_of hs) i (counted e (recap_of (recaps_of hs) i))
-recap_replaced hs i x y e at within other =
-    map-set recap_in hs i y ∙ ap (set (recaps_of hs) i) (other ∙ ap (counted e) (sym (recap_at hs i x at within)))
+recaps_of-set hs i x y e at within other =
+    map-set recap_in hs i y ∙ ap (set (recaps_of hs) i) (other ∙ ap (counted e) (sym (recap_of-at hs i x at within)))
 
 -- the recap of the host that gave has room for one more task
-pub recaps_settled : (es : List Event) (rs before after : List Recap) (h : ℕ) (e : Ending) → IsTally es rs → length es < 2 ^ 63 → before ≡ rs
+pub recaps_of-settled : (es : List Event) (rs before after : List Recap) (h : ℕ) (e : Ending) → IsTally es rs → length es < 2 ^ 63 → before ≡ rs
     → ((tasks : ℕ) → Counts (recap_of before h) tasks → tasks + 1 < 2 ^ 64 → after ≡ set before h (counted e (recap_of before h)))
     → after ≡ set rs h (counted e (recap_of rs h))
-recaps_settled es rs before after h e t short same settled =
+recaps_of-settled es rs before after h e t short same settled =
     let few : gives_of h es + 1 < 2 ^ 64 = omega (arith, short, count_by-le-length (is_give_of h) es) in
     rw same at (settled (gives_of h es) (rw same (t.counts h)) few)

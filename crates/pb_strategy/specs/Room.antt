@@ -13,6 +13,10 @@ abbrev pub HasRoom : List HostState → ℕ → Outcome → Type 0
 HasRoom hosts host o =
     IfSome (slice_get hosts host) (λ s. length o.writes.items ≤ spare s.vars.values)
 
+-- the host's name, what its names hold and the number of its calls are as they were
+abbrev pub IsSameHost : HostState → HostState → Type 0
+IsSameHost s n = (n.name ≡ s.name) × ((n.vars ≡ s.vars) × (n.calls ≡ s.calls))
+
 -- the host with another room
 pub record IsRoomier (s n : HostState) : Type 0 where
   pub name : n.name ≡ s.name

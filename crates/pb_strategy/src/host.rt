@@ -1,5 +1,5 @@
 // What a run keeps of one host.
-ghost use Rattle.std.specs.Prelude.{◌+◌, ◌<◌, ◌^◌, ◌≡◌, ◌≤◌, IfOk, None, cond, is_some, length};
+ghost use Rattle.std.specs.Prelude.{◌+◌, ◌<◌, ◌^◌, ◌≡◌, ◌≤◌, IfOk, cond, is_some, length};
 ghost use Rattle.std.specs.Prelude.{map, string_bytes, ℕ};
 ghost use Rattle.indexmap.specs.IndexMap.{spare};
 ghost use Rattle.pb_semantics.specs.Words.{list};
@@ -10,6 +10,7 @@ ghost use Rattle.pb_strategy.specs.Endings.{came_of};
 ghost use Rattle.pb_strategy.specs.Jobs.{is_ticket, ticket_in};
 ghost use Rattle.pb_strategy.specs.OwnNames.{AreSame, names_fields, own_fields};
 ghost use Rattle.pb_strategy.specs.Recaps.{Counts, counted, nothing};
+ghost use Rattle.pb_strategy.specs.Room.{IsSameHost};
 
 use crate::recap::{Ending, Recap};
 use indexmap::IndexMap;
@@ -145,10 +146,7 @@ impl HostState {
     pub fn end(&mut self, ending: Ending)
         ensures counted { (tasks : ℕ) → Counts self.old.recap tasks → tasks + 1 < 2 ^ 64
             → self.new.recap ≡ counted ending self.old.recap }
-        ensures calls { self.new.calls ≡ self.old.calls }
-        ensures ticket { ticket_in self.new.stage ≡ None }
-        ensures name { self.new.name ≡ self.old.name }
-        ensures vars { self.new.vars ≡ self.old.vars }
+        ensures kept { IsSameHost self.old self.new }
         ensures place { self.old.place + 1 < 2 ^ 64
             → self.new.place ≡ self.old.place + cond (goes_on (came_of ending)) 1 0 }
         ensures stage { self.new.stage ≡ cond (goes_on (came_of ending)) Stage.Waiting Stage.Left }

@@ -14,22 +14,22 @@ use Rattle.pb_book.specs.Books.{book_of}
 use Rattle.pb_verify.specs.Judges.{is_accepted, run_of_accepted}
 use Rattle.pb_verify.specs.Meaning.{inventory_of}
 use Rattle.pb_verify.specs.declared.checked.Accepted.{Accepted}
-use Rattle.pb_verify.proofs.Lone.{alone}
-use Rattle.pb_verify.proofs.Verdicts.{accepts_is, lone_distinct}
+use Rattle.pb_verify.proofs.Lone.{Alone-lone}
+use Rattle.pb_verify.proofs.Verdicts.{accepts-accepted, are_distinct-lone}
 
 module _ (a : Accepted) where
-  pub hosts_distinct : are_distinct (host_names (inventory_of (inventory_view a.inventory)).hosts) ≡ true
-  hosts_distinct =
-      let host = alone (inventory_view a.inventory) a.inventory.lone in
-      lone_distinct host.host.name (inventory_of (inventory_view a.inventory)) host.stands
+  pub are_distinct-hosts : are_distinct (host_names (inventory_of (inventory_view a.inventory)).hosts) ≡ true
+  are_distinct-hosts =
+      let host = Alone-lone (inventory_view a.inventory) a.inventory.lone in
+      are_distinct-lone host.host.name (inventory_of (inventory_view a.inventory)) host.stands
 
   module _ (h : is_accepted a ≡ true) where
-    pub verdict_is : judged (modules_of a.registry) (inventory_of (inventory_view a.inventory)) (book_of a.book) ≡ accepted a.budget
-    verdict_is = accepts_is a.budget (judged (modules_of a.registry) (inventory_of (inventory_view a.inventory)) (book_of a.book)) h
+    pub judged-accepted : judged (modules_of a.registry) (inventory_of (inventory_view a.inventory)) (book_of a.book) ≡ accepted a.budget
+    judged-accepted = accepts-accepted a.budget (judged (modules_of a.registry) (inventory_of (inventory_view a.inventory)) (book_of a.book)) h
 
     module _ (forks : ℕ) (es : List Event) where
-      pub accepted_never_stuck : (run_of_accepted a forks es).is_stuck ≡ false
-      accepted_never_stuck = never_stuck_from after_claim start_claim give_claim (modules_of a.registry) (inventory_of (inventory_view a.inventory)) (book_of a.book) a.budget forks es hosts_distinct verdict_is
+      pub is_stuck-accepted : (run_of_accepted a forks es).is_stuck ≡ false
+      is_stuck-accepted = never_stuck_from after_claim start_claim give_claim (modules_of a.registry) (inventory_of (inventory_view a.inventory)) (book_of a.book) a.budget forks es are_distinct-hosts judged-accepted
 
-      pub accepted_within_budget : (run_of_accepted a forks es).handed ≤ a.budget
-      accepted_within_budget = within_budget_from after_claim start_claim give_claim (modules_of a.registry) (inventory_of (inventory_view a.inventory)) (book_of a.book) a.budget forks es hosts_distinct verdict_is
+      pub handed-accepted : (run_of_accepted a forks es).handed ≤ a.budget
+      handed-accepted = within_budget_from after_claim start_claim give_claim (modules_of a.registry) (inventory_of (inventory_view a.inventory)) (book_of a.book) a.budget forks es are_distinct-hosts judged-accepted

@@ -19,7 +19,7 @@ use Rattle.pb_book.specs.declared.book.Play.{Play}
 use Rattle.pb_value.specs.KindView.{slots_view}
 use Rattle.pb_verify.specs.Known.{table_for, table_of, AreAlike, HasTable, IsTable, known_spot, view_at}
 use Rattle.pb_verify.specs.declared.checked.Accepted.{Accepted}
-use Rattle.pb_verify.proofs.Lone.{alone}
+use Rattle.pb_verify.proofs.Lone.{Alone-lone}
 
 are_alike : (s t : Spot) → (is_there s ≡ is_there t) × (below (spot_kind s) (spot_kind t) ≡ true) × (below (spot_kind t) (spot_kind s) ≡ true) → AreAlike s t
 are_alike nowhere nowhere x = refl
@@ -27,9 +27,9 @@ are_alike nowhere (spot b m) x = absurd (true≢false (sym x.0))
 are_alike (spot a k) nowhere x = absurd (true≢false x.0)
 are_alike (spot a k) (spot b m) x = (tt, x.1, x.2)
 
-pub play_table : (ms : Registry) (inventory : Inventory) (p : Play) (ss : Slots) → are_plain_plays (p ∷ []) ≡ true → ((h : Name) → inventory ≡ lone_host h → Joins (plain_writes ms h 0 no_slots (plain_tasks p.tasks.items)) ss)
+pub IsTable-play : (ms : Registry) (inventory : Inventory) (p : Play) (ss : Slots) → are_plain_plays (p ∷ []) ≡ true → ((h : Name) → inventory ≡ lone_host h → Joins (plain_writes ms h 0 no_slots (plain_tasks p.tasks.items)) ss)
     → IsTable ms inventory (plain_plays (p ∷ [])) ss
-play_table ms inventory p ss q f = record {
+IsTable-play ms inventory p ss q f = record {
   at = λ h e n.
       let ts = plain_tasks p.tasks.items in
       let joins = play_joined ms h p.line ts (and-left (are_plain_tasks ts) true q) in
@@ -43,8 +43,8 @@ first_host hs h zero e l = rw e refl
 first_host hs h (suc i) e l = absurd (omega (ap length e, l, arith))
 
 module _ (a : Accepted) (table : HasTable a) (i : ℕ) (n : Name) (l : i < length (inventory_view a.inventory).hosts) where
-  pub known_here : AreAlike (slot_at n (slots_view a.known.entries)) (known_spot a i n)
-  known_here =
-      let host = alone (inventory_view a.inventory) a.inventory.lone in
+  pub slot_at-known : AreAlike (slot_at n (slots_view a.known.entries)) (known_spot a i n)
+  slot_at-known =
+      let host = Alone-lone (inventory_view a.inventory) a.inventory.lone in
       subst (λ (o : Option Name). AreAlike (slot_at n (slots_view a.known.entries)) (slot_at n (view_at o (table_of a)))) (sym (first_host (inventory_view a.inventory).hosts host.host i host.hosts l))
       (table.at host.host.name host.stands n)

@@ -1,4 +1,4 @@
--- An inventory of one host without variables stands for that host alone.
+-- An inventory of one host without variables stands for that host Alone-lone.
 use Rattle.std.proofs.Common.{◌≡◌, ℕ, zero, suc, List, [], ◌∷◌, true, codes, refl, sym, ap, ◌∙◌, map, length, Some, option_map, slice_get}
 use Rattle.std.specs.Str.{bytes_eq}
 use Rattle.pb_semantics.specs.Data.{Fields, no_fields, field}
@@ -58,8 +58,8 @@ alone_with (h ∷ []) (g ∷ k ∷ []) a b =
       stands = lone_inventory h g k e (and-left (holds_first (codes "all") g) (holds_first (codes "ungrouped") k) b) (and-right (holds_first (codes "all") g) (holds_first (codes "ungrouped") k) b);
     }
 
-pub alone : (v : InventoryData) → is_lone v ≡ true → Alone v
-alone v l = alone_with v.hosts v.groups (and-left (are_alone v.hosts) (are_first_groups v.groups) l) (and-right (are_alone v.hosts) (are_first_groups v.groups) l)
+pub Alone-lone : (v : InventoryData) → is_lone v ≡ true → Alone v
+Alone-lone v l = alone_with v.hosts v.groups (and-left (are_alone v.hosts) (are_first_groups v.groups) l) (and-right (are_alone v.hosts) (are_first_groups v.groups) l)
 
 one_item : {A B : Type 0} (f : A → B) (y : B) (xs : List A) → map f xs ≡ y ∷ [] → length xs ≡ 1
 one_item f y [] h = let e : [] ≡ y ∷ [] = h in absurd (cc)
@@ -69,17 +69,17 @@ one_item f y (x ∷ z ∷ xs) h = let e : f x ∷ f z ∷ map f xs ≡ y ∷ [] 
 abbrev host_names_of : Inventory → List Name
 host_names_of i = map (λ x. x.name) i.hosts
 
--- the first host of an inventory that stands for a host alone is that host, in one group
-pub first_is : (v : InventoryData) → is_lone v ≡ true → (h n : Name) → inventory_of v ≡ lone_host h → option_map (λ (x : HostData). x.name) (slice_get v.hosts 0) ≡ Some n → n ≡ h
-first_is v l h n e i =
-    let a = alone v l in
+-- the first host of an inventory that stands for a host Alone-lone is that host, in one group
+pub name-first : (v : InventoryData) → is_lone v ≡ true → (h n : Name) → inventory_of v ≡ lone_host h → option_map (λ (x : HostData). x.name) (slice_get v.hosts 0) ≡ Some n → n ≡ h
+name-first v l h n e i =
+    let a = Alone-lone v l in
     let named : a.host.name ∷ [] ≡ h ∷ [] = ap host_names_of (sym a.stands ∙ e) in
     let first : Some a.host.name ≡ Some n = sym (ap (λ hs. option_map (λ (x : HostData). x.name) (slice_get hs 0)) a.hosts) ∙ i in
     (cc)
 
-pub one_group : {A : Type 0} (f : A → Name) (v : InventoryData) → is_lone v ≡ true → (gs : List A) → option_map (λ (x : HostData). x.groups) (slice_get v.hosts 0) ≡ Some (map f gs) → length gs ≡ 1
-one_group f v l gs i =
-    let a = alone v l in
+pub length-groups : {A : Type 0} (f : A → Name) (v : InventoryData) → is_lone v ≡ true → (gs : List A) → option_map (λ (x : HostData). x.groups) (slice_get v.hosts 0) ≡ Some (map f gs) → length gs ≡ 1
+length-groups f v l gs i =
+    let a = Alone-lone v l in
     let first : Some (codes "ungrouped" ∷ []) ≡ Some (map f gs) = sym (ap (λ hs. option_map (λ (x : HostData). x.groups) (slice_get hs 0)) a.hosts ∙ ap Some a.groups) ∙ i in
     let groups : map f gs ≡ codes "ungrouped" ∷ [] = (cc) in
     one_item f (codes "ungrouped") gs groups

@@ -11,11 +11,11 @@ use Rattle.pb_sig.specs.declared.results.Results.{Results}
 use Rattle.pb_verify.specs.ResultTables.{Listed, module_listed, listed_at}
 use Rattle.pb_language.specs.Plays.{module_named}
 use Rattle.pb_verify.specs.Way.{work_result, written_result}
-use Rattle.pb_verify.proofs.RuleModules.{module_found}
+use Rattle.pb_verify.proofs.RuleModules.{module_named-found}
 
 -- no shape has a final status of its own
-pub unfailed : (ss : Slots) → is_shape (recs ss) ≡ true → is_listed (codes "failed") ss ≡ false
-unfailed ss h =
+pub is_listed-failed : (ss : Slots) → is_shape (recs ss) ≡ true → is_listed (codes "failed") ss ≡ false
+is_listed-failed ss h =
     not-true (is_listed (codes "failed") ss)
     (and-right (is_certain_boolean (slot_at (codes "changed") ss)) (not (is_listed (codes "failed") ss))
     (and-right (are_free ss) (is_certain_boolean (slot_at (codes "changed") ss) && not (is_listed (codes "failed") ss)) h))
@@ -30,20 +30,20 @@ listed_found n (x ∷ ms) m h = listed_step (bytes_eq x.name n) x m (module_at n
 
 known_listed : (n : Name) (ms : List ModuleData) (o : Option ModuleData) → module_at n ms ≡ o → is_some o ≡ true → listed_at n (map module_listed ms) ≡ Some (module_listed (module_named n ms))
 known_listed n ms None e h = untrue h
-known_listed n ms (Some m) e h = listed_found n ms m e ∙ rw (module_found n ms m e) refl
+known_listed n ms (Some m) e h = listed_found n ms m e ∙ rw (module_named-found n ms m e) refl
 
 -- what is found under a name in a table that lists the modules
-pub module_entry_found : (n : Name) (ls : List Listed) (ms : List ModuleData) (o : Option Listed) → o ≡ listed_at n ls → ls ≡ map module_listed ms → is_some (module_at n ms) ≡ true → o ≡ Some (module_listed (module_named n ms))
-module_entry_found n ls ms o f e h = f ∙ rw e (known_listed n ms (module_at n ms) refl h)
+pub listed_at-module : (n : Name) (ls : List Listed) (ms : List ModuleData) (o : Option Listed) → o ≡ listed_at n ls → ls ≡ map module_listed ms → is_some (module_at n ms) ≡ true → o ≡ Some (module_listed (module_named n ms))
+listed_at-module n ls ms o f e h = f ∙ rw e (known_listed n ms (module_at n ms) refl h)
 
-pub going_kind : (l : Listed) (k : KindData) (q : Bool) (n : Name) (ms : List ModuleData) (ps : Parts) → l ≡ module_listed (module_named n ms) → k ≡ cond q l.perhaps_skipped l.ran → k ≡ work_result ms q (module_work n ps)
-going_kind l k true n ms ps e h = h ∙ ap (λ (x : Listed). x.perhaps_skipped) e
-going_kind l k false n ms ps e h = h ∙ ap (λ (x : Listed). x.ran) e
+pub work_result-module : (l : Listed) (k : KindData) (q : Bool) (n : Name) (ms : List ModuleData) (ps : Parts) → l ≡ module_listed (module_named n ms) → k ≡ cond q l.perhaps_skipped l.ran → k ≡ work_result ms q (module_work n ps)
+work_result-module l k true n ms ps e h = h ∙ ap (λ (x : Listed). x.perhaps_skipped) e
+work_result-module l k false n ms ps e h = h ∙ ap (λ (x : Listed). x.ran) e
 
-pub written_kind : (l : Listed) (k : KindData) (q : Bool) (n : Name) (ms : List ModuleData) (ps : Parts) → l ≡ module_listed (module_named n ms) → k ≡ cond q l.skipped_or_failed l.ran_or_failed → k ≡ written_result ms q (module_work n ps)
-written_kind l k true n ms ps e h = h ∙ ap (λ (x : Listed). x.skipped_or_failed) e
-written_kind l k false n ms ps e h = h ∙ ap (λ (x : Listed). x.ran_or_failed) e
+pub written_result-module : (l : Listed) (k : KindData) (q : Bool) (n : Name) (ms : List ModuleData) (ps : Parts) → l ≡ module_listed (module_named n ms) → k ≡ cond q l.skipped_or_failed l.ran_or_failed → k ≡ written_result ms q (module_work n ps)
+written_result-module l k true n ms ps e h = h ∙ ap (λ (x : Listed). x.skipped_or_failed) e
+written_result-module l k false n ms ps e h = h ∙ ap (λ (x : Listed). x.ran_or_failed) e
 
-pub own_kind : (r : Results) (q : Bool) → result_kind r q ≡ cond q (result_kind r true) (result_kind r false)
-own_kind r true = refl
-own_kind r false = refl
+pub result_kind-own : (r : Results) (q : Bool) → result_kind r q ≡ cond q (result_kind r true) (result_kind r false)
+result_kind-own r true = refl
+result_kind-own r false = refl

@@ -16,7 +16,7 @@ found_step true false k m named rest x y there h = untrue (x refl)
 found_step false true k m named rest x y there h = untrue (y refl)
 found_step false false k m named rest x y there h = there h
 
-pub module_found : (n : List ℕ) (ms : List ModuleData) (m : ModuleData) → module_at n ms ≡ Some m → module_named n ms ≡ m
-module_found n [] m h = (cc)
-module_found n (k ∷ ms) m h =
-    found_step (bytes_eq k.name n) (bytes_eq n k.name) k m (module_named n ms) (module_at n ms) (turned k.name n) (turned n k.name) (module_found n ms m) h
+pub module_named-found : (n : List ℕ) (ms : List ModuleData) (m : ModuleData) → module_at n ms ≡ Some m → module_named n ms ≡ m
+module_named-found n [] m h = (cc)
+module_named-found n (k ∷ ms) m h =
+    found_step (bytes_eq k.name n) (bytes_eq n k.name) k m (module_named n ms) (module_at n ms) (turned k.name n) (turned n k.name) (module_named-found n ms m) h

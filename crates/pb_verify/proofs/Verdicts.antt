@@ -1,23 +1,25 @@
 -- The verdict of the definitions on the books that are built so far.
-use Rattle.std.proofs.Common.{◌≡◌, ◌≤◌, ◌<◌, arith, slice_index_or, ℕ, suc, List, [], ◌∷◌, true, ◌&&◌, ◌==◌, Option, Some, None, length, nat_le, refl, sym, ap, ◌∙◌}
+use Rattle.std.proofs.Common.{◌≡◌, ◌≤◌, ◌<◌, arith, slice_index_or, ℕ, suc, List, [], ◌∷◌, true, false, ◌&&◌, ◌==◌, Option, Some, None, length, nat_le, refl, sym, ap, ◌∙◌}
 use Rattle.std.proofs.lemmas.Bool.{eqb-true}
-use Rattle.pb_semantics.specs.Kind.{no_slots}
+use Rattle.pb_semantics.specs.Kind.{Slots, no_slots}
 use Rattle.pb_semantics.proofs.Bools.{untrue, and-left, and-right}
 use Rattle.pb_language.specs.Book.{Registry}
 use Rattle.pb_language.specs.Expression.{Name}
+use Rattle.pb_language.specs.Fit.{Fault}
 use Rattle.pb_language.specs.Judged.{judged}
+use Rattle.pb_language.specs.Judgement.{going_slots, task_fault}
 use Rattle.pb_language.specs.Program.{Inventory}
 use Rattle.pb_language.specs.Verdict.{Verdict, Refusal, accepted, refused, offence_verdict}
 use Rattle.pb_language.specs.Theorem.{are_distinct, host_names}
-use Rattle.pb_language.specs.plain.Books.{lone_host, are_plain_tasks, are_lined}
-use Rattle.pb_language.specs.plain.Pass.{plain_rules, plain_flow, plain_calls}
+use Rattle.pb_language.specs.plain.Books.{PlainTask, lone_host, are_plain_tasks, are_lined}
+use Rattle.pb_language.specs.plain.Pass.{fault_or, lone_setting, plain_run, plain_rules, plain_flow, plain_calls}
 use Rattle.pb_language.proofs.PlainJudged.{plain_judged}
 use Rattle.pb_book.specs.Lines.{are_from, is_numbered}
 use Rattle.pb_book.specs.Meaning.{plain_tasks, are_plain_plays}
 use Rattle.pb_book.specs.declared.book.Play.{Play}
 use Rattle.pb_book.specs.declared.book.Task.{Task}
 use Rattle.pb_book.specs.Books.{plain_plays}
-use Rattle.pb_verify.specs.Judges.{tasks_verdict}
+use Rattle.pb_verify.specs.Judges.{refuses_without_host, tasks_verdict}
 use Rattle.pb_verify.specs.Meaning.{or_later, accepts}
 
 both_offences : (o p : Option Refusal) (v : Verdict) → offence_verdict o (offence_verdict p v) ≡ offence_verdict (or_later o p) v
@@ -33,9 +35,9 @@ counted [] = refl
 counted (t ∷ ts) = ap suc (counted ts)
 
 -- one play is judged in one pass
-pub one_play : (ms : Registry) (h : Name) (inventory : Inventory) (p : Play) → inventory ≡ lone_host h → is_numbered (p ∷ []) ≡ true → are_plain_plays (p ∷ []) ≡ true
+pub judged-one_play : (ms : Registry) (h : Name) (inventory : Inventory) (p : Play) → inventory ≡ lone_host h → is_numbered (p ∷ []) ≡ true → are_plain_plays (p ∷ []) ≡ true
     → judged ms inventory (plain_plays (p ∷ [])) ≡ tasks_verdict ms h (plain_tasks p.tasks.items)
-one_play ms h inventory p e n q =
+judged-one_play ms h inventory p e n q =
     let ts = p.tasks.items in
     let later = are_from 2 ts && nat_le (length ts) 4095 in
     let first : p.line ≡ 1 = eqb-true p.line 1 (and-left (p.line == 1) later n) in
@@ -46,17 +48,33 @@ one_play ms h inventory p e n q =
     ap (λ i. judged ms i (plain_plays (p ∷ []))) e ∙ plain_judged ms h p.line (plain_tasks ts) plain from few
     ∙ both_offences (plain_rules ms (plain_tasks ts)) (plain_flow ms h 0 no_slots (plain_tasks ts)) (accepted (plain_calls (plain_tasks ts)))
 
+-- each refusal on the host's way names the host
+fault_or-named : (h : Name) (l : ℕ) (f : Option Fault) (o : Option Refusal) (v : Verdict) → refuses_without_host (offence_verdict o v) ≡ false → refuses_without_host (offence_verdict (fault_or h l f o) v) ≡ false
+fault_or-named h l None o v e = e
+fault_or-named h l (Some f) o v e = refl
+
+plain_flow-named : (ms : Registry) (h : Name) (p : ℕ) (env : Slots) (ts : List PlainTask) (n : ℕ) → refuses_without_host (offence_verdict (plain_flow ms h p env ts) (accepted n)) ≡ false
+plain_flow-named ms h p env [] n = refl
+plain_flow-named ms h p env (t ∷ ts) n =
+    let going = going_slots (lone_setting h) (plain_run ms p t) env in
+    fault_or-named h t.line (task_fault (lone_setting h) (plain_run ms p t) env) (plain_flow ms h (suc p) going ts) (accepted n) (plain_flow-named ms h (suc p) going ts n)
+
+-- so where the rules that follow no host are kept, each refusal does
+pub tasks_verdict-ruled : (ms : Registry) (h : Name) (ts : List PlainTask) → plain_rules ms ts ≡ None → refuses_without_host (tasks_verdict ms h ts) ≡ false
+tasks_verdict-ruled ms h ts e =
+    ap (λ o. refuses_without_host (offence_verdict (or_later o (plain_flow ms h 0 no_slots ts)) (accepted (plain_calls ts)))) e ∙ plain_flow-named ms h 0 no_slots ts (plain_calls ts)
+
 -- a list of one item
-pub only_item : (ps : List Play) (p : Play) → 1 ≤ length ps → length ps < 2 → p ≡ slice_index_or ps 0 p → ps ≡ p ∷ []
-only_item [] p a b e = absurd (omega arith)
-only_item (q ∷ []) p a b e = ap (λ x. x ∷ []) (sym e)
-only_item (q ∷ r ∷ ps) p a b e = absurd (omega arith)
+pub items-one : (ps : List Play) (p : Play) → 1 ≤ length ps → length ps < 2 → p ≡ slice_index_or ps 0 p → ps ≡ p ∷ []
+items-one [] p a b e = absurd (omega arith)
+items-one (q ∷ []) p a b e = ap (λ x. x ∷ []) (sym e)
+items-one (q ∷ r ∷ ps) p a b e = absurd (omega arith)
 
 -- an accepted verdict has that number
-pub accepts_is : (n : ℕ) (v : Verdict) → accepts n v ≡ true → v ≡ accepted n
-accepts_is n (accepted m) h = ap accepted (sym (eqb-true n m h))
-accepts_is n (refused r) h = untrue h
+pub accepts-accepted : (n : ℕ) (v : Verdict) → accepts n v ≡ true → v ≡ accepted n
+accepts-accepted n (accepted m) h = ap accepted (sym (eqb-true n m h))
+accepts-accepted n (refused r) h = untrue h
 
 -- one host is no two
-pub lone_distinct : (h : Name) (inventory : Inventory) → inventory ≡ lone_host h → are_distinct (host_names inventory.hosts) ≡ true
-lone_distinct h inventory e = rw e refl
+pub are_distinct-lone : (h : Name) (inventory : Inventory) → inventory ≡ lone_host h → are_distinct (host_names inventory.hosts) ≡ true
+are_distinct-lone h inventory e = rw e refl

@@ -21,9 +21,9 @@ use Rattle.pb_book.specs.declared.book.Task.{Task}
 use Rattle.pb_book.specs.declared.book.Work.{Work}
 use Rattle.pb_book.specs.declared.book.Work.TheVariants.{Module, Debug, SetFact}
 use Rattle.pb_verify.specs.Way.{Stands, own_fault, written_result, known_after}
-use Rattle.pb_verify.proofs.RuleModules.{module_found}
-use Rattle.pb_verify.proofs.WalkModules.{found_plain}
-use Rattle.pb_verify.proofs.WalkWays.{is_kept, asked_here, stands_after}
+use Rattle.pb_verify.proofs.RuleModules.{module_named-found}
+use Rattle.pb_verify.proofs.WalkModules.{is_lawful-found}
+use Rattle.pb_verify.proofs.WalkWays.{is_kept, task_fault-own, Stands-after}
 
 -- the tasks that are left keep the rules that follow no host
 pub record Rest (ms : Registry) (ts : List Task) : Type 0 where
@@ -38,20 +38,20 @@ ruled_parts false q r s o h = absurd (cc)
 
 module _ (ms : Registry) where
   module _ (t : Task) (ts : List Task) (rest : Rest ms (t ∷ ts)) where
-    pub first_known : is_known ms t.work ≡ true
-    first_known = and-left (is_known ms t.work) (are_known ms ts) rest.known
+    pub is_known-first : is_known ms t.work ≡ true
+    is_known-first = and-left (is_known ms t.work) (are_known ms ts) rest.known
 
-    pub first_plain : is_plain_task (plain_task t) ≡ true
-    first_plain = and-left (is_plain_task (plain_task t)) (are_plain_tasks (plain_tasks ts)) rest.plain
+    pub is_plain_task-first : is_plain_task (plain_task t) ≡ true
+    is_plain_task-first = and-left (is_plain_task (plain_task t)) (are_plain_tasks (plain_tasks ts)) rest.plain
 
     ruled : (any_among (written_names (Some (task_data (plain_task t)))) reserved_names ≡ false) × (plain_rules ms (plain_tasks ts) ≡ None)
     ruled = ruled_parts (is_well_formed ms (plain_task t).work) (any_among (written_names (Some (task_data (plain_task t)))) reserved_names) _ _ (plain_rules ms (plain_tasks ts)) rest.ruled
 
-    pub first_free : any_among (written_names (Some (task_data (plain_task t)))) reserved_names ≡ false
-    first_free = ruled.0
+    pub any_among-first : any_among (written_names (Some (task_data (plain_task t)))) reserved_names ≡ false
+    any_among-first = ruled.0
 
-    pub later_rest : Rest ms ts
-    later_rest = record {
+    pub Rest-later : Rest ms ts
+    Rest-later = record {
       known = and-right (is_known ms t.work) (are_known ms ts) rest.known;
       plain = and-right (is_plain_task (plain_task t)) (are_plain_tasks (plain_tasks ts)) rest.plain;
       ruled = ruled.1;
@@ -60,49 +60,49 @@ module _ (ms : Registry) where
   -- a module that is known keeps the laws
   kept_at : (n : Name) (o : Option ModuleData) → are_plain_modules ms ≡ true → module_at n ms ≡ o → is_some o ≡ true → is_lawful (module_named n ms) && not (is_setup (module_named n ms)) ≡ true
   kept_at n None a e k = untrue k
-  kept_at n (Some m) a e k = rw (module_found n ms m e) (found_plain n ms m a e)
+  kept_at n (Some m) a e k = rw (module_named-found n ms m e) (is_lawful-found n ms m a e)
 
-  pub known_kept : (w : Work) (ps : Parts) → are_plain_modules ms ≡ true → is_known ms w ≡ true → is_kept ms (work_of w ps) ≡ true
-  known_kept (Module n) ps a k = kept_at (string_bytes n.value) (module_at (string_bytes n.value) ms) a refl k
-  known_kept Debug ps a k = refl
-  known_kept SetFact ps a k = refl
+  pub is_kept-known : (w : Work) (ps : Parts) → are_plain_modules ms ≡ true → is_known ms w ≡ true → is_kept ms (work_of w ps) ≡ true
+  is_kept-known (Module n) ps a k = kept_at (string_bytes n.value) (module_at (string_bytes n.value) ms) a refl k
+  is_kept-known Debug ps a k = refl
+  is_kept-known SetFact ps a k = refl
 
-  pub same_written : (q : Bool) (w : Work) (ps qs : Parts) → written_result ms q (work_of w ps) ≡ written_result ms q (work_of w qs)
-  same_written q (Module n) ps qs = refl
-  same_written q Debug ps qs = refl
-  same_written q SetFact ps qs = refl
+  pub written_result-same : (q : Bool) (w : Work) (ps qs : Parts) → written_result ms q (work_of w ps) ≡ written_result ms q (work_of w qs)
+  written_result-same q (Module n) ps qs = refl
+  written_result-same q Debug ps qs = refl
+  written_result-same q SetFact ps qs = refl
 
 -- from what was known before the tasks to what is known now: each host's way goes on from a place and an environment that agree with it
 pub record Way (ms : Registry) (before now : Slots) (all rest : List PlainTask) : Type 0 where
   pub from : (h : Name) → Stands h before no_slots → (p : ℕ) × ((env : Slots) × ((Stands h now env) × (plain_flow ms h p env rest ≡ plain_flow ms h 0 no_slots all)))
 
 module _ (ms : Registry) (before now : Slots) (all : List PlainTask) where
-  pub way_done : Way ms before now all [] → (h : Name) → Stands h before no_slots → None ≡ plain_flow ms h 0 no_slots all
-  way_done way h s = (way.from h s).1.1.1
+  pub plain_flow-done : Way ms before now all [] → (h : Name) → Stands h before no_slots → None ≡ plain_flow ms h 0 no_slots all
+  plain_flow-done way h s = (way.from h s).1.1.1
 
   module _ (t : PlainTask) (rest : List PlainTask) (plain : is_plain_task t ≡ true) (way : Way ms before now all (t ∷ rest)) where
-    pub way_fault : (f : Fault) → own_fault ms now t ≡ Some f → (h : Name) → Stands h before no_slots → Some (record { code = code_of f; line = t.line; host = Some h }) ≡ plain_flow ms h 0 no_slots all
-    way_fault f e h s =
+    pub plain_flow-fault : (f : Fault) → own_fault ms now t ≡ Some f → (h : Name) → Stands h before no_slots → Some (record { code = code_of f; line = t.line; host = Some h }) ≡ plain_flow ms h 0 no_slots all
+    plain_flow-fault f e h s =
         let w = way.from h s in
         let p = w.0 in
         let env = w.1.0 in
-        let asked = asked_here ms h p t now env plain w.1.1.0 ∙ e in
+        let asked = task_fault-own ms h p t now env plain w.1.1.0 ∙ e in
         ap (λ o. fault_or h t.line o (plain_flow ms h (suc p) (going_slots (lone_setting h) (plain_run ms p t) env) rest)) (sym asked) ∙ w.1.1.1
 
-    pub way_on : own_fault ms now t ≡ None → is_kept ms t.work ≡ true → any_among (written_names (Some (task_data t))) reserved_names ≡ false
+    pub Way-on : own_fault ms now t ≡ None → is_kept ms t.work ≡ true → any_among (written_names (Some (task_data t))) reserved_names ≡ false
         → Way ms before (known_after ms t now) all rest
-    way_on e kept free = record {
+    Way-on e kept free = record {
       from = λ h s.
           let w = way.from h s in
           let p = w.0 in
           let env = w.1.0 in
           let next = going_slots (lone_setting h) (plain_run ms p t) env in
-          let asked = asked_here ms h p t now env plain w.1.1.0 ∙ e in (
+          let asked = task_fault-own ms h p t now env plain w.1.1.0 ∙ e in (
             suc p,
             (
               next,
               (
-                stands_after ms h p t now env plain w.1.1.0 kept free,
+                Stands-after ms h p t now env plain w.1.1.0 kept free,
                 ap (λ o. fault_or h t.line o (plain_flow ms h (suc p) next rest)) (sym asked) ∙ w.1.1.1,
               ),
             ),

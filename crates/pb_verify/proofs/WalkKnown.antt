@@ -25,7 +25,7 @@ use Rattle.pb_language.proofs.PlainTables.{Covers, append_after, append_none, jo
 use Rattle.pb_language.proofs.PlainViews.{well_writes}
 use Rattle.pb_expr.specs.FitView.{own_scope}
 use Rattle.pb_verify.specs.Way.{Stands, own_sets, work_result, written_result, failed_result, put_spot, join_slot, register_joined, all_joined, known_after, written_after}
-use Rattle.pb_verify.proofs.WalkWays.{is_kept, always, kind_here, actions_own, stands_after}
+use Rattle.pb_verify.proofs.WalkWays.{is_kept, and-true, work_result-cases, SameOwn-action, Stands-after}
 
 well_left : (u w : Sets) → WellSets (append_sets u w) → WellSets u
 well_left no_sets w v = tt
@@ -90,7 +90,7 @@ module _ (ms : Registry) where
       → action_sets c (plain_run ms p t) (plain_action ms w) ≡ own_sets c (not (is_conditional t.condition)) w
   own_sets_here c p t (module_work n ps) s k = rw (not-true (is_setup (module_named n ms)) (and-right (is_lawful (module_named n ms)) (not (is_setup (module_named n ms))) k)) refl
   own_sets_here c p t (debug_work ps) s k = refl
-  own_sets_here c p t (set_fact_work ps) s k = rw (always (not (is_conditional t.condition))) refl
+  own_sets_here c p t (set_fact_work ps) s k = rw (and-true (not (is_conditional t.condition))) refl
   own_sets_here c p t w s k = untrue s
 
   module _ (h : Name) (p : ℕ) (t : PlainTask) (now env : Slots) (plain : is_plain_task t ≡ true) (stands : Stands h now env) (kept : is_kept ms t.work ≡ true) where
@@ -105,12 +105,12 @@ module _ (ms : Registry) where
 
     sets_here : task_sets (lone_setting h) (plain_run ms p t) env ≡ own
     sets_here =
-        work_sets_same ms t.work (action_scope (lone_setting h) (plain_run ms p t) env) (own_scope now) (plain_run ms p t) works (actions_own ms h p t now env plain stands)
+        work_sets_same ms t.work (action_scope (lone_setting h) (plain_run ms p t) env) (own_scope now) (plain_run ms p t) works (SameOwn-action ms h p t now env plain stands)
         ∙ own_sets_here (own_scope now) p t t.work works kept
 
     writes_here : task_writes (lone_setting h) (plain_run ms p t) env ≡ append_sets registered_here own
     writes_here =
-        rw (goes_on ms p t, sets_here, kind_here ms t.work (is_conditional t.condition) works kept)
+        rw (goes_on ms p t, sets_here, work_result-cases ms t.work (is_conditional t.condition) works kept)
         (sym (append_after _ _ own))
 
     -- what was written up to the task, and by it
@@ -136,23 +136,23 @@ pub record Place (ms : Registry) (h : Name) (now known : Slots) (all rest : List
 pub record Learned (ms : Registry) (before now known : Slots) (all rest : List PlainTask) : Type 0 where
   pub from : (h : Name) → Stands h before no_slots → Place ms h now known all rest
 
-pub learned_as : (ms : Registry) (before now known after written : Slots) (all rest : List PlainTask) → Learned ms before now known all rest → after ≡ now → written ≡ known → Learned ms before after written all rest
-learned_as ms before now known after written all rest l e f = subst (λ s. Learned ms before s written all rest) (sym e) (subst (λ k. Learned ms before now k all rest) (sym f) l)
+pub Learned-same : (ms : Registry) (before now known after written : Slots) (all rest : List PlainTask) → Learned ms before now known all rest → after ≡ now → written ≡ known → Learned ms before after written all rest
+Learned-same ms before now known after written all rest l e f = subst (λ s. Learned ms before s written all rest) (sym e) (subst (λ k. Learned ms before now k all rest) (sym f) l)
 
-pub learned_none : (ms : Registry) (before : Slots) (all : List PlainTask) → Learned ms before before no_slots all all
-learned_none ms before all = record {
+pub Learned-none : (ms : Registry) (before : Slots) (all : List PlainTask) → Learned ms before before no_slots all all
+Learned-none ms before all = record {
   from = λ h s. record { place = 0; env = no_slots; writes = no_sets; stands = s; joins = nothing_joined; wells = well_writes ms h 0 no_slots all (refl, tt); same = refl };
 }
 
 module _ (ms : Registry) (before now known : Slots) (all : List PlainTask) where
-  pub learned_all : Learned ms before now known all [] → (h : Name) → Stands h before no_slots → Joins (plain_writes ms h 0 no_slots all) known
-  learned_all l h s =
+  pub Joins-learned : Learned ms before now known all [] → (h : Name) → Stands h before no_slots → Joins (plain_writes ms h 0 no_slots all) known
+  Joins-learned l h s =
       let x = l.from h s in
       subst (λ w. Joins w known) (sym (append_none x.writes) ∙ x.same) x.joins
 
-  pub learned_on : (t : PlainTask) (rest : List PlainTask) → is_plain_task t ≡ true → Learned ms before now known all (t ∷ rest) → is_kept ms t.work ≡ true → any_among (written_names (Some (task_data t))) reserved_names ≡ false
+  pub Learned-on : (t : PlainTask) (rest : List PlainTask) → is_plain_task t ≡ true → Learned ms before now known all (t ∷ rest) → is_kept ms t.work ≡ true → any_among (written_names (Some (task_data t))) reserved_names ≡ false
       → Learned ms before (known_after ms t now) (written_after ms t now known) all rest
-  learned_on t rest plain l kept free = record {
+  Learned-on t rest plain l kept free = record {
     from = λ h s.
         let x = l.from h s in
         let here = task_writes (lone_setting h) (plain_run ms x.place t) x.env in
@@ -162,7 +162,7 @@ module _ (ms : Registry) (before now known : Slots) (all : List PlainTask) where
           place = suc x.place;
           env = next;
           writes = append_sets x.writes here;
-          stands = stands_after ms h x.place t now x.env plain x.stands kept free;
+          stands = Stands-after ms h x.place t now x.env plain x.stands kept free;
           joins = joins_task ms h x.place t now x.env plain x.stands kept x.writes known (well_left here later x.wells) x.joins;
           wells = well_right here later x.wells;
           same = append_after x.writes here later ∙ x.same;

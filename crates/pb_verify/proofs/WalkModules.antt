@@ -11,20 +11,20 @@ use Rattle.pb_language.specs.Judgement.{is_lawful, action_fault, arguments_fault
 use Rattle.pb_language.specs.Plays.{module_named}
 use Rattle.pb_sig.specs.ModuleView.{are_plain_modules}
 use Rattle.pb_sig.specs.Modules.{module_at}
-use Rattle.pb_verify.proofs.RuleModules.{module_found}
+use Rattle.pb_verify.proofs.RuleModules.{module_named-found}
 
 plain_step : (q : Bool) (x m : ModuleData) (o : Option ModuleData) → is_lawful x && not (is_setup x) ≡ true → (o ≡ Some m → is_lawful m && not (is_setup m) ≡ true) → cond q (Some x) o ≡ Some m → is_lawful m && not (is_setup m) ≡ true
 plain_step true x m o h f e = let same : x ≡ m = cc in rw (← same) h
 plain_step false x m o h f e = f e
 
 -- a module that is found is lawful, and gathers no facts
-pub found_plain : (n : Name) (ms : List ModuleData) (m : ModuleData) → are_plain_modules ms ≡ true → module_at n ms ≡ Some m → is_lawful m && not (is_setup m) ≡ true
-found_plain n [] m h e = cc
-found_plain n (x ∷ ms) m h e =
+pub is_lawful-found : (n : Name) (ms : List ModuleData) (m : ModuleData) → are_plain_modules ms ≡ true → module_at n ms ≡ Some m → is_lawful m && not (is_setup m) ≡ true
+is_lawful-found n [] m h e = cc
+is_lawful-found n (x ∷ ms) m h e =
     let here = and-left (is_lawful x && not (is_setup x)) (are_plain_modules ms) h in
-    plain_step (bytes_eq x.name n) x m (module_at n ms) here (found_plain n ms m (and-right (is_lawful x && not (is_setup x)) (are_plain_modules ms) h)) e
+    plain_step (bytes_eq x.name n) x m (module_at n ms) here (is_lawful-found n ms m (and-right (is_lawful x && not (is_setup x)) (are_plain_modules ms) h)) e
 
-pub found_asked : (c : Scope) (n : Name) (ms : List ModuleData) (m : ModuleData) (ps : Parts) → are_plain_modules ms ≡ true → module_at n ms ≡ Some m → action_fault c (call_of (module_named n ms) ps) ≡ arguments_fault c m.params ps
-found_asked c n ms m ps h e =
-    let lawful = and-left (is_lawful m) (not (is_setup m)) (found_plain n ms m h e) in
-    ap (λ k. action_fault c (call_of k ps)) (module_found n ms m e) ∙ ap (λ b. first (asks malformed b) (arguments_fault c m.params ps)) lawful
+pub action_fault-found : (c : Scope) (n : Name) (ms : List ModuleData) (m : ModuleData) (ps : Parts) → are_plain_modules ms ≡ true → module_at n ms ≡ Some m → action_fault c (call_of (module_named n ms) ps) ≡ arguments_fault c m.params ps
+action_fault-found c n ms m ps h e =
+    let lawful = and-left (is_lawful m) (not (is_setup m)) (is_lawful-found n ms m h e) in
+    ap (λ k. action_fault c (call_of k ps)) (module_named-found n ms m e) ∙ ap (λ b. first (asks malformed b) (arguments_fault c m.params ps)) lawful

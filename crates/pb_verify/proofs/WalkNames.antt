@@ -69,17 +69,17 @@ module _ (h : Name) where
       let a = unreserved n r in
       s.own n (unshared n a) ∙ at_named n env ∙ named_apart n (slot_at n env) a
 
-  pub stands_put : (n : Name) (s : Spot) (ss env : Slots) → is_among n reserved_names ≡ false → Stands h ss env → Stands h (put_spot n s ss) (with_spot n s env)
-  stands_put n nowhere ss env r t = t
-  stands_put n (spot a k) ss env r t = record {
+  pub Stands-put : (n : Name) (s : Spot) (ss env : Slots) → is_among n reserved_names ≡ false → Stands h ss env → Stands h (put_spot n s ss) (with_spot n s env)
+  Stands-put n nowhere ss env r t = t
+  Stands-put n (spot a k) ss env r t = record {
     own = λ p i. at_put p n a k ss ∙ written (bytes_eq p n) p n (spot a k) ss env refl (unreserved n r) (t.own p i ∙ at_named p env)
         ∙ ap (named p) (sym (at_with p n a k env)) ∙ sym (at_named p (with_spot n (spot a k) env));
   }
 
-  pub stands_set : (c : Scope) (a : Bool) (ps : Parts) (ss env : Slots) → any_among (part_names ps) reserved_names ≡ false → Stands h ss env → Stands h (all_set (parts_set c a ps) ss) (with_sets (parts_set c a ps) env)
-  stands_set c a no_parts ss env r s = s
-  stands_set c a (part n e ps) ss env r s =
+  pub Stands-set : (c : Scope) (a : Bool) (ps : Parts) (ss env : Slots) → any_among (part_names ps) reserved_names ≡ false → Stands h ss env → Stands h (all_set (parts_set c a ps) ss) (with_sets (parts_set c a ps) env)
+  Stands-set c a no_parts ss env r s = s
+  Stands-set c a (part n e ps) ss env r s =
       let free = neither-left (is_among n reserved_names) (any_among (part_names ps) reserved_names) r in
-      let here = stands_put n (set_spot a (slot_at n env) (kind_of c e)) ss env free s in
-      stands_set c a ps (put_spot n (set_spot a (slot_at n ss) (kind_of c e)) ss) (with_spot n (set_spot a (slot_at n env) (kind_of c e)) env) (neither-right (is_among n reserved_names) (any_among (part_names ps) reserved_names) r)
+      let here = Stands-put n (set_spot a (slot_at n env) (kind_of c e)) ss env free s in
+      Stands-set c a ps (put_spot n (set_spot a (slot_at n ss) (kind_of c e)) ss) (with_spot n (set_spot a (slot_at n env) (kind_of c e)) env) (neither-right (is_among n reserved_names) (any_among (part_names ps) reserved_names) r)
       (subst (λ t. Stands h (put_spot n (set_spot a t (kind_of c e)) ss) (with_spot n (set_spot a (slot_at n env) (kind_of c e)) env)) (sym (own_spot n ss env free s)) here)

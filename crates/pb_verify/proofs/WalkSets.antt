@@ -7,10 +7,10 @@ use Rattle.pb_value.specs.declared.kind.Kind.{Kind}
 use Rattle.pb_verify.specs.Way.{sets_of}
 
 -- a list with one more at its end
-pub sets_then : (a : Bool) (es : List (Arc (String Global) Global × Kind)) (n : Arc (String Global) Global) (k : Kind) (r : Sets) → append_sets (sets_of a (es ++ (n, k) ∷ [])) r ≡ append_sets (sets_of a es) (sets (string_bytes n.value) a (kind_view k) r)
-sets_then a [] n k r = refl
-sets_then a (e ∷ es) n k r = ap (sets (string_bytes e.0.value) a (kind_view e.1)) (sets_then a es n k r)
+pub append_sets-push : (a : Bool) (es : List (Arc (String Global) Global × Kind)) (n : Arc (String Global) Global) (k : Kind) (r : Sets) → append_sets (sets_of a (es ++ (n, k) ∷ [])) r ≡ append_sets (sets_of a es) (sets (string_bytes n.value) a (kind_view k) r)
+append_sets-push a [] n k r = refl
+append_sets-push a (e ∷ es) n k r = ap (sets (string_bytes e.0.value) a (kind_view e.1)) (append_sets-push a es n k r)
 
-pub sets_alone : (s : Sets) → append_sets s no_sets ≡ s
-sets_alone no_sets = refl
-sets_alone (sets n a k r) = ap (sets n a k) (sets_alone r)
+pub append_sets-none : (s : Sets) → append_sets s no_sets ≡ s
+append_sets-none no_sets = refl
+append_sets-none (sets n a k r) = ap (sets n a k) (append_sets-none r)

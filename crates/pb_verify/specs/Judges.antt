@@ -1,6 +1,6 @@
 -- What it is to judge: the verdict on tasks and on what was accepted, and what a refusal says of
 -- it.
-use Rattle.std.specs.Prelude.{ℕ, List, Option, Some, None, Bool}
+use Rattle.std.specs.Prelude.{ℕ, List, Option, Some, None, Bool, false, not, is_some}
 use Rattle.pb_semantics.specs.Kind.{no_slots}
 use Rattle.pb_language.specs.Expression.{Name}
 use Rattle.pb_language.specs.Book.{Registry}
@@ -37,3 +37,8 @@ run_of_accepted a forks es = run_of (modules_of a.registry)
 abbrev pub refused_verdict : VerifyFault → Option Verdict
 refused_verdict (Refused r) = Some (refused (refusal_of r))
 refused_verdict NoMemory = None
+
+-- it refuses and names no host, as the rules that follow none do
+abbrev pub refuses_without_host : Verdict → Bool
+refuses_without_host (accepted n) = false
+refuses_without_host (refused r) = not (is_some r.host)

@@ -1,5 +1,5 @@
 // The verdict on a book.
-ghost use Rattle.std.specs.Prelude.{◌≡◌, IfOk, None, option_map, true};
+ghost use Rattle.std.specs.Prelude.{◌≡◌, Err, IfOk, None, OnErr, option_map, true};
 ghost use Rattle.pb_semantics.specs.Words.{Gives, no_slots};
 ghost use Rattle.pb_language.specs.Words.{Joins, Name, accepted, are_plain_tasks};
 ghost use Rattle.pb_language.specs.Words.{code_of as number_of, judged, lone_host, plain_flow};
@@ -11,7 +11,7 @@ ghost use Rattle.pb_inventory.specs.Words.{inventory_view};
 ghost use Rattle.pb_book.specs.Words.{are_known, are_plain_plays, book_of, is_numbered};
 ghost use Rattle.pb_book.specs.Words.{names_known, plain_plays, plain_tasks, plays_of};
 ghost use Rattle.pb_verify.specs.Faults.{fault_refusal};
-ghost use Rattle.pb_verify.specs.Judges.{refused_verdict, tasks_verdict};
+ghost use Rattle.pb_verify.specs.Judges.{refused_verdict, refuses_without_host, tasks_verdict};
 ghost use Rattle.pb_verify.specs.Known.{IsTable};
 ghost use Rattle.pb_verify.specs.Meaning.{code_number, inventory_of, or_later, refusal_of};
 ghost use Rattle.pb_verify.specs.Way.{Stands};
@@ -60,7 +60,8 @@ impl<T: Drop> From<AllocFailed<T>> for VerifyFault {
 /// Judges a book for an inventory: accepted with its budget of module calls, or the first refusal
 /// in this order: the rules that follow no host (parameters, then names, by line), then the texts
 /// that may meet an undefined variable, a missing field or a value of the wrong kind, by line and
-/// then by host. Each module that the book names is in the registry.
+/// then by host. A refusal that names no host takes no memory. Each module that the book names is
+/// in the registry.
 pub fn verify(
     alloc: Global,
     book: Book,
@@ -72,6 +73,10 @@ pub fn verify(
         (λ c. (c.book ≡ book) × (c.inventory ≡ inventory) × (c.registry ≡ registry)) }
     ensures verdict { Gives (λ c. accepted c.budget) refused_verdict result
         (judged (modules_of registry) (inventory_of (inventory_view inventory)) (book_of book)) }
+    ensures apart { refuses_without_host
+        (judged (modules_of registry) (inventory_of (inventory_view inventory)) (book_of book))
+        ≡ true
+        → result ≡ Err VerifyFault.NoMemory → ⊥ }
 {
     let Findings { budget, known } = judge(alloc, book.plays(), &inventory, &registry)?;
     let accepted = Accepted {
@@ -120,6 +125,10 @@ fn judge(
     ensures known { IfOk result
         (λ f. IsTable (modules_of registry.now) (inventory_of (inventory_view inventory.now))
         (plain_plays plays.now) (slots_view f.known.entries)) }
+    ensures apart { refuses_without_host
+        (judged (modules_of registry.now) (inventory_of (inventory_view inventory.now))
+        (plain_plays plays.now)) ≡ true
+        → result ≡ Err VerifyFault.NoMemory → ⊥ }
 {
     match plays {
         [play] => judge_tasks(alloc, play.tasks.as_slice(), inventory, registry),
@@ -143,6 +152,8 @@ fn judge_tasks(
         (λ f. (h : Name) → inventory_of (inventory_view inventory.now) ≡ lone_host h
         → Joins (plain_writes (modules_of registry.now) h 0 no_slots (plain_tasks tasks.now))
         (slots_view f.known.entries)) }
+    ensures apart { result ≡ Err VerifyFault.NoMemory
+        → plain_rules (modules_of registry.now) (plain_tasks tasks.now) ≡ None }
 {
     let Way { refusal, known } = first_refusal(alloc, tasks, inventory, registry)?;
     if let Some(refusal) = refusal {
@@ -179,6 +190,8 @@ fn first_refusal(
         → w.refusal ≡ None
         → Joins (plain_writes (modules_of registry.now) h 0 no_slots (plain_tasks tasks.now))
         (slots_view w.known.entries)) }
+    ensures apart { OnErr result
+        (plain_rules (modules_of registry.now) (plain_tasks tasks.now) ≡ None) }
 {
     if let Some(refusal) = first_offence(tasks, registry) {
         return Ok(Way {

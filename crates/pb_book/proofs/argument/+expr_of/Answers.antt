@@ -12,8 +12,9 @@ use Rattle.pb_expr.specs.declared.expr.Expr as Expr-of
 use Rattle.pb_expr.specs.declared.expr.Expr.{Expr, the_lemmas}
 use Rattle.pb_expr.proofs.Parsed.{are_simple-push}
 use Rattle.pb_book.specs.Reading.{as_record, holds_opening, items_of, some_field_holds, parts_of, value_of, with_item, with_part}
-use Rattle.pb_book.proofs.Built.{refused-exit, items_before, items_before-none, items_before-all, items_before-push, items_of-next, parts_before, parts_before-none, parts_before-all, parts_before-entry, insert-next, entry_names-push}
+use Rattle.pb_book.proofs.Built.{Gives-refused, items_before, items_before-none, items_before-all, items_before-push, items_of-next, parts_before, parts_before-none, parts_before-all, parts_before-entry, insert_entry-next, entry_names-push}
 use Rattle.pb_value.proofs.Views.{view-fields}
+use Rattle.pb_book.proofs.Openings.{opening_in-none}
 use Rattle.pb_book.proofs.Ordered.{entry_names}
 use Rattle.pb_book.proofs.Plain.{parts_simple-insert}
 use Rattle.pb_book.proofs.argument.+expr_of.Goals as goal
@@ -32,7 +33,7 @@ pub expr_of-returns-in_err-record_of-in-Rec-clause-given :
     goal.expr_of-returns-in_err-record_of-in-Rec-clause-given
 expr_of-returns-in_err-record_of-in-Rec-clause-given t c =
     let holding = record_of-holding c.args.value.now _ _ _ c.in-Rec.is (c.deref-in-Rec-2.ensures ∙ ap (λ w. w.parts) c.deref-in-Rec.ensures) c.holds_template.ensures c.if-not-holds_template.false in
-    refused-exit expr_view _ _ _ _ c.from_residual-in_err-record_of-in-Rec.ensures.1 c.in_err-record_of-in-Rec.ensures.given
+    Gives-refused expr_view _ _ _ _ c.from_residual-in_err-record_of-in-Rec.ensures.1 c.in_err-record_of-in-Rec.ensures.given
     (λ none. holding ∙ ap as_record none)
 
 pub expr_of-returns-in_ok-record_of-in-Rec-clause-given :
@@ -47,7 +48,7 @@ list_of-returns-in_err-expr_of-clause-given t c =
     let vs = c.args.items.now in
     let v = c.item-item.result in
     let rest = items_of (items_view (drop (l.item-index + 1) vs)) in
-    refused-exit (λ (parts : Vec Expr Global). exprs_view parts.items) _ _ (value_of (view v)) (items_of (items_view c.args.items.now)) c.from_residual-in_err-expr_of.ensures.1
+    Gives-refused (λ (parts : Vec Expr Global). exprs_view parts.items) _ _ (value_of (view v)) (items_of (items_view c.args.items.now)) c.from_residual-in_err-expr_of.ensures.1
     c.in_err-expr_of.ensures.given (λ none. l.invariant.given ∙ ap (items_before (exprs_view l.parts.items)) (items_of-next vs l.item-index v c.loop-item-test.true c.item-item.is ∙ ap (λ x. with_item x rest) none) ∙ items_before-none (exprs_view l.parts.items))
 
 pub list_of-loop-item-preserved : goal.list_of-loop-item-preserved
@@ -78,7 +79,7 @@ record_of-returns-in_err-expr_of-clause-given t c =
     let v = c.in-Some.value.now in
     let rest = parts_of (fields_view c.next.new.self) in
     let done = parts_view l.parts.entries in
-    refused-exit (λ (parts : BTreeMap (String Global) Expr). parts_view parts.entries) _ _ (value_of (view v)) (parts_of (fields_view c.args.fields.now.entries)) c.from_residual-in_err-expr_of.ensures.1
+    Gives-refused (λ (parts : BTreeMap (String Global) Expr). parts_view parts.entries) _ _ (value_of (view v)) (parts_of (fields_view c.args.fields.now.entries)) c.from_residual-in_err-expr_of.ensures.1
     c.in_err-expr_of.ensures.given (λ none. l.invariant.given ∙ ap (λ es. parts_before done (parts_of (fields_view es))) c.in-Some.ensures.steps ∙ ap (λ x. parts_before done (with_part name x rest)) none ∙ parts_before-none done)
 
 pub record_of-loop-name-preserved : goal.record_of-loop-name-preserved
@@ -92,7 +93,7 @@ record_of-loop-name-preserved t c =
     let done = parts_view l.parts.entries in
     let same : string_bytes k ≡ string_bytes first.0 = c.in_ok-name.ensures.cases in
     let named = ap (λ es. entry_names l.parts.entries ++ entry_names es) (sym c.in-Some.ensures.steps) ∙ l.invariant.named in
-    let all : c.insert.new.self.entries ≡ l.parts.entries ++ (k, e) ∷ [] = c.in_ok-insert.ensures.entries ∙ insert-next l.parts.entries k e first left c.args.fields.now.entries same named c.iter-name-items.ensures.ordered in record {
+    let all : c.insert.new.self.entries ≡ l.parts.entries ++ (k, e) ∷ [] = c.in_ok-insert.ensures.entries ∙ insert_entry-next l.parts.entries k e first left c.args.fields.now.entries same named c.iter-name-items.ensures.ordered in record {
       given = l.invariant.given ∙ ap (λ es. parts_before done (parts_of (fields_view es))) c.in-Some.ensures.steps ∙ ap (λ x. parts_before done (with_part (string_bytes first.0) x rest)) c.in_ok-expr_of.ensures.given
           ∙ ap (λ n. parts_before done (with_part n (Some (expr_view e)) rest)) (sym same) ∙ parts_before-entry l.parts.entries k e rest ∙ ap (λ es. parts_before (parts_view es) rest) (sym all);
       named = ap (λ es. entry_names es ++ entry_names left) all ∙ entry_names-push l.parts.entries k e first left same ∙ named;
@@ -104,3 +105,8 @@ record_of-returns-clause-given t c =
     let l = c.loop-name in
     let done = parts_view l.parts.entries in
     l.invariant.given ∙ ap (λ es. parts_before done (parts_of (fields_view es))) c.in-None.ensures.steps.0 ∙ parts_before-all done
+
+pub expr_of-returns-in_err-clone-clause-apart : goal.expr_of-returns-in_err-clone-clause-apart
+expr_of-returns-in_err-clone-clause-apart t c = λ at found.
+    let none = opening_in-none (view c.args.value.now) (sym c.holds_template.ensures ∙ c.if-not-holds_template.true) in
+    let clash = sym none ∙ found in cc

@@ -9,9 +9,9 @@ use Rattle.pb_book.specs.Meaning.{argument_parts}
 use Rattle.pb_book.specs.Reading.{argument_of, with_part}
 use Rattle.pb_book.specs.Reading as definition
 use Rattle.pb_book.specs.declared.book.Argument.{Argument}
-use Rattle.pb_book.proofs.Built.{refused-exit, parts_before, parts_before-none, parts_before-all, parts_before-argument}
+use Rattle.pb_book.proofs.Built.{Gives-refused, parts_before, parts_before-none, parts_before-all, parts_before-argument}
 use Rattle.pb_book.proofs.Ordered.{entry_names, are_ascending-entries, argument_names-push}
-use Rattle.pb_book.proofs.Plain.{arguments-push}
+use Rattle.pb_book.proofs.Plain.{parts_simple-push}
 use Rattle.pb_book.proofs.argument.arguments_of.Goals as goal
 
 pub returns-in_err-argument_value-clause-given : goal.returns-in_err-argument_value-clause-given
@@ -21,7 +21,7 @@ returns-in_err-argument_value-clause-given c =
     let v = c.in-Some.value.now in
     let rest = definition.arguments_of (fields_view c.next.new.self) in
     let done = argument_parts l.arguments.items in
-    refused-exit (λ (found : Vec Argument Global). argument_parts found.items) _ _ (argument_of (view v)) (definition.arguments_of (fields_view c.args.fields.now.entries))
+    Gives-refused (λ (found : Vec Argument Global). argument_parts found.items) _ _ (argument_of (view v)) (definition.arguments_of (fields_view c.args.fields.now.entries))
     c.from_residual-in_err-argument_value.ensures.1 c.in_err-argument_value.ensures.given
     (λ none. l.invariant.given ∙ ap (λ es. parts_before done (definition.arguments_of (fields_view es))) c.in-Some.ensures.steps ∙ ap (λ x. parts_before done (with_part name x rest)) none ∙ parts_before-none done)
 
@@ -39,7 +39,7 @@ loop-name-preserved c =
       given = l.invariant.given ∙ ap (λ es. parts_before done (definition.arguments_of (fields_view es))) c.in-Some.ensures.steps
           ∙ ap (λ x. parts_before done (with_part (string_bytes first.0) x rest)) c.in_ok-argument_value.ensures.given ∙ ap (λ n. parts_before done (with_part n (Some e) rest)) (sym same)
           ∙ parts_before-argument l.arguments.items a rest ∙ ap (λ found. parts_before (argument_parts found) rest) (sym all);
-      simple = ap (λ (found : List Argument). parts_simple (argument_parts found)) all ∙ arguments-push l.arguments.items a l.invariant.simple c.in_ok-argument_value.ensures.simple;
+      simple = ap (λ (found : List Argument). parts_simple (argument_parts found)) all ∙ parts_simple-push l.arguments.items a l.invariant.simple c.in_ok-argument_value.ensures.simple;
       named = ap (λ (found : List Argument). argument_names found ++ entry_names left) all ∙ argument_names-push l.arguments.items a first left same
           ∙ ap (λ es. argument_names l.arguments.items ++ entry_names es) (sym c.in-Some.ensures.steps) ∙ l.invariant.named;
     }

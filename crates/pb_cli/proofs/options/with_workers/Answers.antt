@@ -2,7 +2,7 @@ use Rattle.std.proofs.Common.{Some, ap, ◌∙◌}
 use Rattle.std.proofs.lemmas.Result.{IfOk-weaker}
 use Rattle.clap.specs.Words.{Rule, rule_of}
 use Rattle.pb_cli.specs.Options.{answers_rule, forks_rule, modules_rule}
-use Rattle.pb_cli.proofs.Commands.{Reads, three_more}
+use Rattle.pb_cli.proofs.Commands.{Reads, Extends-three}
 use Rattle.pb_cli.proofs.options.with_workers.Goals as goal
 
 pub returns : goal.returns
@@ -20,6 +20,6 @@ returns c =
       rule = ap rule_of c.help-3.ensures ∙ c.option-3.ensures.rule;
     } in
     IfOk-weaker c.arg-3.result _ _
-    (λ r third. three_more c.args.command c.in_ok-arg.field-0 c.in_ok-arg-2.field-0 r c.help.result c.help-2.result c.help-3.result forks_rule answers_rule modules_rule
+    (λ r third. Extends-three c.args.command c.in_ok-arg.field-0 c.in_ok-arg-2.field-0 r c.help.result c.help-2.result c.help-3.result forks_rule answers_rule modules_rule
     c.in_ok-arg.ensures c.in_ok-arg-2.ensures third forks answers modules)
     c.arg-3.ensures

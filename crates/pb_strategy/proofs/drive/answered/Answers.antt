@@ -1,7 +1,7 @@
 use Rattle.std.proofs.Common.{◌≡◌, ◌++◌, ◌∷◌, [], ◌+◌, take, sym, ap, subst, ◌∙◌, arith}
 use Rattle.std.proofs.lemmas.List.{take_more, take_all}
 use Rattle.pb_strategy.specs.Drives.{AreAnswered}
-use Rattle.pb_strategy.proofs.Drives.{answered_more}
+use Rattle.pb_strategy.proofs.Drives.{AreAnswered-push}
 use Rattle.pb_strategy.proofs.drive.answered.Goals as goal
 
 pub loop-call-preserved : goal.loop-call-preserved
@@ -10,7 +10,7 @@ loop-call-preserved g c =
     let calls = c.args.calls.now in
     let i = c.loop-call.call-index in
     let x = c.call-item.result in
-    let more = answered_more g.R.Runner.answers first (take i calls) c.loop-call.answers.items c.loop-call.runner x c.call.result c.call.new.self c.loop-call.invariant.answered c.call.ensures.answered in
+    let more = AreAnswered-push g.R.Runner.answers first (take i calls) c.loop-call.answers.items c.loop-call.runner x c.call.result c.call.new.self c.loop-call.invariant.answered c.call.ensures.answered in
     let longer : take i calls ++ x ∷ [] ≡ take (i + 1) calls = ap (λ y. take i calls ++ y ∷ []) c.call-item.is ∙ sym (take_more calls i x c.loop-call-test.true) in record {
       made = omega (arith, c.call.ensures.made, c.loop-call.invariant.made);
       answered = subst (λ cs. AreAnswered g.R.Runner.answers first cs c.push.new.self.items c.call.new.self) longer

@@ -7,8 +7,8 @@ use Rattle.pb_strategy.specs.declared.answer.Job.{Job}
 use Rattle.pb_strategy.specs.declared.event.Event.TheVariants.{Start, Give}
 use Rattle.pb_strategy.specs.declared.event.Taken.{Taken}
 use Rattle.pb_strategy.specs.declared.event.Taken.TheVariants as taken
-use Rattle.pb_strategy.proofs.Drives.{IsQuiet, no_job, quiet}
-use Rattle.pb_strategy.proofs.Histories.{stop_keeps, stopped_over}
+use Rattle.pb_strategy.proofs.Drives.{IsQuiet, is_job-none, IsQuiet-taken}
+use Rattle.pb_strategy.proofs.Histories.{checked-stop, is_over-stopped}
 use Rattle.pb_strategy.proofs.drive.drive.Goals as goal
 
 over_or_out : (r s : RunState) (t : Taken) → ((j : Job) → t ≡ taken.Job j → ⊥) → IsQuiet r s → (t ≡ taken.Finished → is_over s ≡ true) → (t ≡ taken.Stopped → is_stopped r.history ≡ true)
@@ -22,8 +22,8 @@ pub returns-in_default : goal.returns-in_default
 returns-in_default g c =
     let e = c.in-Ok.ensures in
     let i = c.loop-turn.invariant in
-    let none = no_job c.in-Ok.taken c.in_default.not-Job in
-    let q = quiet c.loop-turn.run c.take.new.self c.in-Ok.taken none e.taken in record {
+    let none = is_job-none c.in-Ok.taken c.in_default.not-Job in
+    let q = IsQuiet-taken c.loop-turn.run c.take.new.self c.in-Ok.taken none e.taken in record {
       sound = e.sound;
       driven = i.driven c.take.new.self c.loop-turn.runner (ends c.in-Ok.taken none e.taken);
       book = (q.checked ∙ i.checked, q.forks ∙ i.forks);
@@ -36,13 +36,13 @@ pub returns-in-Err : goal.returns-in-Err
 returns-in-Err g c =
     let i = c.loop-turn.invariant in
     let e = c.stop-in-Err.ensures in
-    let kept = stop_keeps c.take.new.self c.stop-in-Err.new.self e.going e.over in
+    let kept = checked-stop c.take.new.self c.stop-in-Err.new.self e.going e.over in
     let same : c.take.new.self ≡ c.loop-turn.run = c.in-Err.ensures.err in record {
       sound = e.sound;
       driven = tt;
       book = (kept.0 ∙ ap (λ r. r.checked) same ∙ i.checked, kept.1 ∙ ap (λ r. r.forks) same ∙ i.forks);
       ends = tt;
-      stopped = stopped_over c.take.new.self c.stop-in-Err.new.self e.going e.over;
+      stopped = is_over-stopped c.take.new.self c.stop-in-Err.new.self e.going e.over;
       made = tt;
     }
 
@@ -50,14 +50,14 @@ pub returns-in-Err-step : goal.returns-in-Err-step
 returns-in-Err-step g c =
     let i = c.loop-turn.invariant in
     let e = c.stop.ensures in
-    let kept = stop_keeps c.step.new.run c.stop.new.self e.going e.over in
+    let kept = checked-stop c.step.new.run c.stop.new.self e.going e.over in
     let begun = (rw c.in-Job.is at c.in-Ok.ensures.taken).run in
     let book = c.in-Err-step.ensures.book in record {
       sound = e.sound;
       driven = tt;
       book = (kept.0 ∙ book.0 ∙ ap (λ r. r.checked) begun ∙ i.checked, kept.1 ∙ book.1 ∙ ap (λ r. r.forks) begun ∙ i.forks);
       ends = tt;
-      stopped = stopped_over c.step.new.run c.stop.new.self e.going e.over;
+      stopped = is_over-stopped c.step.new.run c.stop.new.self e.going e.over;
       made = tt;
     }
 

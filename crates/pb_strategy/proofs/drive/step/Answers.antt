@@ -1,6 +1,6 @@
 use Rattle.std.proofs.Common.{subst}
 use Rattle.pb_strategy.specs.Drives.{AreAnswered}
-use Rattle.pb_strategy.proofs.Drives.{after_give}
+use Rattle.pb_strategy.proofs.Drives.{IsAfterGive-given}
 use Rattle.pb_strategy.proofs.drive.step.Goals as goal
 
 pub returns-in-Ok-clause-given : goal.returns-in-Ok-clause-given
@@ -9,5 +9,5 @@ returns-in-Ok-clause-given g c =
     let e = c.give.ensures in (
       x.answers,
       subst (λ cs. AreAnswered g.R.Runner.answers c.args.runner.now cs x.answers.items c.answered.new.runner) c.deref.ensures.value x.ensures.answered,
-      after_give c.args.job.host x.answers c.args.run.now c.give.new.self c.in-Ok.ensures.done e.book.0 e.book.1 e.handed,
+      IsAfterGive-given c.args.job.host x.answers c.args.run.now c.give.new.self c.in-Ok.ensures.done e.book.0 e.book.1 e.handed,
     )

@@ -5,13 +5,13 @@ use Rattle.pb_language.specs.Setting.{names_list}
 use Rattle.pb_value.specs.View.{view, items_of, items_view}
 use Rattle.pb_value.specs.declared.value.Value.{the_lemmas}
 use Rattle.pb_value.specs.declared.value.Value.TheVariants.{Text}
-use Rattle.pb_strategy.proofs.HostFields.{names_items}
+use Rattle.pb_strategy.proofs.HostFields.{items_of-names}
 use Rattle.pb_strategy.proofs.host.list_of.Goals as goal
 
 pub returns : goal.returns
 returns c =
     let all = take_all c.loop-name.name-index c.args.names.now (omega arith) in
-    let same : items_view c.loop-name.items.items ≡ names_list (map (λ g. string_bytes g.value) c.args.names.now) = ap items_of (rw all at c.loop-name.invariant) ∙ names_items (λ g. string_bytes g.value) c.args.names.now in
+    let same : items_view c.loop-name.items.items ≡ names_list (map (λ g. string_bytes g.value) c.args.names.now) = ap items_of (rw all at c.loop-name.invariant) ∙ items_of-names (λ g. string_bytes g.value) c.args.names.now in
     rw same at c.of_items.ensures
 
 pub loop-name-preserved : goal.loop-name-preserved

@@ -8,7 +8,7 @@ use Rattle.pb_expr.specs.OwnWorld.{own_world, shown}
 use Rattle.pb_book.specs.Meaning.{argument_parts}
 use Rattle.pb_book.specs.declared.book.Argument.{Argument}
 use Rattle.pb_strategy.specs.OwnNames.{own_fields}
-use Rattle.pb_strategy.proofs.Starts.{call_planned}
+use Rattle.pb_strategy.proofs.Starts.{planned-call}
 use Rattle.pb_strategy.proofs.outcome.begun.Goals as goal
 
 pub returns-in_ok-clone-in-Module-2 : goal.returns-in_ok-clone-in-Module-2
@@ -16,7 +16,7 @@ returns-in_ok-clone-in-Module-2 c = λ ms ps h.
     let w = own_world (own_fields c.args.state.now.vars) in
     let xs = argument_parts c.args.task.now.arguments.items in
     let qs = (module_named (string_bytes c.in-Module.module.value) ms).params in
-    let called = call_planned (eval_arguments w qs xs) (eval_parts w xs) (view c.in_ok-arguments.arguments) ps (arguments_worth w qs xs) (c.in_ok-arguments.ensures ∙ ap (λ (ys : List Argument). shown (eval_parts w (argument_parts ys))) c.deref.ensures.value) (rw c.in-Module.is at h) in
+    let called = planned-call (eval_arguments w qs xs) (eval_parts w xs) (view c.in_ok-arguments.arguments) ps (arguments_worth w qs xs) (c.in_ok-arguments.ensures ∙ ap (λ (ys : List Argument). shown (eval_parts w (argument_parts ys))) c.deref.ensures.value) (rw c.in-Module.is at h) in
     let named : string_bytes c.in_ok-clone-in-Module.field-0.value ≡ string_bytes c.args.state.now.name.value = ap (λ (s : String Global). string_bytes s) c.in_ok-clone-in-Module.ensures.cases in
     let asked : string_bytes c.in_ok-clone-in-Module-2.field-0.value ≡ string_bytes c.in-Module.module.value = ap (λ (s : String Global). string_bytes s) c.in_ok-clone-in-Module-2.ensures.cases in
     ((view c.in_ok-arguments.arguments, called), rw (c.in-Module.is, called, named, asked) refl)

@@ -10,7 +10,7 @@ use Rattle.pb_value.specs.declared.value.Value.{Value}
 use Rattle.pb_sig.specs.Modules.{modules_of}
 use Rattle.pb_book.specs.Meaning.{plain_task}
 use Rattle.pb_strategy.specs.Events.{answer_data}
-use Rattle.pb_strategy.proofs.Finishes.{writes_with}
+use Rattle.pb_strategy.proofs.Finishes.{append_fields-writes}
 use Rattle.pb_strategy.proofs.outcome.finish.Goals as goal
 
 pub returns-in_ok-ended-in-Skipped : goal.returns-in_ok-ended-in-Skipped
@@ -33,5 +33,5 @@ returns-in_ok-add_all-in-Facts c = λ ps q h r ts.
     let written : fields_view c.add_all.new.writes.items ≡ result_writes t.register (rec action_fields) fs = c.in_ok-add_all-in-Facts.ensures
     ∙ ap (λ ws. append_fields ws (fields_view c.deref-in-Facts.result.now.entries)) c.in_ok-outcome-in-Facts.ensures.writes
     ∙ ap (λ (m : BTreeMap (String Global) Value). append_fields (result_writes t.register (rec action_fields) no_fields) (fields_view m.entries)) (c.deref-in-Facts.ensures ∙ ap (λ w. w.parts) c.deref.ensures)
-    ∙ writes_with t.register (rec action_fields) fs in
+    ∙ append_fields-writes t.register (rec action_fields) fs in
     (r.failure, rw (here, c.in_ok-outcome-in-Facts.ensures.ending, written) (act_gives (modules_of c.args.registry.now) h r t ts (map answer_data c.args.answers.now) fs))

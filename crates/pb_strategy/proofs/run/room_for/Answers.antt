@@ -1,14 +1,14 @@
 use Rattle.std.proofs.Common.{refl, ◌∙◌, arith}
 use Rattle.std.proofs.lemmas.Option.{get_or_from_slice_get, slice_get_past, slice_get_within}
-use Rattle.pb_strategy.proofs.Jobs.{tickets_kept}
-use Rattle.pb_strategy.proofs.Tallies.{recaps_kept}
+use Rattle.pb_strategy.proofs.Jobs.{tickets_of-kept}
+use Rattle.pb_strategy.proofs.Tallies.{recaps_of-kept}
 use Rattle.pb_strategy.proofs.run.room_for.Goals as goal
 
 pub returns-in-Some-clause-recaps : goal.returns-in-Some-clause-recaps
-returns-in-Some-clause-recaps c = recaps_kept c.args.hosts.now.items c.args.host c.in-Some.state.now _ c.in-Some.ensures.value refl
+returns-in-Some-clause-recaps c = recaps_of-kept c.args.hosts.now.items c.args.host c.in-Some.state.now _ c.in-Some.ensures.value refl
 
 pub returns-in-Some-clause-tickets : goal.returns-in-Some-clause-tickets
-returns-in-Some-clause-tickets c = tickets_kept c.args.hosts.now.items c.args.host c.in-Some.state.now _ c.in-Some.ensures.value refl
+returns-in-Some-clause-tickets c = tickets_of-kept c.args.hosts.now.items c.args.host c.in-Some.state.now _ c.in-Some.ensures.value refl
 
 pub returns-in-Some-clause-kept : goal.returns-in-Some-clause-kept
 returns-in-Some-clause-kept c = λ s e.

@@ -6,14 +6,14 @@ use Rattle.pb_semantics.specs.Signature.{is_shape, has_message}
 use Rattle.pb_semantics.proofs.Bools.{and-left}
 use Rattle.pb_value.specs.KindView.{kind_view, slots_view}
 use Rattle.pb_value.proofs.Views.{kind_view-Rec}
-use Rattle.pb_verify.proofs.ResultShapes.{unfailed}
+use Rattle.pb_verify.proofs.ResultShapes.{is_listed-failed}
 use Rattle.pb_verify.proofs.results.failed_result.Goals as goal
 
 pub failed_kind-requires : goal.failed_kind-requires
 failed_kind-requires c =
     let view : kind_view c.fail_shape.result.now ≡ recs (slots_view c.deref-in-Rec.result.now.entries) = ap kind_view c.in-Rec.is ∙ kind_view-Rec c.in-Rec.fields ∙ rw (c.deref-in-Rec.ensures, c.deref.ensures) refl in
     let shape : is_shape (kind_view c.fail_shape.result.now) ≡ true = and-left (is_shape (kind_view c.fail_shape.result.now)) (has_message (kind_view c.fail_shape.result.now)) c.fail_shape.ensures.lawful in
-    unfailed (slots_view c.deref-in-Rec.result.now.entries) (ap is_shape (sym view) ∙ shape)
+    is_listed-failed (slots_view c.deref-in-Rec.result.now.entries) (ap is_shape (sym view) ∙ shape)
 
 pub returns : goal.returns
 returns c =

@@ -5,13 +5,13 @@ use Rattle.pb_language.specs.Cases.{slots_of}
 use Rattle.pb_semantics.specs.Signature.{is_shape}
 use Rattle.pb_value.specs.KindView.{kind_view, slots_view}
 use Rattle.pb_value.proofs.Views.{kind_view-Rec}
-use Rattle.pb_verify.proofs.ResultShapes.{unfailed}
+use Rattle.pb_verify.proofs.ResultShapes.{is_listed-failed}
 use Rattle.pb_verify.proofs.results.going_results.Goals as goal
 
 pub of-requires : goal.of-requires
 of-requires c =
     let view : kind_view c.ok_shape.result.now ≡ recs (slots_view c.deref-in-Rec.result.now.entries) = ap kind_view c.in-Rec.is ∙ kind_view-Rec c.in-Rec.fields ∙ rw (c.deref-in-Rec.ensures, c.deref.ensures) refl in
-    unfailed (slots_view c.deref-in-Rec.result.now.entries) (ap is_shape (sym view) ∙ c.ok_shape.ensures.lawful)
+    is_listed-failed (slots_view c.deref-in-Rec.result.now.entries) (ap is_shape (sym view) ∙ c.ok_shape.ensures.lawful)
 
 pub returns-clause-ran : goal.returns-clause-ran
 returns-clause-ran c =

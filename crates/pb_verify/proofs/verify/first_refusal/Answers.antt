@@ -9,7 +9,7 @@ use Rattle.pb_sig.specs.Modules.{modules_of}
 use Rattle.pb_inventory.specs.Inventory.{inventory_view}
 use Rattle.pb_book.specs.Meaning.{plain_tasks}
 use Rattle.pb_verify.specs.Meaning.{refusal_of, or_later}
-use Rattle.pb_verify.proofs.Lone.{first_is, one_group}
+use Rattle.pb_verify.proofs.Lone.{name-first, length-groups}
 use Rattle.pb_verify.proofs.verify.first_refusal.Goals as goal
 
 pub returns-clause-refusal : goal.returns-clause-refusal
@@ -18,18 +18,18 @@ returns-clause-refusal c =
     let ms = modules_of c.args.registry.now in
     let ts = plain_tasks c.args.tasks.now in
     let name = c.host_name-name.result.now in
-    let stands = c.in_ok-environment.ensures (one_group (λ n. string_bytes n.value) v c.args.inventory.now.lone c.group_names.result.now c.group_names.ensures) in
+    let stands = c.in_ok-environment.ensures (length-groups (λ n. string_bytes n.value) v c.args.inventory.now.lone c.group_names.result.now c.group_names.ensures) in
     let ruled = ap (λ o. or_later o (plain_flow ms name 0 no_slots ts)) c.in_default.ensures in
     IfOk-weaker c.way_of.result _ _ (λ w found h e.
     subst (λ x. option_map refusal_of w.refusal ≡ or_later (plain_rules ms ts) (plain_flow ms x 0 no_slots ts))
-    (first_is v c.args.inventory.now.lone h name e c.host_name-name.ensures) (found stands ∙ ruled))
+    (name-first v c.args.inventory.now.lone h name e c.host_name-name.ensures) (found stands ∙ ruled))
     c.way_of.ensures.refusal
 
 pub returns-clause-known : goal.returns-clause-known
 returns-clause-known c =
     let v = inventory_view c.args.inventory.now in
-    let stands = c.in_ok-environment.ensures (one_group (λ n. string_bytes n.value) v c.args.inventory.now.lone c.group_names.result.now c.group_names.ensures) in
+    let stands = c.in_ok-environment.ensures (length-groups (λ n. string_bytes n.value) v c.args.inventory.now.lone c.group_names.result.now c.group_names.ensures) in
     IfOk-weaker c.way_of.result _ _ (λ w found h e n.
     subst (λ x. Joins (plain_writes (modules_of c.args.registry.now) x 0 no_slots (plain_tasks c.args.tasks.now)) (slots_view w.known.entries))
-    (first_is v c.args.inventory.now.lone h c.host_name-name.result.now e c.host_name-name.ensures) (found stands n))
+    (name-first v c.args.inventory.now.lone h c.host_name-name.result.now e c.host_name-name.ensures) (found stands n))
     c.way_of.ensures.known

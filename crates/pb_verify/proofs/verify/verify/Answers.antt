@@ -1,6 +1,7 @@
-use Rattle.std.proofs.Common.{◌≡◌, refl, sym, ap, ◌∙◌, subst}
+use Rattle.std.proofs.Common.{◌≡◌, Err, refl, sym, ap, ◌∙◌, subst}
 use Rattle.std.proofs.lemmas.Bool.{eq-eqb}
 use Rattle.std.proofs.lemmas.Result.{err_from_is_err_and}
+use Rattle.pb_semantics.proofs.Bools.{true-false}
 use Rattle.pb_semantics.specs.Gives.{FaultGives}
 use Rattle.pb_language.specs.Judged.{judged}
 use Rattle.pb_language.specs.Verdict.{Verdict, accepted}
@@ -9,9 +10,10 @@ use Rattle.pb_inventory.specs.Inventory.{inventory_view}
 use Rattle.pb_book.specs.Books.{book_of, plain_plays}
 use Rattle.pb_value.specs.KindView.{slots_view}
 use Rattle.pb_verify.specs.Known.{IsTable}
-use Rattle.pb_verify.specs.Judges.{refused_verdict}
+use Rattle.pb_verify.specs.Judges.{refused_verdict, refuses_without_host}
 use Rattle.pb_verify.specs.Meaning.{inventory_of}
 use Rattle.pb_verify.specs.declared.checked.Accepted.{Accepted}
+use Rattle.pb_verify.specs.declared.verify.VerifyFault.TheVariants as fault
 use Rattle.pb_verify.proofs.verify.verify.Goals as goal
 
 pub returns-in_err-budget-clause-verdict : goal.returns-in_err-budget-clause-verdict
@@ -36,3 +38,18 @@ returns-clause-verdict c =
 pub of-requires-clause-table : goal.of-requires-clause-table
 of-requires-clause-table c =
     subst (λ b. IsTable (modules_of c.args.registry) (inventory_of (inventory_view c.args.inventory)) b (slots_view c.in_ok-budget.field-0.known.entries)) (ap plain_plays c.plays.ensures) c.in_ok-budget.ensures.known
+
+pub returns-in_err-budget-clause-apart : goal.returns-in_err-budget-clause-apart
+returns-in_err-budget-clause-apart c = λ refuses memory.
+    let p = err_from_is_err_and c.from_residual.result c.from_residual.ensures.1 in
+    let here = p.1 in
+    let same = p.2 in
+    let is : c.in_err-budget.field-0.0 ≡ fault.NoMemory = cc in
+    let judge = judged (modules_of c.args.registry) (inventory_of (inventory_view c.args.inventory)) in
+    c.in_err-budget.ensures.apart (ap (λ ps. refuses_without_host (judge (plain_plays ps))) c.plays.ensures ∙ refuses) (ap (λ e. Err e) is)
+
+pub returns-in_err-of-clause-apart : goal.returns-in_err-of-clause-apart
+returns-in_err-of-clause-apart c = λ refuses memory.
+    let judge = judged (modules_of c.args.registry) (inventory_of (inventory_view c.args.inventory)) in
+    let verdict = sym (ap (λ ps. judge (plain_plays ps)) c.plays.ensures) ∙ c.in_ok-budget.ensures.verdict in
+    true-false _ refuses (ap refuses_without_host verdict)

@@ -7,7 +7,7 @@ use Rattle.pb_expr.specs.FitView.{own_scope}
 use Rattle.pb_expr.proofs.Turns.{drop-at}
 use Rattle.pb_book.specs.Meaning.{argument_parts}
 use Rattle.pb_verify.specs.Way.{sets_of}
-use Rattle.pb_verify.proofs.WalkSets.{sets_then, sets_alone}
+use Rattle.pb_verify.proofs.WalkSets.{append_sets-push, append_sets-none}
 use Rattle.pb_verify.proofs.walk.sets_asked.Goals as goal
 
 pub loop-argument-preserved : goal.loop-argument-preserved
@@ -22,7 +22,7 @@ loop-argument-preserved c =
     let inv = c.loop-argument.invariant in
     record {
       faults = ap (λ f. first f (fields_fault s rest)) (sym c.in_ok-kind.ensures.fault) ∙ ap (λ es. fields_fault s (argument_parts es)) (sym next) ∙ inv.faults;
-      sets = λ a. ap (λ es. append_sets (sets_of a es) (parts_set s a rest)) c.in_ok-push.ensures.items ∙ sets_then a set c.in_ok-clone.field-0 c.in_ok-kind.kind (parts_set s a rest)
+      sets = λ a. ap (λ es. append_sets (sets_of a es) (parts_set s a rest)) c.in_ok-push.ensures.items ∙ append_sets-push a set c.in_ok-clone.field-0 c.in_ok-kind.kind (parts_set s a rest)
           ∙ ap (λ n. append_sets (sets_of a set) (sets n a (kind_view c.in_ok-kind.kind) (parts_set s a rest))) (ap string_bytes c.in_ok-clone.ensures.cases)
           ∙ ap (λ k. append_sets (sets_of a set) (sets (string_bytes e.name.value) a k (parts_set s a rest))) c.in_ok-kind.ensures.kind
           ∙ ap (λ es. append_sets (sets_of a set) (parts_set s a (argument_parts es))) (sym next) ∙ inv.sets a;
@@ -32,5 +32,5 @@ pub returns-clause-sets : goal.returns-clause-sets
 returns-clause-sets c a =
     let s = own_scope (slots_view c.args.environment.now.entries) in
     let past = drop_all c.loop-argument.argument-index c.args.arguments.now c.loop-argument-test.false in
-    sym (sets_alone (sets_of a c.loop-argument.sets.items))
+    sym (append_sets-none (sets_of a c.loop-argument.sets.items))
     ∙ ap (λ es. append_sets (sets_of a c.loop-argument.sets.items) (parts_set s a (argument_parts es))) (sym past) ∙ c.loop-argument.invariant.sets a

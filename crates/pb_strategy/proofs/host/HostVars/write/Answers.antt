@@ -6,7 +6,7 @@ use Rattle.pb_semantics.specs.Data.{field_value}
 use Rattle.pb_language.specs.plain.Gives.{put_all}
 use Rattle.pb_language.proofs.PlainGives.{put_all_at}
 use Rattle.pb_value.specs.View.{fields_view}
-use Rattle.pb_strategy.proofs.HostFields.{insert_same}
+use Rattle.pb_strategy.proofs.HostFields.{AreSame-insert}
 use Rattle.pb_strategy.proofs.host.HostVars.write.Goals as goal
 
 pub loop-name-preserved : goal.loop-name-preserved
@@ -17,6 +17,6 @@ loop-name-preserved c =
     record {
       names = c.loop-name.invariant.names;
       room = omega (arith, ap length left, c.loop-name.invariant.room, c.insert.ensures.spare);
-      values = λ p. rw put (put_all_at p (fields_view c.next.new.self.rest.items) _ _ (insert_same c.loop-name.self.values.entries c.in-Some.name c.in-Some.value))
+      values = λ p. rw put (put_all_at p (fields_view c.next.new.self.rest.items) _ _ (AreSame-insert c.loop-name.self.values.entries c.in-Some.name c.in-Some.value))
           ∙ ap (λ es. field_value p (put_all (fields_view es) (fields_view c.loop-name.self.values.entries))) (sym left) ∙ c.loop-name.invariant.values p;
     }

@@ -4,9 +4,9 @@ use Rattle.pb_inventory.specs.Inventory.{inventory_view}
 use Rattle.pb_book.specs.Books.{plays_of}
 use Rattle.pb_strategy.specs.History.{has_no_plays}
 use Rattle.pb_strategy.specs.Recaps.{nothing}
-use Rattle.pb_strategy.proofs.Histories.{or-false, same_machine}
-use Rattle.pb_strategy.proofs.Jobs.{none_out}
-use Rattle.pb_strategy.proofs.Openings.{opening_machine}
+use Rattle.pb_strategy.proofs.Histories.{or-false, IsMachine-same}
+use Rattle.pb_strategy.proofs.Jobs.{get_or-none}
+use Rattle.pb_strategy.proofs.Openings.{IsMachine-opening}
 use Rattle.pb_strategy.proofs.Tallies.{tally-opening}
 use Rattle.pb_strategy.proofs.run.Run.open.Goals as goal
 
@@ -23,10 +23,10 @@ invariant_of-run c =
           ∙ ap (λ k. length (inventory_view k.inventory).hosts) (sym copy);
       tally = rw recaps (tally-opening count c.in_ok-opening_history.field-0.items none);
       handed = omega (arith, c.in_ok-opening_hosts.ensures.handed);
-      tickets = λ k. rw (none, c.in_ok-opening_hosts.ensures.tickets) (none_out count k);
+      tickets = λ k. rw (none, c.in_ok-opening_hosts.ensures.tickets) (get_or-none count k);
       skipped = c.in_ok-new.ensures.skipped;
       unchanged = c.in_ok-new.ensures.unchanged;
-      machine = same_machine c.args.checked.now _ c.args.forks c.args.forks [] _ _ _ _ copy refl none refl
-          (opening_machine c.args.checked.now c.args.forks _ _ c.in_ok-opening_hosts.ensures.opening c.opening_phase.ensures.ended c.opening_phase.ensures.going c.opening_phase.ensures.accepted c.opening_phase.ensures.known);
+      machine = IsMachine-same c.args.checked.now _ c.args.forks c.args.forks [] _ _ _ _ copy refl none refl
+          (IsMachine-opening c.args.checked.now c.args.forks _ _ c.in_ok-opening_hosts.ensures.opening c.opening_phase.ensures.ended c.opening_phase.ensures.going c.opening_phase.ensures.accepted c.opening_phase.ensures.known);
       forks = c.requires;
     }

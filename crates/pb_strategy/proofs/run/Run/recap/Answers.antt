@@ -3,7 +3,7 @@ use Rattle.pb_strategy.specs.Events.{recap_data}
 use Rattle.pb_strategy.specs.History.{state_of}
 use Rattle.pb_strategy.specs.Inside.{recaps_of}
 use Rattle.pb_strategy.specs.Tally.{recap_of}
-use Rattle.pb_strategy.proofs.Nexts.{recap_same}
+use Rattle.pb_strategy.proofs.Nexts.{recap_data-same}
 use Rattle.pb_strategy.proofs.run.Run.recap.Goals as goal
 
 pub returns-clause-value : goal.returns-clause-value
@@ -13,4 +13,4 @@ pub returns-clause-counts : goal.returns-clause-counts
 returns-clause-counts c = rw (returns-clause-value c, ← c.self.view_is) (c.self.invariant.tally.counts c.args.host)
 
 pub returns-clause-defined : goal.returns-clause-defined
-returns-clause-defined c = ap recap_data (returns-clause-value c) ∙ recap_same c.args.self.now.recaps (state_of c.args.self.now).hosts c.args.host c.known.ensures.recaps
+returns-clause-defined c = ap recap_data (returns-clause-value c) ∙ recap_data-same c.args.self.now.recaps (state_of c.args.self.now).hosts c.args.host c.known.ensures.recaps

@@ -4,7 +4,7 @@ use Rattle.pb_value.specs.Found.{spot_view}
 use Rattle.pb_value.specs.KindView.{slots_view}
 use Rattle.pb_verify.specs.Known.{AreAlike, HasTable, known_spot}
 use Rattle.pb_verify.specs.declared.checked.Accepted.{Accepted}
-use Rattle.pb_verify.proofs.KnownTables.{known_here}
+use Rattle.pb_verify.proofs.KnownTables.{slot_at-known}
 use Rattle.pb_verify.proofs.checked.Checked.view.Goals as goal
 
 pub returns-in-Some : goal.returns-in-Some
@@ -14,7 +14,7 @@ returns-in-Some c =
     let table = subst HasTable c.self.view_is c.self.invariant.1.1 in
     let found : spot_view (Some c.in-Some.slot) ≡ slot_at n (slots_view a.known.entries) =
     ap spot_view (sym c.in-Some.is) ∙ c.find.ensures ∙ ap (λ (x : Accepted). slot_at n (slots_view x.known.entries)) (c.deref.ensures ∙ c.self.view_is) in
-    subst (λ (s : Spot). AreAlike s (known_spot a c.args.host n)) (sym found) (known_here a table c.args.host n c.requires)
+    subst (λ (s : Spot). AreAlike s (known_spot a c.args.host n)) (sym found) (slot_at-known a table c.args.host n c.requires)
 
 pub returns-in-None : goal.returns-in-None
 returns-in-None c =
@@ -23,4 +23,4 @@ returns-in-None c =
     let table = subst HasTable c.self.view_is c.self.invariant.1.1 in
     let found : spot_view None ≡ slot_at n (slots_view a.known.entries) =
     ap spot_view (sym c.in-None.is) ∙ c.find.ensures ∙ ap (λ (x : Accepted). slot_at n (slots_view x.known.entries)) (c.deref.ensures ∙ c.self.view_is) in
-    subst (λ (s : Spot). AreAlike s (known_spot a c.args.host n)) (sym found) (known_here a table c.args.host n c.requires)
+    subst (λ (s : Spot). AreAlike s (known_spot a c.args.host n)) (sym found) (slot_at-known a table c.args.host n c.requires)

@@ -6,7 +6,7 @@ use Rattle.pb_book.specs.Lines.{is_known}
 use Rattle.pb_book.specs.Meaning.{work_of}
 use Rattle.pb_verify.specs.ResultTables.{entry_listed, listed_at, module_listed}
 use Rattle.pb_verify.specs.Way.{work_result}
-use Rattle.pb_verify.proofs.ResultShapes.{module_entry_found, going_kind, own_kind}
+use Rattle.pb_verify.proofs.ResultShapes.{listed_at-module, work_result-module, result_kind-own}
 use Rattle.pb_verify.proofs.results.ResultTable.kind.Goals as goal
 
 pub returns-in-Some : goal.returns-in-Some
@@ -18,10 +18,10 @@ returns-in-Some c =
     (λ k e ms l h.
     let known = subst (λ w. is_known ms w ≡ true) c.in-Module.is h in
     let found : Some listed ≡ Some (module_listed (module_named n ms)) =
-    module_entry_found n (map entry_listed c.args.self.now.modules.items) ms (Some listed)
+    listed_at-module n (map entry_listed c.args.self.now.modules.items) ms (Some listed)
     (ap (option_map (λ e. entry_listed e.now)) (sym c.in-Some.is) ∙ c.find.ensures ∙ ap (λ m. listed_at m (map entry_listed c.args.self.now.modules.items)) named) l.modules known in
     let same : listed ≡ module_listed (module_named n ms) = cc in
-    e ∙ going_kind listed _ c.args.may_skip n ms no_parts same (c.kind.ensures ∙ own_kind c.in-Some.entry.now.results c.args.may_skip) ∙ ap (λ w. work_result ms c.args.may_skip (work_of w no_parts)) (sym c.in-Module.is))
+    e ∙ work_result-module listed _ c.args.may_skip n ms no_parts same (c.kind.ensures ∙ result_kind-own c.in-Some.entry.now.results c.args.may_skip) ∙ ap (λ w. work_result ms c.args.may_skip (work_of w no_parts)) (sym c.in-Module.is))
     (λ y e. tt)
 
 pub returns-in-None : goal.returns-in-None
@@ -30,6 +30,6 @@ returns-in-None c ms l h =
     let named = c.as_str.ensures.value ∙ ap string_bytes c.deref.ensures in
     let known = subst (λ w. is_known ms w ≡ true) c.in-Module.is h in
     let found : None ≡ Some (module_listed (module_named n ms)) =
-    module_entry_found n (map entry_listed c.args.self.now.modules.items) ms None
+    listed_at-module n (map entry_listed c.args.self.now.modules.items) ms None
     (ap (option_map (λ e. entry_listed e.now)) (sym c.in-None.is) ∙ c.find.ensures ∙ ap (λ m. listed_at m (map entry_listed c.args.self.now.modules.items)) named) l.modules known in
     cc

@@ -5,12 +5,14 @@ import subprocess
 import tempfile
 import threading
 import time
-from dataclasses import dataclass, field
+from dataclasses import dataclass, field, replace
 from typing import Callable, Optional
 
 TIMEOUT = 20
 FOLDER = object()  # stands for a folder, in the place of a file's bytes
 PAUSE = 0.02
+TIMES = 3
+GLANCE = 0.001
 
 
 @dataclass(frozen=True)
@@ -25,9 +27,13 @@ class Outcome:
     status: int
     stdout: bytes
     stderr: bytes
+    seconds: float = 0.0  # of the processor's time
+    megabytes: float = 0.0  # at most, in memory
+    growth: float = 0.0  # see Growth
 
     def __str__(self):
-        return f"status {self.status}, stdout {short(self.stdout)}, stderr {short(self.stderr)}"
+        used = f"{self.seconds:.3f} s, {self.megabytes:.0f} MB, growth {self.growth:.2f}"
+        return f"status {self.status}, stdout {short(self.stdout)}, stderr {short(self.stderr)}, {used}"
 
 
 @dataclass
@@ -37,6 +43,26 @@ class Check:
     judge: Callable  # of an Outcome: an empty text where it is as wanted, else what is wanted
     files: dict = field(default_factory=dict)  # name to content, see bytes_of
     stdout: Optional[str] = None  # a file that takes the standard output
+
+    def run(self, program):
+        return outcome_of(program, self)
+
+
+@dataclass
+class Growth(Check):
+    """How many times as long it takes where its files are larger: the least of some runs of each."""
+
+    larger: dict = field(default_factory=dict)
+
+    def run(self, program):
+        small = fastest(program, self)
+        large = fastest(program, replace(self, files=self.larger))
+        large.growth = large.seconds / small.seconds
+        return large
+
+
+def fastest(program, check):
+    return min((outcome_of(program, check) for _ in range(TIMES)), key=lambda outcome: outcome.seconds)
 
 
 def short(data, most=300):
@@ -87,18 +113,44 @@ def feed(path, texts):
 
 
 def outcome_of(program, check):
-    with tempfile.TemporaryDirectory() as folder:
+    with tempfile.TemporaryDirectory() as folder, tempfile.TemporaryFile() as said, tempfile.TemporaryFile() as told:
         write_files(folder, check.files)
         with open(check.stdout or os.devnull, "wb") as taken:
-            done = subprocess.run(
+            child = subprocess.Popen(
                 [program, *check.words],
                 cwd=folder,
                 stdin=subprocess.DEVNULL,
-                stdout=taken if check.stdout else subprocess.PIPE,
-                stderr=subprocess.PIPE,
-                timeout=TIMEOUT,
+                stdout=taken if check.stdout else said,
+                stderr=told,
             )
-    return Outcome(done.returncode, done.stdout or b"", done.stderr)
+            usage = waited(child)
+        return Outcome(
+            child.returncode,
+            whole(said),
+            whole(told),
+            usage.ru_utime + usage.ru_stime,
+            usage.ru_maxrss / 1024,
+        )
+
+
+def waited(child):
+    """Waits for the program's end, and answers what it used."""
+    last = time.monotonic() + TIMEOUT
+    while True:
+        ended, status, usage = os.wait4(child.pid, os.WNOHANG)
+        if ended:
+            child.returncode = os.waitstatus_to_exitcode(status)
+            return usage
+        if time.monotonic() > last:
+            child.kill()
+            child.wait()
+            raise subprocess.TimeoutExpired(child.args, TIMEOUT)
+        time.sleep(GLANCE)
+
+
+def whole(file):
+    file.seek(0)
+    return file.read()
 
 
 def exactly(stdout, status):

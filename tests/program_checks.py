@@ -4,7 +4,7 @@ import os
 import random
 import re
 
-from check import FOLDER, Check, Pieces, exactly
+from check import FOLDER, Check, Growth, Pieces, exactly
 
 ONE_HOST = '{"all":{"hosts":["h1"]}}'
 PING_BOOK = '[{"hosts":"all","tasks":[{"ping":null,"register":"p","when":"1 == 1"}]}]'
@@ -32,6 +32,8 @@ def program_checks(top):
         *odd_json(),
         *answer_shapes(),
         *grown_values(),
+        *hostile_books(),
+        *growths(),
         *random_files(),
         *examples(top / "examples"),
     ]
@@ -322,6 +324,106 @@ def grown_values():
         ("lists-doubled-40-times-run", doubled(40, as_list), RUN, no_memory),
     ]
     return [Check(f"values-{name}", words, judge, {**FILES, "book": book_of(tasks)}) for name, tasks, words, judge in books]
+
+
+# What a book may cost: processor time and memory, and how they grow with it.
+
+MOST_SECONDS = 2
+MOST_SECONDS_SHARED = 8  # where a kind is joined as often as it stands in what shares it
+MOST_MEGABYTES = 2_048
+MOST_GROWTH = 2.5  # where a book is twice as large
+GLIMPSE = 0.05  # a time that says nothing of its growth
+
+
+def hostile_books():
+    as_list = lambda text: [text, text]
+    as_record = lambda text: {"f": text, "g": text}
+    maybe = {"when": "inventory_hostname == 'q'"}
+    twenty = doubled(20, as_record)
+    books = {
+        "lists-nest": nested(2_300),
+        "records-nest": records_nest(1_700),
+        "lists-nest-and-compare": nested(1_400) + [shown("{{ x == x }}")],
+        "records-compare": doubled(24, as_record) + [shown("{{ a24 == a24 }}")],
+        "lists-compare": doubled(40, as_list) + [shown("{{ a40 == a40 }}")],
+        "list-of-records": listed_records(4_000),
+        "fields-line-by-line": fields_by_line(2_000),
+    }
+    shared = {
+        "one-record-twice": twenty + [shown(["{{ a20 }}"] * 2)],
+        "one-record-set-twice": twenty + [{"set_fact": {"z": "{{ a20 }}"}}, {"set_fact": {"z": "{{ a20 }}"}, **maybe}],
+    }
+    return [
+        Check(f"hostile-{name}-{words[0]}", words, within(seconds), {**FILES, "book": book_of(tasks)})
+        for rows, seconds in [(books, MOST_SECONDS), (shared, MOST_SECONDS_SHARED)]
+        for name, tasks in rows.items()
+        for words in [CHECK, RUN]
+    ]
+
+
+def within(seconds):
+    """Wants an answer within that processor time."""
+
+    def judge(outcome):
+        is_answer = outcome.status in (0, 1, 3)
+        if is_answer and outcome.seconds <= seconds and outcome.megabytes <= MOST_MEGABYTES:
+            return ""
+        return f"an answer in {seconds} s and {MOST_MEGABYTES} MB"
+
+    return judge
+
+
+def growths():
+    rows = [
+        ("list-of-records", listed_records, 4_000),
+        ("fields-line-by-line", fields_by_line, 2_000),
+        ("lines-of-many-fields", lines_of_many_fields, 200),
+    ]
+    return [
+        Growth(
+            f"growth-{name}",
+            CHECK,
+            grows_little,
+            {**FILES, "book": book_of(tasks(number))},
+            larger={**FILES, "book": book_of(tasks(2 * number))},
+        )
+        for name, tasks, number in rows
+    ]
+
+
+def grows_little(outcome):
+    is_little = outcome.seconds < GLIMPSE or outcome.growth <= MOST_GROWTH
+    if outcome.status == 0 and is_little:
+        return ""
+    return f"accepted, in at most {MOST_GROWTH} times the time for twice as much"
+
+
+def shown(message):
+    return {"debug": {"msg": message}}
+
+
+def records_nest(lines):
+    """30 records more round a variable at each of so many lines."""
+    value = json.loads('{"f":' * 30 + '"{{ x }}"' + "}" * 30)
+    return [{"set_fact": {"x": 1}}] + [{"set_fact": {"x": value}}] * lines
+
+
+def listed_records(records):
+    """A list of so many records, each with a field of its own."""
+    return [shown([{f"f{n}": 1} for n in range(records)])]
+
+
+def fields_by_line(lines):
+    """A record to which each of so many lines may add a field."""
+    added = [{"set_fact": {"x": {f"f{n}": 1}}, "when": "inventory_hostname == 'h1'"} for n in range(lines)]
+    return [{"set_fact": {"x": {}}}] + added
+
+
+def lines_of_many_fields(lines):
+    """A record of 20,000 fields to which each of so many lines may add one."""
+    many = {f"f{n}": 1 for n in range(20_000)}
+    added = {"set_fact": {"x": {"g": 1}}, "when": "inventory_hostname == 'h1'"}
+    return [{"set_fact": {"x": many}}] + [added] * lines
 
 
 def book_of(tasks):

@@ -8,7 +8,7 @@ from pathlib import Path
 
 sys.dont_write_bytecode = True
 
-from check import Check, exactly, outcome_of
+from check import Check, exactly
 from program_checks import program_checks
 from refused_checks import refused_failures
 
@@ -54,7 +54,7 @@ def cases():
 def run_check(program, check):
     """Passed, failed or not built yet, and what to say of it."""
     try:
-        outcome = outcome_of(program, check)
+        outcome = check.run(program)
         wanted = check.judge(outcome)
     except Exception as fault:  # also a program that can't be run, and one that takes too long
         return FAILED, f"{check.id}\n  got: {fault!r}"

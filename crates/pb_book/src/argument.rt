@@ -27,10 +27,10 @@ pub(crate) const MOST_TEXT_BYTES: usize = 65_536;
 /// The most bytes of an expression.
 pub(crate) const MOST_EXPRESSION_BYTES: usize = 4_096;
 
-/// How many bytes stand round the expression of a template.
+// How many bytes stand round the expression of a template.
 const BRACES: usize = 4;
 
-/// How many lists and records of one argument may stand inside one another.
+// How many lists and records of one argument may stand inside one another.
 const MOST_LEVELS: usize = 32;
 
 /// The arguments that a record lists, in the order of their names' bytes.

@@ -25,7 +25,7 @@ use std::alloc::Global;
 /// The most bytes of a playbook.
 pub const BOOK_LIMIT: usize = 4_194_304;
 
-/// The line of the first play.
+// The line of the first play.
 const FIRST_LINE: u32 = 1;
 
 impl Book {

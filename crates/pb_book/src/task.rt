@@ -27,13 +27,13 @@ use pb_value::{Fields, Value, field_of};
 use std::alloc::Global;
 use std::sync::Arc;
 
-/// The most lines of a book but the first, which is the play's.
+// The most lines of a book but the first, which is the play's.
 const MOST_TASKS: usize = 4_095;
 
-/// The line of the first task.
+// The line of the first task.
 const FIRST_TASK_LINE: u32 = 2;
 
-/// The most bytes of a variable's name.
+// The most bytes of a variable's name.
 const MOST_NAME_BYTES: usize = 128;
 
 /// The tasks that a list describes.

@@ -16,13 +16,13 @@ use clap::error::ErrorKind;
 use clap::{Arg, ArgAction, ArgMatches, Command, Error};
 use std::alloc::{AllocError, Global};
 
-/// The version that the program tells of itself.
+// The version that the program tells of itself.
 const VERSION: &str = "0.2.0";
 
-/// The most workers of a run.
+// The most workers of a run.
 const MOST_FORKS: u16 = 256;
 
-/// The workers of a run where the words name no number.
+// The workers of a run where the words name no number.
 const DEFAULT_FORKS: u16 = 5;
 
 /// Reads the words of the command line, the program's name first: the values are those that `clap`

@@ -39,7 +39,7 @@ use pb_verify::Checked;
 use std::alloc::{AllocError, Global};
 use std::marker::Model;
 
-/// Whether anything can still happen.
+// Whether anything can still happen.
 #[derive(Clone, Copy)]
 enum Phase {
     Going,
@@ -600,7 +600,7 @@ fn is_ready(hosts: &[HostState], tasks: &[Task], forks: usize, host: usize) -> b
     }
 }
 
-/// What the host waits for once its task is started, and the calls.
+// What the host waits for once its task is started, and the calls.
 #[derive(Drop)]
 struct Begun {
     pending: Pending,

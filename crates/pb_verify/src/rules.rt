@@ -15,7 +15,7 @@ use crate::refusal::{Code, Refusal};
 use pb_book::{Argument, Task, Work, is_variable};
 use pb_sig::{Module, Parameter, Registry};
 
-/// The names that no task may register or set.
+// The names that no task may register or set.
 const RESERVED: [&str; 27] = [
     "inventory_hostname",
     "groups",

@@ -49,6 +49,18 @@ class Check:
 
 
 @dataclass
+class Cost(Check):
+    """The first of some runs that is judged to be good, else the last: the machine may have slowed one down."""
+
+    def run(self, program):
+        for _ in range(TIMES):
+            outcome = outcome_of(program, self)
+            if not self.judge(outcome):
+                break
+        return outcome
+
+
+@dataclass
 class Growth(Check):
     """How many times as long it takes where its files are larger: the least of some runs of each."""
 

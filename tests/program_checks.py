@@ -4,7 +4,7 @@ import os
 import random
 import re
 
-from check import FOLDER, Check, Growth, Pieces, exactly
+from check import FOLDER, Check, Cost, Growth, Pieces, exactly
 
 ONE_HOST = '{"all":{"hosts":["h1"]}}'
 PING_BOOK = '[{"hosts":"all","tasks":[{"ping":null,"register":"p","when":"1 == 1"}]}]'
@@ -354,7 +354,7 @@ def hostile_books():
         "one-record-set-twice": twenty + [{"set_fact": {"z": "{{ a20 }}"}}, {"set_fact": {"z": "{{ a20 }}"}, **maybe}],
     }
     return [
-        Check(f"hostile-{name}-{words[0]}", words, within(seconds), {**FILES, "book": book_of(tasks)})
+        Cost(f"hostile-{name}-{words[0]}", words, within(seconds), {**FILES, "book": book_of(tasks)})
         for rows, seconds in [(books, MOST_SECONDS), (shared, MOST_SECONDS_SHARED)]
         for name, tasks in rows.items()
         for words in [CHECK, RUN]

@@ -8,7 +8,7 @@ import time
 from dataclasses import dataclass, field, replace
 from typing import Callable, Optional
 
-TIMEOUT = 20
+TIMEOUT = 60
 FOLDER = object()  # stands for a folder, in the place of a file's bytes
 PAUSE = 0.02
 TIMES = 3

@@ -329,7 +329,7 @@ def grown_values():
 # What a book may cost: processor time and memory, and how they grow with it.
 
 MOST_SECONDS = 2
-MOST_SECONDS_SHARED = 8  # where a kind is joined as often as it stands in what shares it
+MOST_SECONDS_SHARED = 16  # where a kind is joined as often as it stands in what shares it
 MOST_MEGABYTES = 2_048
 MOST_GROWTH = 2.5  # where a book is twice as large
 GLIMPSE = 0.05  # a time that says nothing of its growth

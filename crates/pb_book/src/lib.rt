@@ -18,4 +18,3 @@ pub mod task;
 pub use book::{Argument, Book, Play, Task, Work};
 pub use fault::BookFault;
 pub use read::BOOK_LIMIT;
-pub use task::is_variable;

@@ -2,9 +2,8 @@
 ghost use Rattle.std.specs.Prelude.{◌<◌, ◌≡◌, ◌≤◌, Err, IfOk, None, Some, codes, length};
 ghost use Rattle.std.specs.Prelude.{false, option_map, string_bytes, true};
 ghost use Rattle.pb_semantics.specs.Words.{Gives, field_value, is_among, list, most_tasks};
-ghost use Rattle.pb_language.specs.Words.{Parts, are_name_bytes, are_plain_tasks, are_simple};
-ghost use Rattle.pb_language.specs.Words.{is_digit as is_name_digit, is_letter as is_name_letter};
-ghost use Rattle.pb_language.specs.Words.{is_plain_task, is_variable_name, parts_simple};
+ghost use Rattle.pb_language.specs.Words.{Parts, are_plain_tasks, are_simple, is_plain_task};
+ghost use Rattle.pb_language.specs.Words.{parts_simple};
 ghost use Rattle.pb_value.specs.Words.{fields_view, items_view, view};
 ghost use Rattle.pb_sig.specs.Words.{modules_of};
 ghost use Rattle.pb_book.specs.Faults.{refused};
@@ -22,7 +21,7 @@ use crate::argument::{MOST_EXPRESSION_BYTES, MOST_TEXT_BYTES, arguments_of, lone
 use crate::book::{Argument, Task, Work};
 use crate::fault::FormFault;
 use pb_expr::{Expr, parse_expr};
-use pb_sig::{Module, Registry};
+use pb_sig::{Module, Registry, is_variable};
 use pb_value::{Fields, Value, field_of};
 use std::alloc::Global;
 use std::sync::Arc;
@@ -32,9 +31,6 @@ const MOST_TASKS: usize = 4_095;
 
 // The line of the first task.
 const FIRST_TASK_LINE: u32 = 2;
-
-// The most bytes of a variable's name.
-const MOST_NAME_BYTES: usize = 128;
 
 /// The tasks that a list describes.
 pub(crate) fn tasks_of(
@@ -228,40 +224,4 @@ fn register_of(fields: &Fields) -> Result<Option<Arc<String>>, FormFault>
         Some(Value::Text(text)) if is_variable(text.as_str()) => Ok(Some(text.clone()?)),
         Some(_) => Err(FormFault::NotBuilt),
     }
-}
-
-/// Whether a variable can have that name: 1 to 128 ASCII letters, digits or `_`, the first no
-/// digit.
-pub fn is_variable(name: &str) -> bool
-    ensures { result ≡ is_variable_name name.now }
-{
-    match name.as_bytes() {
-        [] => false,
-        [first, rest @ ..] => {
-            is_letter(*first) && are_bytes_of_names(rest) && rest.len() < MOST_NAME_BYTES
-        }
-    }
-}
-
-fn are_bytes_of_names(bytes: &[u8]) -> bool
-    ensures { result ≡ are_name_bytes bytes.now }
-{
-    for byte in bytes {
-        if !is_letter(*byte) && !is_digit(*byte) {
-            return false;
-        }
-    }
-    true
-}
-
-fn is_letter(byte: u8) -> bool
-    ensures { result ≡ is_name_letter byte }
-{
-    matches!(byte, b'A'..=b'Z' | b'a'..=b'z' | b'_')
-}
-
-fn is_digit(byte: u8) -> bool
-    ensures { result ≡ is_name_digit byte }
-{
-    byte.is_ascii_digit()
 }

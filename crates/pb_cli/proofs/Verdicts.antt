@@ -9,7 +9,12 @@ use Rattle.pb_language.specs.Book.{Book as BookData}
 use Rattle.pb_language.specs.Judged.{judged}
 use Rattle.pb_language.specs.Verdict.{accepted}
 use Rattle.pb_value.specs.FromJson.{json_data}
-use Rattle.pb_sig.specs.Table.{built_modules}
+use Rattle.pb_semantics.specs.Signature.{ModuleData}
+use Rattle.pb_sig.specs.Offences.{offence_of}
+use Rattle.pb_sig.specs.Registered.{registry_of}
+use Rattle.pb_sig.specs.Signatures.{Offence}
+use Rattle.pb_sig.specs.declared.fault.SignatureFault.{SignatureFault}
+use Rattle.pb_sig.specs.declared.fault.SignatureFault.TheVariants as signature
 use Rattle.pb_inventory.specs.Hosts.{InventoryData, inventory_of}
 use Rattle.pb_inventory.specs.Inventory.{inventory_view}
 use Rattle.pb_inventory.specs.declared.inventory.Inventory.{Inventory}
@@ -27,7 +32,7 @@ use Rattle.pb_verify.specs.declared.refusal.Code.{Code}
 use Rattle.pb_verify.specs.declared.refusal.Code.TheVariants.{N00, P01, I01}
 use Rattle.pb_verify.specs.declared.verify.VerifyFault.{VerifyFault}
 use Rattle.pb_verify.specs.declared.verify.VerifyFault.TheVariants as verify
-use Rattle.pb_cli.specs.FileVerdicts.{Found, whole_file, verdict, Judges as JudgesFiles, Tells, book_verdict, found, found_by, inventory_verdict, is_looked_into, of_book, of_bytes, of_inventory, of_text, of_verify}
+use Rattle.pb_cli.specs.FileVerdicts.{Found, whole_file, verdict, Tells, book_found, book_verdict, found_after, found_by, found_with, inventory_verdict, is_looked_into, of_book, of_bytes, of_inventory, of_signatures, of_text, of_verify, with_code}
 use Rattle.pb_cli.specs.declared.judge.Fault.{Fault}
 use Rattle.pb_cli.specs.declared.judge.Fault.TheVariants.{NoMemory}
 
@@ -97,37 +102,48 @@ module _ (bs : List ℕ) where
       either false e = subst P (sym (no_text (sym (ap (λ b. not b && is_utf8 bs) e) ∙ h) (ltb-false most_inventory_bytes (length bs) e))) json
 
   -- and of the reader of books
-  module _ (r : Result Book BookFault) (large : most_book_bytes < length bs → r ≡ Err book.NotBuilt) where
-    pub book_verdict-read : (b : Book) → r ≡ Ok b → (d : Data) × (json_data bs ≡ Some d) × (book_from built_modules d ≡ Some (book_of b)) → book_verdict bs ≡ Ok (book_of b)
-    book_verdict-read b e found = is_read most_book_bytes P01 (book_from built_modules) bs (book_of b) (λ l. let clash = sym e ∙ large l in cc) found
+  module _ (ms : List ModuleData) (r : Result Book BookFault) (large : most_book_bytes < length bs → r ≡ Err book.NotBuilt) where
+    pub book_verdict-read : (b : Book) → r ≡ Ok b → (d : Data) × (json_data bs ≡ Some d) × (book_from ms d ≡ Some (book_of b)) → book_verdict ms bs ≡ Ok (book_of b)
+    book_verdict-read b e found = is_read most_book_bytes P01 (book_from ms) bs (book_of b) (λ l. let clash = sym e ∙ large l in cc) found
 
     pub BookSays-fault : (f : BookFault) → r ≡ Err f → (f ≡ book.NotJson → json_data bs ≡ None)
-        → (f ≡ book.NotBuilt → length bs ≤ most_book_bytes → (d : Data) × (json_data bs ≡ Some d) × (book_from built_modules d ≡ None)) → BookSays f (book_verdict bs)
-    BookSays-fault book.NotJson e none other = is_no_json most_book_bytes P01 (book_from built_modules) bs (λ l. let clash = sym e ∙ large l in cc) (none refl)
-    BookSays-fault book.NotBuilt e none other = is_not_built most_book_bytes P01 (book_from built_modules) bs (other refl)
+        → (f ≡ book.NotBuilt → length bs ≤ most_book_bytes → (d : Data) × (json_data bs ≡ Some d) × (book_from ms d ≡ None)) → BookSays f (book_verdict ms bs)
+    BookSays-fault book.NotJson e none other = is_no_json most_book_bytes P01 (book_from ms) bs (λ l. let clash = sym e ∙ large l in cc) (none refl)
+    BookSays-fault book.NotBuilt e none other = is_not_built most_book_bytes P01 (book_from ms) bs (other refl)
     BookSays-fault book.NoMemory e none other = tt
 
--- the answer where the inventory isn't read
-pub Tells-inventory : (e : InventoryFault) (v : Result InventoryData Code) (w : Result BookData Code) → InventorySays e v → Tells (Err (of_inventory e)) (found_by v w)
-Tells-inventory inventory.NotJson v w says = rw says refl
-Tells-inventory inventory.NotBuilt v w says = rw says refl
-Tells-inventory inventory.NoMemory v w says = Tells-no_memory (found_by v w)
+-- the answer where the signatures aren't read
+pub Tells-signatures : (e : SignatureFault) (x : Result (List ModuleData) Offence) (i b : List ℕ) → FaultGives (offence_of e) x → Tells (Err (of_signatures e)) (found_after (with_code x) i b)
+Tells-signatures signature.NotJson x i b says = rw says refl
+Tells-signatures signature.Form x i b says = rw says refl
+Tells-signatures signature.Law x i b says = rw says refl
+Tells-signatures signature.Taken x i b says = rw says refl
+Tells-signatures signature.Limit x i b says = rw says refl
+Tells-signatures signature.NoMemory x i b says = Tells-no_memory (found_after (with_code x) i b)
+
+-- where the inventory isn't
+pub Tells-inventory : (ms : List ModuleData) (e : InventoryFault) (v : Result InventoryData Code) (w : Result BookData Code) → InventorySays e v → Tells (Err (of_inventory e)) (found_by ms v w)
+Tells-inventory ms inventory.NotJson v w says = rw says refl
+Tells-inventory ms inventory.NotBuilt v w says = rw says refl
+Tells-inventory ms inventory.NoMemory v w says = Tells-no_memory (found_by ms v w)
 
 -- where the book isn't
-pub Tells-book : (i : InventoryData) (e : BookFault) (v : Result InventoryData Code) (w : Result BookData Code) → v ≡ Ok i → BookSays e w → Tells (Err (of_book e)) (found_by v w)
-Tells-book i book.NotJson v w read says = rw (read, says) refl
-Tells-book i book.NotBuilt v w read says = rw (read, says) refl
-Tells-book i book.NoMemory v w read says = Tells-no_memory (found_by v w)
+pub Tells-book : (ms : List ModuleData) (i : InventoryData) (e : BookFault) (w : Result BookData Code) → BookSays e w → Tells (Err (of_book e)) (book_found ms i w)
+Tells-book ms i book.NotJson w says = rw says refl
+Tells-book ms i book.NotBuilt w says = rw says refl
+Tells-book ms i book.NoMemory w says = Tells-no_memory (book_found ms i w)
 
--- where both are
-pub Tells-refused : (i : InventoryData) (b : BookData) (e : VerifyFault) (v : Result InventoryData Code) (w : Result BookData Code) → v ≡ Ok i → w ≡ Ok b → FaultGives (refused_verdict e) (judged built_modules (inventory_data i) b) → Tells (Err (of_verify e)) (found_by v w)
-Tells-refused i b (verify.Refused r) v w read read_book judges = rw (read, read_book) judges
-Tells-refused i b verify.NoMemory v w read read_book judges = Tells-no_memory (found_by v w)
+-- where all are
+pub Tells-refused : (ms : List ModuleData) (i : InventoryData) (b : BookData) (e : VerifyFault) (w : Result BookData Code) → w ≡ Ok b → FaultGives (refused_verdict e) (judged ms (inventory_data i) b) → Tells (Err (of_verify e)) (book_found ms i w)
+Tells-refused ms i b (verify.Refused r) w read judges = rw read judges
+Tells-refused ms i b verify.NoMemory w read judges = Tells-no_memory (book_found ms i w)
 
-pub Tells-accepted : (i : InventoryData) (b : BookData) (a : Accepted) (v : Result InventoryData Code) (w : Result BookData Code) → v ≡ Ok i → w ≡ Ok b → judged built_modules (inventory_data i) b ≡ accepted a.budget → Tells (Ok a) (found_by v w)
-Tells-accepted i b a v w read read_book judges = rw (read, read_book) judges
+pub Tells-accepted : (ms : List ModuleData) (i : InventoryData) (b : BookData) (a : Accepted) (w : Result BookData Code) → w ≡ Ok b → judged ms (inventory_data i) b ≡ accepted a.budget → Tells (Ok a) (book_found ms i w)
+Tells-accepted ms i b a w read judges = rw read judges
 
--- without signatures
-pub Judges-unsigned : {S : Type 0} (f : S → List ℕ) (signatures : Option S) (i b : List ℕ) (r : Result Accepted Fault) → is_some signatures ≡ false → Tells r (found i b) → JudgesFiles (option_map f signatures) i b r
-Judges-unsigned f None i b r e tells = tells
-Judges-unsigned f (Some s) i b r e tells = cc
+-- what is said of the book is said of the files
+pub Tells-found : (r : Result Accepted Fault) (ms : List ModuleData) (i : InventoryData) (v : Result InventoryData Code) (w : Result BookData Code) → v ≡ Ok i → Tells r (book_found ms i w) → Tells r (found_by ms v w)
+Tells-found r ms i v w read tells = rw read tells
+
+pub Tells-after : (r : Result Accepted Fault) (x : Result (List ModuleData) Code) (ms : List ModuleData) (i b : List ℕ) → x ≡ Ok ms → Tells r (found_with ms i b) → Tells r (found_after x i b)
+Tells-after r x ms i b read tells = rw read tells

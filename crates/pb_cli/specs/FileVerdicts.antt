@@ -5,11 +5,17 @@ use Rattle.std.specs.Str.{is_utf8}
 use Rattle.pb_semantics.specs.Data.{Data}
 use Rattle.pb_semantics.specs.Gives.{FaultGives, Gives}
 use Rattle.pb_semantics.specs.Limits.{most_answer_bytes, most_book_bytes, most_inventory_bytes}
+use Rattle.pb_semantics.specs.Signature.{ModuleData}
 use Rattle.pb_language.specs.Book.{Book}
 use Rattle.pb_language.specs.Judged.{judged}
 use Rattle.pb_language.specs.Verdict.{Verdict, accepted, refused as refused_at}
 use Rattle.pb_value.specs.FromJson.{json_data}
+use Rattle.pb_sig.specs.Registered.{registry_of}
+use Rattle.pb_sig.specs.Signatures.{Offence, not_json, wrong_form, broken_law, taken_name}
+use Rattle.pb_sig.specs.Signatures.{over_limit, most_signature_bytes}
 use Rattle.pb_sig.specs.Table.{built_modules}
+use Rattle.pb_sig.specs.declared.fault.SignatureFault.{SignatureFault}
+use Rattle.pb_sig.specs.declared.fault.SignatureFault.TheVariants as signature
 use Rattle.pb_inventory.specs.Hosts.{InventoryData, inventory_of}
 use Rattle.pb_inventory.specs.declared.read.InventoryFault.{InventoryFault}
 use Rattle.pb_inventory.specs.declared.read.InventoryFault.TheVariants as inventory
@@ -22,7 +28,8 @@ use Rattle.pb_verify.specs.declared.refusal.Code.{Code}
 use Rattle.pb_strategy.specs.Scripts.{script_fault, script_in}
 use Rattle.pb_strategy.specs.declared.script.ScriptFault.{ScriptFault}
 use Rattle.pb_strategy.specs.declared.script.ScriptFault.TheVariants as script
-use Rattle.pb_verify.specs.declared.refusal.Code.TheVariants.{N00, P01, I01, A01, A02, A03}
+use Rattle.pb_verify.specs.declared.refusal.Code.TheVariants.{N00, S01, S02, S03, S04, S05, P01}
+use Rattle.pb_verify.specs.declared.refusal.Code.TheVariants.{I01, A01, A02, A03}
 use Rattle.pb_verify.specs.declared.verify.VerifyFault.{VerifyFault}
 use Rattle.pb_verify.specs.declared.verify.VerifyFault.TheVariants as verify
 use Rattle.pb_cli.specs.declared.judge.Fault.{Fault}
@@ -31,6 +38,14 @@ use Rattle.pb_cli.specs.declared.judge.Fault.TheVariants.{Refused, NoMemory}
 -- a file is refused as a whole
 abbrev pub refused : Code → Fault
 refused code = Refused (record { code = code; line = 0; host = None })
+
+abbrev pub of_signatures : SignatureFault → Fault
+of_signatures signature.NotJson = refused S01
+of_signatures signature.Form = refused S02
+of_signatures signature.Law = refused S03
+of_signatures signature.Taken = refused S04
+of_signatures signature.Limit = refused S05
+of_signatures signature.NoMemory = NoMemory
 
 abbrev pub of_inventory : InventoryFault → Fault
 of_inventory inventory.NotJson = refused I01
@@ -71,13 +86,30 @@ of_bytes most not_json read bytes =
 abbrev pub is_looked_into : ℕ → List ℕ → Bool
 is_looked_into most bytes = not (nat_lt most (length bytes)) && is_utf8 bytes
 
+-- the modules of the run: those of a file of signatures, where there is one, beside the built-in
+-- ones; or the code of that file
+abbrev pub offence_code : Offence → Code
+offence_code not_json = S01
+offence_code wrong_form = S02
+offence_code broken_law = S03
+offence_code taken_name = S04
+offence_code over_limit = S05
+
+abbrev pub with_code : {X : Type 0} → Result X Offence → Result X Code
+with_code (Ok x) = Ok x
+with_code (Err o) = Err (offence_code o)
+
+abbrev pub modules_verdict : Option (List ℕ) → Result (List ModuleData) Code
+modules_verdict None = Ok built_modules
+modules_verdict (Some bytes) = with_code (registry_of bytes)
+
 -- an inventory's text is this inventory, or is refused with this code
 abbrev pub inventory_verdict : List ℕ → Result InventoryData Code
 inventory_verdict bytes = of_bytes most_inventory_bytes I01 inventory_of bytes
 
--- and a book's text this book, with the built-in modules
-abbrev pub book_verdict : List ℕ → Result Book Code
-book_verdict bytes = of_bytes most_book_bytes P01 (book_from built_modules) bytes
+-- and a book's text this book, with those modules
+abbrev pub book_verdict : List ModuleData → List ℕ → Result Book Code
+book_verdict ms bytes = of_bytes most_book_bytes P01 (book_from ms) bytes
 
 -- what becomes of the files: one is refused as a whole, or the book gets a verdict for the
 -- inventory
@@ -85,17 +117,30 @@ pub data Found : Type 0 where
   whole_file : Code → Found
   verdict : Verdict → Found
 
-abbrev pub book_found : InventoryData → Result Book Code → Found
-book_found i (Err code) = whole_file code
-book_found i (Ok b) = verdict (judged built_modules (inventory_data i) b)
+abbrev pub book_found : List ModuleData → InventoryData → Result Book Code → Found
+book_found ms i (Err code) = whole_file code
+book_found ms i (Ok b) = verdict (judged ms (inventory_data i) b)
 
-abbrev pub found_by : Result InventoryData Code → Result Book Code → Found
-found_by (Err code) book = whole_file code
-found_by (Ok i) book = book_found i book
+abbrev pub found_by : List ModuleData → Result InventoryData Code → Result Book Code → Found
+found_by ms (Err code) book = whole_file code
+found_by ms (Ok i) book = book_found ms i book
 
 -- the inventory is asked before the book
-abbrev pub found : List ℕ → List ℕ → Found
-found inventory book = found_by (inventory_verdict inventory) (book_verdict book)
+abbrev pub found_with : List ModuleData → List ℕ → List ℕ → Found
+found_with ms inventory book = found_by ms (inventory_verdict inventory) (book_verdict ms book)
+
+abbrev pub found_after : Result (List ModuleData) Code → List ℕ → List ℕ → Found
+found_after (Err code) inventory book = whole_file code
+found_after (Ok ms) inventory book = found_with ms inventory book
+
+-- and the signatures before both
+abbrev pub found : Option (List ℕ) → List ℕ → List ℕ → Found
+found signatures inventory book = found_after (modules_verdict signatures) inventory book
+
+-- the file that is asked first is looked into: that of the signatures, where there is one
+abbrev pub is_first_looked_into : Option (List ℕ) → List ℕ → Bool
+is_first_looked_into None inventory = is_looked_into most_inventory_bytes inventory
+is_first_looked_into (Some bytes) inventory = is_looked_into most_signature_bytes bytes
 
 -- the verdict that refuses so, none for want of memory
 abbrev pub refused_verdict : Fault → Option Verdict
@@ -112,10 +157,9 @@ abbrev pub Tells : Result Accepted Fault → Found → Type 0
 Tells r (whole_file code) = Gives (λ a. Ok a) fault_given r (Err (refused code))
 Tells r (verdict v) = Gives (λ a. accepted a.budget) refused_verdict r v
 
--- files with signatures aren't judged yet, and else that answer says what becomes of them
+-- that answer says what becomes of these files
 abbrev pub Judges : Option (List ℕ) → List ℕ → List ℕ → Result Accepted Fault → Type 0
-Judges (Some signatures) inventory book r = r ≡ Err (refused N00)
-Judges None inventory book r = Tells r (found inventory book)
+Judges signatures inventory book r = Tells r (found signatures inventory book)
 
 -- a file of answers has that fault: of one that is too long nothing else is asked
 pub record HasScriptFault (bytes : List ℕ) (fault : ScriptFault) : Type 0 where

@@ -1,15 +1,17 @@
 // The verdict on the bytes of a playbook and an inventory.
-ghost use Rattle.std.specs.Prelude.{◌≡◌, Err, IfOk, Ok, false, option_map};
+ghost use Rattle.std.specs.Prelude.{◌≡◌, Err, IfOk, None, Ok, Some, false, option_map};
 ghost use Rattle.pb_semantics.specs.Words.{most_inventory_bytes};
 ghost use Rattle.pb_sig.specs.Words.{built_modules, modules_of};
 ghost use Rattle.pb_inventory.specs.Words.{inventory_view};
 ghost use Rattle.pb_book.specs.Words.{book_of};
-ghost use Rattle.pb_cli.specs.FileVerdicts.{Judges, book_verdict, inventory_verdict};
-ghost use Rattle.pb_cli.specs.FileVerdicts.{is_looked_into, refused};
+ghost use Rattle.pb_sig.specs.Signatures.{most_signature_bytes};
+ghost use Rattle.pb_cli.specs.FileVerdicts.{Judges, Tells, book_found, book_verdict};
+ghost use Rattle.pb_cli.specs.FileVerdicts.{inventory_verdict, is_first_looked_into};
+ghost use Rattle.pb_cli.specs.FileVerdicts.{is_looked_into, modules_verdict, refused};
 
 use pb_book::{Book, BookFault};
 use pb_inventory::{Inventory, InventoryFault};
-use pb_sig::Registry;
+use pb_sig::{Registry, SignatureFault};
 use pb_strategy::ScriptFault;
 use pb_verify::verify::verify;
 use pb_verify::{Checked, Code, Refusal, VerifyFault};
@@ -44,6 +46,24 @@ impl From<BookFault> for Fault {
             BookFault::NotJson => whole(Code::P01),
             BookFault::NotBuilt => whole(Code::N00),
             BookFault::NoMemory => Fault::NoMemory,
+        }
+    }
+}
+
+impl From<SignatureFault> for Fault {
+    ghost use Rattle.std.specs.Prelude.{◌≡◌};
+    ghost use Rattle.pb_cli.specs.FileVerdicts.{of_signatures};
+
+    ghost from_gives = { λ e f. f ≡ of_signatures e };
+
+    fn from(fault: SignatureFault) -> Fault {
+        match fault {
+            SignatureFault::NotJson => whole(Code::S01),
+            SignatureFault::Form => whole(Code::S02),
+            SignatureFault::Law => whole(Code::S03),
+            SignatureFault::Taken => whole(Code::S04),
+            SignatureFault::Limit => whole(Code::S05),
+            SignatureFault::NoMemory => Fault::NoMemory,
         }
     }
 }
@@ -105,9 +125,9 @@ pub fn whole(code: Code) -> Fault
 }
 
 /// Judges a playbook for an inventory. Refusals come in this order: the signatures, the inventory,
-/// the playbook as it is written, then what the verifier finds. Signatures aren't built yet. What
-/// is accepted is the inventory that was read, with the built-in modules. Where there are
-/// signatures, and where the inventory is too long or isn't UTF-8, the refusal takes no memory.
+/// the playbook as it is written, then what the verifier finds. What is accepted is what was read,
+/// with the built-in modules and those of the signatures. Where the first of these files is too
+/// long or isn't UTF-8, the refusal takes no memory.
 pub fn judge(
     alloc: Global,
     book: &[u8],
@@ -118,16 +138,69 @@ pub fn judge(
         result }
     ensures read { IfOk result
         (λ c. inventory_verdict inventory.now ≡ Ok (inventory_view c.inventory)) }
-    ensures book_read { IfOk result (λ c. book_verdict book.now ≡ Ok (book_of c.book)) }
+    ensures book_read { IfOk result
+        (λ c. book_verdict (modules_of c.registry) book.now ≡ Ok (book_of c.book)) }
+    ensures modules { IfOk result (λ c. modules_verdict (option_map (λ s. s.now) signatures.entry)
+        ≡ Ok (modules_of c.registry)) }
+    ensures apart { is_first_looked_into (option_map (λ s. s.now) signatures.entry) inventory.now
+        ≡ false → result ≡ Err Fault.NoMemory → ⊥ }
+{
+    match signatures {
+        Some(signatures) => judge_signed(alloc, book, inventory, signatures),
+        None => judge_unsigned(alloc, book, inventory),
+    }
+}
+
+fn judge_signed(
+    alloc: Global,
+    book: &[u8],
+    inventory: &[u8],
+    signatures: &[u8],
+) -> Result<Checked, Fault>
+    ensures verdict { Judges (Some signatures.now) inventory.now book.now result }
+    ensures read { IfOk result
+        (λ c. inventory_verdict inventory.now ≡ Ok (inventory_view c.inventory)) }
+    ensures book_read { IfOk result
+        (λ c. book_verdict (modules_of c.registry) book.now ≡ Ok (book_of c.book)) }
+    ensures modules { IfOk result
+        (λ c. modules_verdict (Some signatures.now) ≡ Ok (modules_of c.registry)) }
+    ensures apart { is_looked_into most_signature_bytes signatures.now ≡ false
+        → result ≡ Err Fault.NoMemory → ⊥ }
+{
+    let registry = Registry::read(alloc, signatures)?;
+    let inventory = Inventory::read(alloc, inventory)?;
+    judge_read(alloc, book, inventory, registry)
+}
+
+fn judge_unsigned(alloc: Global, book: &[u8], inventory: &[u8]) -> Result<Checked, Fault>
+    ensures verdict { Judges None inventory.now book.now result }
+    ensures read { IfOk result
+        (λ c. inventory_verdict inventory.now ≡ Ok (inventory_view c.inventory)) }
+    ensures book_read { IfOk result
+        (λ c. book_verdict (modules_of c.registry) book.now ≡ Ok (book_of c.book)) }
     ensures modules { IfOk result (λ c. modules_of c.registry ≡ built_modules) }
     ensures apart { is_looked_into most_inventory_bytes inventory.now ≡ false
         → result ≡ Err Fault.NoMemory → ⊥ }
 {
-    if signatures.is_some() {
-        return Err(whole(Code::N00));
-    }
     let inventory = Inventory::read(alloc, inventory)?;
     let registry = Registry::builtin(alloc)?;
+    judge_read(alloc, book, inventory, registry)
+}
+
+// The verdict on a playbook, where the inventory and the modules are read.
+fn judge_read(
+    alloc: Global,
+    book: &[u8],
+    inventory: Inventory,
+    registry: Registry,
+) -> Result<Checked, Fault>
+    ensures verdict { Tells result (book_found (modules_of registry) (inventory_view inventory)
+        (book_verdict (modules_of registry) book.now)) }
+    ensures kept { IfOk result (λ c. c.inventory ≡ inventory) }
+    ensures book_read { IfOk result
+        (λ c. book_verdict (modules_of registry) book.now ≡ Ok (book_of c.book)) }
+    ensures modules { IfOk result (λ c. c.registry ≡ registry) }
+{
     let book = Book::read(alloc, book, &registry)?;
     Ok(verify(alloc, book, inventory, registry)?)
 }

@@ -5,4 +5,9 @@ pub mod Rows
 pub mod Table
 pub mod AdmissionView
 pub mod Results
+pub mod Signatures
+pub mod Registered
+pub mod Offences
+pub mod Drafts
+pub mod Lawful
 pub mod Words

@@ -2,11 +2,11 @@
 use Rattle.std.specs.Prelude.{ℕ, List, [], ◌∷◌, Option, Some, None, cond, map}
 use Rattle.std.specs.Str.{bytes_eq}
 use Rattle.pb_semantics.specs.Signature.{ModuleData}
-use Rattle.pb_sig.specs.ModuleView.{builtin_view}
+use Rattle.pb_sig.specs.ModuleView.{known_view}
 use Rattle.pb_sig.specs.declared.registry.Registry.{Registry}
 
 abbrev pub modules_of : Registry → List ModuleData
-modules_of r = map builtin_view r.modules.items
+modules_of r = map known_view r.modules.items
 
 -- the first module of that name
 abbrev pub module_at : List ℕ → List ModuleData → Option ModuleData

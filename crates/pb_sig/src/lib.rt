@@ -12,6 +12,12 @@
 
 pub mod admission;
 pub mod builtin;
+pub mod declared;
+mod draft;
+pub mod fault;
+mod form;
+pub mod names;
+mod read;
 pub mod registry;
 pub mod results;
 pub mod rows;
@@ -19,6 +25,9 @@ pub mod signature;
 
 pub use admission::{Admission, admit};
 pub use builtin::Builtin;
-pub use registry::Registry;
+pub use declared::Declared;
+pub use fault::SignatureFault;
+pub use names::{is_one_of, is_variable};
+pub use registry::{Known, Registry};
 pub use results::Results;
 pub use signature::{Module, Parameter, SIGNATURES_LIMIT};

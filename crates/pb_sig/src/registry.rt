@@ -1,16 +1,79 @@
 // The modules of a run, found by their names.
-ghost use Rattle.std.specs.Prelude.{◌≡◌, IfOk, map, option_map, true};
-ghost use Rattle.pb_sig.specs.ModuleView.{are_plain_modules, builtin_view};
+ghost use Rattle.std.specs.Prelude.{◌++◌, ◌≡◌, IfOk, map, option_map, string_bytes, true};
+ghost use Rattle.pb_sig.specs.ModuleView.{are_plain_modules, known_view};
 
 use crate::builtin::Builtin;
-use crate::signature::Module;
+use crate::declared::Declared;
+use crate::signature::{Module, Parameter};
+use pb_value::Kind;
 use std::alloc::{AllocError, Global};
+use std::sync::Arc;
+
+/// A module of a run: one that is there in every run, or one that a file of signatures declares.
+#[derive(Drop)]
+pub enum Known {
+    Builtin(Builtin),
+    Declared(Declared),
+}
+
+impl Module for Known {
+    ghost use Rattle.pb_sig.specs.ModuleView.{known_view};
+
+    ghost meaning = { known_view };
+
+    fn name(&self) -> &str {
+        match self {
+            Known::Builtin(module) => module.name(),
+            Known::Declared(module) => module.name(),
+        }
+    }
+
+    fn params(&self) -> &[Parameter] {
+        match self {
+            Known::Builtin(module) => module.params(),
+            Known::Declared(module) => module.params(),
+        }
+    }
+
+    fn ok_shape(&self) -> &Kind {
+        match self {
+            Known::Builtin(module) => module.ok_shape(),
+            Known::Declared(module) => module.ok_shape(),
+        }
+    }
+
+    fn fail_shape(&self) -> &Kind {
+        match self {
+            Known::Builtin(module) => module.fail_shape(),
+            Known::Declared(module) => module.fail_shape(),
+        }
+    }
+
+    fn free_form(&self) -> Option<&str> {
+        match self {
+            Known::Builtin(module) => module.free_form(),
+            Known::Declared(module) => module.free_form(),
+        }
+    }
+}
+
+impl Known {
+    /// The name, in a block that its copies share.
+    pub fn shared_name(&self) -> &Arc<String>
+        ensures { string_bytes result.now.value ≡ (known_view self.now).name }
+    {
+        match self {
+            Known::Builtin(module) => module.shared_name(),
+            Known::Declared(module) => module.shared_name(),
+        }
+    }
+}
 
 /// The modules of a run, each name once.
 #[derive(Drop)]
 pub struct Registry {
-    modules: Vec<Builtin>,
-    ghost plain: { are_plain_modules (map builtin_view modules.items) ≡ true },
+    modules: Vec<Known>,
+    ghost plain: { are_plain_modules (map known_view modules.items) ≡ true },
 }
 
 impl Registry {
@@ -21,20 +84,35 @@ impl Registry {
     pub fn builtin(alloc: Global) -> Result<Registry, AllocError>
         ensures { IfOk result (λ r. modules_of r ≡ built_modules) }
     {
-        let modules = vec![in alloc; Builtin::command(alloc)?, Builtin::ping(alloc)?]?;
+        let command = Known::Builtin(Builtin::command(alloc)?);
+        let ping = Known::Builtin(Builtin::ping(alloc)?);
+        Ok(Registry {
+            modules: vec![in alloc; command, ping]?,
+        })
+    }
+
+    // The built-in modules, and those of a file.
+    pub(crate) fn with(alloc: Global, declared: Vec<Known>) -> Result<Registry, AllocError>
+        requires { are_plain_modules (map known_view declared.items) ≡ true }
+        ensures { IfOk result
+            (λ r. modules_of r ≡ built_modules ++ map known_view declared.items) }
+    {
+        let mut declared = declared;
+        let mut modules = Registry::builtin(alloc)?.modules;
+        modules.append(&mut declared)?;
         Ok(Registry { modules })
     }
 
     /// All modules. Each keeps the laws of modules, and none gathers facts so far.
-    pub fn modules(&self) -> &[Builtin]
-        ensures { map builtin_view result.now ≡ modules_of self.now }
+    pub fn modules(&self) -> &[Known]
+        ensures { map known_view result.now ≡ modules_of self.now }
     {
         self.modules.as_slice()
     }
 
     /// The module of that name, or none where there is none.
-    pub fn find(&self, name: &str) -> Option<&Builtin>
-        ensures { option_map (λ m. builtin_view m.now) result
+    pub fn find(&self, name: &str) -> Option<&Known>
+        ensures { option_map (λ m. known_view m.now) result
             ≡ module_at name.now (modules_of self.now) }
     {
         for found in &self.modules {

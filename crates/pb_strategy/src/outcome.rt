@@ -10,7 +10,7 @@ ghost use Rattle.pb_language.specs.Words.{plain_run, plan_of, planned, result_wr
 ghost use Rattle.pb_language.specs.Words.{unchanged, with_pass};
 ghost use Rattle.pb_value.specs.Words.{append_fields, fields_view, view};
 ghost use Rattle.pb_expr.specs.Words.{own_world, shown};
-ghost use Rattle.pb_sig.specs.Words.{builtin_view, modules_of};
+ghost use Rattle.pb_sig.specs.Words.{known_view, modules_of};
 ghost use Rattle.pb_book.specs.Words.{are_ascending, argument_names, argument_parts, is_known};
 ghost use Rattle.pb_book.specs.Words.{plain_task};
 ghost use Rattle.pb_strategy.specs.Outcomes.{AnswersAs, ComesTo, IsOutcome, IsSettled, Makes};
@@ -23,7 +23,7 @@ use crate::host::{HostState, HostVars, Pending};
 use crate::recap::Ending;
 use pb_book::{Argument, Task, Work};
 use pb_expr::eval::eval;
-use pb_sig::{Admission, Builtin, Registry, admit};
+use pb_sig::{Admission, Known, Registry, admit};
 use pb_value::{Fields, Value, put_field};
 use std::alloc::{AllocError, Global};
 use std::sync::Arc;
@@ -269,10 +269,10 @@ fn object_answered(
 fn admitted(
     alloc: Global,
     task: &Task,
-    module: &Builtin,
+    module: &Known,
     answer: &Value,
 ) -> Result<Outcome, AllocError>
-    ensures { IfOk result (λ o. AnswersAs (builtin_view module.now) task.now (view answer.now) o) }
+    ensures { IfOk result (λ o. AnswersAs (known_view module.now) task.now (view answer.now) o) }
 {
     match admit(alloc, module, answer)? {
         Admission::Ok(value) => {

@@ -1,11 +1,17 @@
 -- The codes of refusals as they are printed.
 use Rattle.std.specs.Prelude.{ℕ, List, codes}
 use Rattle.pb_verify.specs.declared.refusal.Code.{Code}
-use Rattle.pb_verify.specs.declared.refusal.Code.TheVariants.{N00, P01, I01, A01, A02, A03, V01}
-use Rattle.pb_verify.specs.declared.refusal.Code.TheVariants.{V03, V04, V07, V08}
+use Rattle.pb_verify.specs.declared.refusal.Code.TheVariants.{N00, S01, S02, S03, S04, S05, P01}
+use Rattle.pb_verify.specs.declared.refusal.Code.TheVariants.{I01, A01, A02, A03, V01, V03, V04}
+use Rattle.pb_verify.specs.declared.refusal.Code.TheVariants.{V07, V08}
 
 abbrev pub code_text : Code → List ℕ
 code_text N00 = codes "N00"
+code_text S01 = codes "S01"
+code_text S02 = codes "S02"
+code_text S03 = codes "S03"
+code_text S04 = codes "S04"
+code_text S05 = codes "S05"
 code_text P01 = codes "P01"
 code_text I01 = codes "I01"
 code_text A01 = codes "A01"

@@ -7,6 +7,16 @@ ghost use Rattle.pb_verify.specs.Codes.{code_text};
 pub enum Code {
     /// A form that isn't built yet.
     N00,
+    /// The signatures aren't JSON.
+    S01,
+    /// A signature is malformed.
+    S02,
+    /// A signature breaks a law of modules.
+    S03,
+    /// A module's name stands twice, or is taken.
+    S04,
+    /// The signatures pass a limit.
+    S05,
     /// The playbook isn't JSON.
     P01,
     /// The inventory isn't JSON.
@@ -36,6 +46,11 @@ impl Code {
     {
         match self {
             Code::N00 => "N00",
+            Code::S01 => "S01",
+            Code::S02 => "S02",
+            Code::S03 => "S03",
+            Code::S04 => "S04",
+            Code::S05 => "S05",
             Code::P01 => "P01",
             Code::I01 => "I01",
             Code::A01 => "A01",

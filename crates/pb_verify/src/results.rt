@@ -4,7 +4,7 @@ ghost use Rattle.std.specs.Prelude.{true};
 ghost use Rattle.pb_semantics.specs.Words.{join as least_above};
 ghost use Rattle.pb_language.specs.Words.{Registry as Modules, changed_slots, no_parts};
 ghost use Rattle.pb_value.specs.Words.{kind_view, slots_view};
-ghost use Rattle.pb_sig.specs.Words.{builtin_view, modules_of, result_kind};
+ghost use Rattle.pb_sig.specs.Words.{known_view, modules_of, result_kind};
 ghost use Rattle.pb_book.specs.Words.{is_known, work_of};
 ghost use Rattle.pb_verify.specs.ResultTables.{Lists, entry_listed, listed_at, module_listed};
 ghost use Rattle.pb_verify.specs.ResultTables.{module_result};
@@ -13,7 +13,7 @@ ghost use Rattle.pb_verify.specs.Way.{written_result};
 
 use pb_book::Work;
 use pb_sig::results::failed_kind;
-use pb_sig::{Builtin, Module, Registry, Results};
+use pb_sig::{Known, Module, Registry, Results};
 use pb_value::join::join;
 use pb_value::{Kind, Slot, Slots, put_slot};
 use std::alloc::{AllocError, Global};
@@ -122,8 +122,8 @@ fn entries_of(alloc: Global, registry: &Registry) -> Result<Vec<Entry>, AllocErr
     Ok(entries)
 }
 
-fn entry_of(alloc: Global, found: &Builtin) -> Result<Entry, AllocError>
-    ensures { IfOk result (λ e. entry_listed e ≡ module_listed (builtin_view found.now)) }
+fn entry_of(alloc: Global, found: &Known) -> Result<Entry, AllocError>
+    ensures { IfOk result (λ e. entry_listed e ≡ module_listed (known_view found.now)) }
 {
     let results = going_results(alloc, found)?;
     let (ran_or_failed, skipped_or_failed) = written_kinds(alloc, found, &results)?;
@@ -139,14 +139,14 @@ fn entry_of(alloc: Global, found: &Builtin) -> Result<Entry, AllocError>
 // and of one that may be skipped.
 fn written_kinds(
     alloc: Global,
-    found: &Builtin,
+    found: &Known,
     results: &Results,
 ) -> Result<(Kind, Kind), AllocError>
     ensures ran { IfOk result (λ k. kind_view k.0
         ≡ least_above (result_kind results.now false)
-        (result_of_failure (builtin_view found.now))) }
+        (result_of_failure (known_view found.now))) }
     ensures skipped { IfOk result (λ k. kind_view k.1
-        ≡ least_above (result_kind results.now true) (result_of_failure (builtin_view found.now))) }
+        ≡ least_above (result_kind results.now true) (result_of_failure (known_view found.now))) }
 {
     let failed = failed_result(alloc, found)?;
     let ran_or_failed = join(alloc, results.kind(false), &failed)?;
@@ -154,11 +154,11 @@ fn written_kinds(
     Ok((ran_or_failed, skipped_or_failed))
 }
 
-fn going_results(alloc: Global, found: &Builtin) -> Result<Results, AllocError>
+fn going_results(alloc: Global, found: &Known) -> Result<Results, AllocError>
     ensures ran { IfOk result
-        (λ r. result_kind r false ≡ module_result false (builtin_view found.now)) }
+        (λ r. result_kind r false ≡ module_result false (known_view found.now)) }
     ensures skipped { IfOk result
-        (λ r. result_kind r true ≡ module_result true (builtin_view found.now)) }
+        (λ r. result_kind r true ≡ module_result true (known_view found.now)) }
 {
     match found.ok_shape() {
         Kind::Rec(fields) => Results::of(alloc, found.name(), fields),
@@ -166,8 +166,8 @@ fn going_results(alloc: Global, found: &Builtin) -> Result<Results, AllocError>
     }
 }
 
-fn failed_result(alloc: Global, found: &Builtin) -> Result<Kind, AllocError>
-    ensures { IfOk result (λ k. kind_view k ≡ result_of_failure (builtin_view found.now)) }
+fn failed_result(alloc: Global, found: &Known) -> Result<Kind, AllocError>
+    ensures { IfOk result (λ k. kind_view k ≡ result_of_failure (known_view found.now)) }
 {
     match found.fail_shape() {
         Kind::Rec(fields) => failed_kind(alloc, found.name(), fields),

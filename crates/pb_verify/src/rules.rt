@@ -12,8 +12,8 @@ ghost use Rattle.pb_book.specs.Words.{are_known, argument_parts, is_known, plain
 ghost use Rattle.pb_verify.specs.Meaning.{refusal_of};
 
 use crate::refusal::{Code, Refusal};
-use pb_book::{Argument, Task, Work, is_variable};
-use pb_sig::{Module, Parameter, Registry};
+use pb_book::{Argument, Task, Work};
+use pb_sig::{Module, Parameter, Registry, is_one_of, is_variable};
 
 // The names that no task may register or set.
 const RESERVED: [&str; 27] = [
@@ -219,15 +219,4 @@ fn is_reserved(name: &str) -> bool
     ensures { result ≡ is_among name.now reserved_names }
 {
     is_one_of(name, &RESERVED)
-}
-
-fn is_one_of(name: &str, words: &[&str]) -> bool
-    ensures { result ≡ is_among name.now (map (λ w. w.now) words.now) }
-{
-    for word in words {
-        if name == *word {
-            return true;
-        }
-    }
-    false
 }

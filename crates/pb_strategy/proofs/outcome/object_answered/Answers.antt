@@ -3,7 +3,7 @@ use Rattle.pb_language.specs.plain.Pass.{work_calls}
 use Rattle.pb_language.proofs.PlainGives.{stranger_gives}
 use Rattle.pb_value.specs.View.{view}
 use Rattle.pb_sig.specs.Modules.{modules_of, module_at}
-use Rattle.pb_sig.specs.ModuleView.{builtin_view}
+use Rattle.pb_sig.specs.ModuleView.{known_view}
 use Rattle.pb_book.specs.Meaning.{argument_parts, plain_task}
 use Rattle.pb_verify.proofs.RuleModules.{module_named-found}
 use Rattle.pb_verify.proofs.WalkModules.{is_lawful-found}
@@ -18,7 +18,7 @@ returns-in-Debug c = λ d xs h r ts.
 pub returns-in_ok-admitted-in-Some : goal.returns-in_ok-admitted-in-Some
 returns-in_ok-admitted-in-Some c = λ d xs.
     let ms = modules_of c.args.registry.now in
-    let m = builtin_view c.in-Some.«module».now in
+    let m = known_view c.in-Some.«module».now in
     let n = string_bytes c.in-Module.name.value in
     let named : c.as_str.result.now ≡ n = c.as_str.ensures.value ∙ ap (λ (s : String Global). string_bytes s) c.deref.ensures in
     let found : module_at n ms ≡ Some m = ap (λ k. module_at k ms) (sym named) ∙ sym c.in-Some.ensures in

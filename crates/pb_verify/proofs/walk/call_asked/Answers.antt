@@ -3,7 +3,7 @@ use Rattle.pb_semantics.specs.Gives.{Gives}
 use Rattle.pb_language.specs.Judgement.{arguments_fault}
 use Rattle.pb_value.specs.KindView.{slots_view}
 use Rattle.pb_expr.specs.FitView.{fault_found, own_scope}
-use Rattle.pb_sig.specs.ModuleView.{builtin_view}
+use Rattle.pb_sig.specs.ModuleView.{known_view}
 use Rattle.pb_sig.specs.Modules.{modules_of}
 use Rattle.pb_book.specs.Meaning.{argument_parts}
 use Rattle.pb_verify.proofs.WalkModules.{action_fault-found}
@@ -13,6 +13,6 @@ pub returns : goal.returns
 returns c =
     let s = own_scope (slots_view c.args.environment.now.entries) in
     let ps = argument_parts c.args.arguments.now in
-    let found = sym c.find.ensures ∙ ap (option_map (λ m. builtin_view m.now)) c.in-Some.is in
-    let asked = action_fault-found s c.args.name.now (modules_of c.args.registry.now) (builtin_view c.in-Some.found.now) ps c.args.registry.now.plain found in
+    let found = sym c.find.ensures ∙ ap (option_map (λ m. known_view m.now)) c.in-Some.is in
+    let asked = action_fault-found s c.args.name.now (modules_of c.args.registry.now) (known_view c.in-Some.found.now) ps c.args.registry.now.plain found in
     subst (λ f. Gives (λ x. None) fault_found c.arguments_asked.result f) (ap (λ qs. arguments_fault s qs ps) c.params.ensures ∙ sym asked) c.arguments_asked.ensures

@@ -1,6 +1,6 @@
-use Rattle.std.proofs.Common.{ap, map, rules, ◌∙◌}
-use Rattle.pb_sig.specs.ModuleView.{builtin_view}
+use Rattle.std.proofs.Common.{ap, map, refl, ◌∙◌}
+use Rattle.pb_sig.specs.ModuleView.{known_view}
 use Rattle.pb_sig.proofs.registry.Registry.builtin.Goals as goal
 
 pub returns : goal.returns
-returns c = ap (map builtin_view) c.in_ok-modules.ensures.items ∙ search rules
+returns c = ap (map known_view) c.in_ok-vec.ensures.items ∙ rw (c.in_ok-command.ensures, c.in_ok-ping.ensures) refl

@@ -1,8 +1,8 @@
 use Rattle.std.proofs.Common.{◌≡◌, ℕ, ◌-◌, ◌≤◌, List, [], ◌∷◌, length, true, get_or, take, drop, nat_lt, arith, refl, sym, ap, ◌∙◌}
 use Rattle.std.proofs.lemmas.List.{take_all}
 use Rattle.pb_language.specs.Rules.{are_name_bytes, is_letter, is_variable_name}
-use Rattle.pb_book.proofs.task.is_variable.Goals as goal
-use Rattle.pb_book.proofs.task.is_variable.Goals.{then-is_letter, else-is_letter}
+use Rattle.pb_sig.proofs.names.is_variable.Goals as goal
+use Rattle.pb_sig.proofs.names.is_variable.Goals.{then-is_letter, else-is_letter}
 
 -- what begins with a letter and goes on with bytes of names is a name where it is short
 short_name : (bs : List ℕ) → 1 ≤ length bs → is_letter (get_or bs 0 0) ≡ true → are_name_bytes (take (length bs - 1) (drop 1 bs)) ≡ true

@@ -1,0 +1,71 @@
+-- What the laws of a file of signatures say in the words of modules.
+use Rattle.std.proofs.Common.{◌≡◌, ℕ, List, [], ◌∷◌, ◌++◌, Bool, true, false, map, codes, string_bytes, refl, sym, ap, ◌∙◌}
+use Rattle.std.specs.Prelude.{◌&&◌, ◌||◌, not}
+use Rattle.std.specs.Str.{bytes_eq}
+use Rattle.pb_semantics.specs.Keeps.{is_among}
+use Rattle.pb_semantics.specs.Kind.{KindData, Slots, recs, is_listed, slot_at}
+use Rattle.pb_semantics.specs.Signature.{ModuleData, is_shape, is_failure_shape, is_free, are_free, is_certain_boolean, is_certain_text, has_message}
+use Rattle.pb_semantics.proofs.Bools.{and-left, and-right, and-both, neither-left, neither-right, untrue}
+use Rattle.pb_language.specs.Cases.{is_plain, are_plain, is_lawful_shape}
+use Rattle.pb_value.specs.KindView.{slots_view}
+use Rattle.pb_sig.specs.Drafts.{draft_view}
+use Rattle.pb_sig.specs.Lawful.{IsLawful}
+use Rattle.pb_sig.specs.ModuleView.{are_plain_modules, is_plain_module}
+use Rattle.pb_sig.specs.Signatures.{are_lawful, keeps_laws, lists_any, result_fields, taken_names}
+use Rattle.pb_sig.specs.declared.draft.Draft.{Draft}
+use Rattle.pb_sig.proofs.Plain.{free_slots}
+
+is_false : (b : Bool) → not b ≡ true → b ≡ false
+is_false true h = untrue h
+is_false false h = refl
+
+changed : (ss : Slots) → are_lawful ss ≡ true → is_certain_boolean (slot_at (codes "changed") ss) ≡ true
+changed ss h = and-left (is_certain_boolean (slot_at (codes "changed") ss)) (not (lists_any result_fields ss)) h
+
+none_listed : (ss : Slots) → are_lawful ss ≡ true → lists_any result_fields ss ≡ false
+none_listed ss h = is_false (lists_any result_fields ss) (and-right (is_certain_boolean (slot_at (codes "changed") ss)) (not (lists_any result_fields ss)) h)
+
+not_failed : (ss : Slots) → are_lawful ss ≡ true → is_listed (codes "failed") ss ≡ false
+not_failed ss h = neither-left (is_listed (codes "failed") ss) _ (none_listed ss h)
+
+not_skipped : (ss : Slots) → are_lawful ss ≡ true → is_listed (codes "skipped") ss ≡ false
+not_skipped ss h = neither-left (is_listed (codes "skipped") ss) _ (neither-right (is_listed (codes "failed") ss) _ (none_listed ss h))
+
+shape : (ss : Slots) → are_plain ss ≡ true → are_lawful ss ≡ true → is_shape (recs ss) ≡ true
+shape ss p h = and-both (are_free ss) _ (free_slots ss p) (and-both (is_certain_boolean (slot_at (codes "changed") ss)) _ (changed ss h) (ap not (not_failed ss h)))
+
+lawful_shape : (ss : Slots) → are_plain ss ≡ true → are_lawful ss ≡ true → is_lawful_shape (recs ss) ≡ true
+lawful_shape ss p h =
+    and-both (are_plain ss) _ p (and-both (is_certain_boolean (slot_at (codes "changed") ss)) _ (changed ss h)
+    (and-both (not (is_listed (codes "failed") ss)) _ (ap not (not_failed ss h)) (ap not (not_skipped ss h))))
+
+-- a draft that keeps the laws makes a module that does
+pub IsLawful-draft : (m : Draft) (n : List ℕ) (ok failure : KindData) → n ≡ string_bytes m.name → ok ≡ recs (slots_view m.ok.entries) → failure ≡ recs (slots_view m.failure.entries) → keeps_laws (draft_view m) ≡ true
+    → bytes_eq (string_bytes m.name) (codes "setup") ≡ false → IsLawful n ok failure
+IsLawful-draft m n ok failure named fine bad laws other =
+    let ss = slots_view m.ok.entries in
+    let ts = slots_view m.failure.entries in
+    let plain_ok = and-left (are_plain ss) (are_plain ts) m.plain in
+    let plain_failure = and-right (are_plain ss) (are_plain ts) m.plain in
+    let lawful_ok = and-left (are_lawful ss) _ laws in
+    let rest = and-right (are_lawful ss) (are_lawful ts && is_certain_text (slot_at (codes "msg") ts)) laws in
+    let lawful_failure = and-left (are_lawful ts) _ rest in
+    let message = and-right (are_lawful ts) (is_certain_text (slot_at (codes "msg") ts)) rest in record {
+      ok_shape = ap is_shape fine ∙ shape ss plain_ok lawful_ok;
+      failure_shape = ap is_failure_shape bad ∙ and-both (is_shape (recs ts)) (has_message (recs ts)) (shape ts plain_failure lawful_failure) message;
+      lawful = ap (λ k. is_lawful_shape k && is_lawful_shape failure) fine ∙ ap (λ k. is_lawful_shape (recs ss) && is_lawful_shape k) bad
+          ∙ and-both (is_lawful_shape (recs ss)) (is_lawful_shape (recs ts)) (lawful_shape ss plain_ok lawful_ok) (lawful_shape ts plain_failure lawful_failure);
+      other = ap (λ k. bytes_eq k (codes "setup")) named ∙ other;
+    }
+
+-- `setup` is the eighth of the names that are taken
+pub untaken-setup : (n : List ℕ) → is_among n taken_names ≡ false → bytes_eq n (codes "setup") ≡ false
+untaken-setup n h =
+    neither-left (bytes_eq n (codes "setup")) _ (neither-right (bytes_eq n (codes "service")) _ (neither-right (bytes_eq n (codes "file")) _
+    (neither-right (bytes_eq n (codes "copy")) _ (neither-right (bytes_eq n (codes "stat")) _ (neither-right (bytes_eq n (codes "shell")) _
+    (neither-right (bytes_eq n (codes "command")) _ (neither-right (bytes_eq n (codes "ping")) _ h)))))))
+
+pub are_plain_modules-append : (ms ns : List ModuleData) → are_plain_modules ms ≡ true → are_plain_modules ns ≡ true → are_plain_modules (ms ++ ns) ≡ true
+are_plain_modules-append [] ns h g = g
+are_plain_modules-append (m ∷ ms) ns h g =
+    and-both (is_plain_module m) (are_plain_modules (ms ++ ns)) (and-left (is_plain_module m) (are_plain_modules ms) h) (are_plain_modules-append ms ns (and-right (is_plain_module m) (are_plain_modules ms) h) g)

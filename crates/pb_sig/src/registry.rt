@@ -21,7 +21,15 @@ impl Registry {
     pub fn builtin(alloc: Global) -> Result<Registry, AllocError>
         ensures { IfOk result (λ r. modules_of r ≡ built_modules) }
     {
-        let modules = vec![in alloc; Builtin::command(alloc)?, Builtin::ping(alloc)?]?;
+        let modules = vec![in alloc;
+            Builtin::command(alloc)?,
+            Builtin::ping(alloc)?,
+            Builtin::shell(alloc)?,
+            Builtin::stat(alloc)?,
+            Builtin::copy(alloc)?,
+            Builtin::file(alloc)?,
+            Builtin::service(alloc)?,
+        ]?;
         Ok(Registry { modules })
     }
 

@@ -170,10 +170,7 @@ fn refuses_what_does_not(rt: HostRuntime) -> Result<(), Fail> {
         ("ping", r#"{"ping":"pong","changed":1}"#),
         ("ping", r#"{"ping":"pong","failed":true}"#),
         ("stat", r#"{"stat":{"isdir":false}}"#),
-        (
-            "service",
-            r#"{"changed":true,"name":7,"state":"started"}"#,
-        ),
+        ("service", r#"{"changed":true,"name":7,"state":"started"}"#),
     ];
     for (name, answer) in rows {
         assert!(rt; is_breach(rt.alloc(), name, answer)?, "{answer}");

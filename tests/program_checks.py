@@ -480,14 +480,21 @@ def python_reads(content):
 
 
 def examples(folder):
-    first, faulty = folder / "first", folder / "faulty"
+    first, settings, faulty = folder / "first", folder / "settings", folder / "faulty"
     recap = "web1 : ok=7 changed=3 unreachable=0 failed=0 skipped=0 rescued=0 ignored=0\n"
+    settings_recap = "web1 : ok=6 changed=4 unreachable=0 failed=0 skipped=1 rescued=0 ignored=0\n"
     return [
         Check("example-first", words_of("check", first), exactly("accepted budget 4\n", 0)),
         Check(
             "example-first-run",
             [*words_of("run", first), "--answers", str(first / "answers.json")],
             exactly(recap, 0),
+        ),
+        Check("example-settings", words_of("check", settings), exactly("accepted budget 6\n", 0)),
+        Check(
+            "example-settings-run",
+            [*words_of("run", settings), "--answers", str(settings / "answers.json")],
+            exactly(settings_recap, 0),
         ),
         Check("example-faulty", words_of("check", faulty), exactly("refused V03 line 5 host web1\n", 1)),
     ]

@@ -1,12 +1,16 @@
 // The modules that are there in every run.
 ghost use Rattle.std.specs.Prelude.{◌≡◌, IfOk, map, option_map, string_bytes, true};
 ghost use Rattle.pb_semantics.specs.Words.{is_failure_shape, is_shape};
-ghost use Rattle.pb_language.specs.Words.{command, ping};
 ghost use Rattle.pb_value.specs.Words.{kind_view};
+ghost use Rattle.pb_sig.specs.Table.{command, copy, file, ping, program, service, shell, stat};
 ghost use Rattle.pb_sig.specs.Views.{parameter_view};
 
-use crate::rows::{lines, may, must, parameters_of, shape_of};
 use crate::signature::{Module, Parameter, shared_name};
+use crate::table::{
+    copy_parameters, copy_shape, file_parameters, file_shape, msg_shape, ping_parameters,
+    ping_shape, program_failure_shape, program_parameters, program_shape, service_parameters,
+    service_shape, stat_parameters, stat_shape,
+};
 use pb_value::Kind;
 use std::alloc::{AllocError, Global};
 use std::sync::Arc;
@@ -68,19 +72,88 @@ impl Builtin {
     {
         let parameters = ping_parameters(alloc)?;
         let ok = ping_shape(alloc)?;
-        let failure = ping_failure_shape(alloc)?;
-        Builtin::named(alloc, "ping", parameters, ok, failure, None)
+        Builtin::telling_msg(alloc, "ping", parameters, ok)
     }
 
     /// Runs a program.
     pub fn command(alloc: Global) -> Result<Builtin, AllocError>
         ensures { IfOk result (λ m. builtin_view m ≡ command) }
     {
-        let parameters = command_parameters(alloc)?;
-        let ok = command_shape(alloc)?;
-        let failure = command_failure_shape(alloc)?;
+        Builtin::program(alloc, "command")
+    }
+
+    /// Runs a command line in a shell.
+    pub fn shell(alloc: Global) -> Result<Builtin, AllocError>
+        ensures { IfOk result (λ m. builtin_view m ≡ shell) }
+    {
+        Builtin::program(alloc, "shell")
+    }
+
+    /// Tells what stands at a path.
+    pub fn stat(alloc: Global) -> Result<Builtin, AllocError>
+        ensures { IfOk result (λ m. builtin_view m ≡ stat) }
+    {
+        let parameters = stat_parameters(alloc)?;
+        let ok = stat_shape(alloc)?;
+        Builtin::telling_msg(alloc, "stat", parameters, ok)
+    }
+
+    /// Puts a file, or a text, at a path.
+    pub fn copy(alloc: Global) -> Result<Builtin, AllocError>
+        ensures { IfOk result (λ m. builtin_view m ≡ copy) }
+    {
+        let parameters = copy_parameters(alloc)?;
+        let ok = copy_shape(alloc)?;
+        Builtin::telling_msg(alloc, "copy", parameters, ok)
+    }
+
+    /// Makes, changes or removes what stands at a path.
+    pub fn file(alloc: Global) -> Result<Builtin, AllocError>
+        ensures { IfOk result (λ m. builtin_view m ≡ file) }
+    {
+        let parameters = file_parameters(alloc)?;
+        let ok = file_shape(alloc)?;
+        Builtin::telling_msg(alloc, "file", parameters, ok)
+    }
+
+    /// Starts or stops a service, now or at each boot.
+    pub fn service(alloc: Global) -> Result<Builtin, AllocError>
+        ensures { IfOk result (λ m. builtin_view m ≡ service) }
+    {
+        let parameters = service_parameters(alloc)?;
+        let ok = service_shape(alloc)?;
+        Builtin::telling_msg(alloc, "service", parameters, ok)
+    }
+
+    // A module that runs a program; a text in place of its arguments is the command line.
+    fn program(alloc: Global, name: &str) -> Result<Builtin, AllocError>
+        ensures { IfOk result (λ m. builtin_view m ≡ program name.now) }
+    {
+        let parameters = program_parameters(alloc)?;
+        let ok = program_shape(alloc)?;
+        let failure = program_failure_shape(alloc)?;
         let free = Some(String::from_str(alloc, "cmd")?);
-        Builtin::named(alloc, "command", parameters, ok, failure, free)
+        Builtin::named(alloc, name, parameters, ok, failure, free)
+    }
+
+    // A module whose failed answers tell `msg` alone, and that has no free form.
+    fn telling_msg(
+        alloc: Global,
+        name: &str,
+        parameters: Vec<Parameter>,
+        ok: Kind,
+    ) -> Result<Builtin, AllocError>
+        requires { is_shape (kind_view ok) ≡ true }
+        ensures { IfOk result (λ m. builtin_view m ≡ record {
+          name = name.now;
+          params = map parameter_view parameters.items;
+          ok = kind_view ok;
+          failure = ping.failure;
+          free = None;
+        }) }
+    {
+        let failure = msg_shape(alloc)?;
+        Builtin::named(alloc, name, parameters, ok, failure, None)
     }
 
     fn named(
@@ -109,73 +182,4 @@ impl Builtin {
             free,
         })
     }
-}
-
-fn ping_parameters(alloc: Global) -> Result<Vec<Parameter>, AllocError>
-    ensures { IfOk result (λ ps. map parameter_view ps.items ≡ ping.params) }
-{
-    parameters_of(alloc, &[may("data", Kind::Text)])
-}
-
-fn ping_shape(alloc: Global) -> Result<Kind, AllocError>
-    ensures { IfOk result (λ k. kind_view k ≡ ping.ok) }
-{
-    shape_of(
-        alloc,
-        &[must("changed", Kind::Bool), must("ping", Kind::Text)],
-    )
-}
-
-fn ping_failure_shape(alloc: Global) -> Result<Kind, AllocError>
-    ensures { IfOk result (λ k. kind_view k ≡ ping.failure) }
-{
-    shape_of(
-        alloc,
-        &[must("changed", Kind::Bool), must("msg", Kind::Text)],
-    )
-}
-
-fn command_parameters(alloc: Global) -> Result<Vec<Parameter>, AllocError>
-    ensures { IfOk result (λ ps. map parameter_view ps.items ≡ command.params) }
-{
-    let rows = [
-        must("cmd", Kind::Text),
-        may("chdir", Kind::Text),
-        may("creates", Kind::Text),
-        may("removes", Kind::Text),
-    ];
-    parameters_of(alloc, &rows)
-}
-
-fn command_shape(alloc: Global) -> Result<Kind, AllocError>
-    ensures { IfOk result (λ k. kind_view k ≡ command.ok) }
-{
-    let stdout_lines = lines(alloc)?;
-    let stderr_lines = lines(alloc)?;
-    let rows = [
-        must("changed", Kind::Bool),
-        must("rc", Kind::Int),
-        must("stdout", Kind::Text),
-        must("stderr", Kind::Text),
-        must("stdout_lines", stdout_lines),
-        must("stderr_lines", stderr_lines),
-    ];
-    shape_of(alloc, &rows)
-}
-
-fn command_failure_shape(alloc: Global) -> Result<Kind, AllocError>
-    ensures { IfOk result (λ k. kind_view k ≡ command.failure) }
-{
-    let stdout_lines = lines(alloc)?;
-    let stderr_lines = lines(alloc)?;
-    let rows = [
-        must("changed", Kind::Bool),
-        must("msg", Kind::Text),
-        must("rc", Kind::Int),
-        must("stdout", Kind::Text),
-        must("stderr", Kind::Text),
-        must("stdout_lines", stdout_lines),
-        must("stderr_lines", stderr_lines),
-    ];
-    shape_of(alloc, &rows)
 }

@@ -22,6 +22,7 @@ pub mod registry;
 pub mod results;
 pub mod rows;
 pub mod signature;
+mod table;
 
 pub use admission::{Admission, admit};
 pub use builtin::Builtin;

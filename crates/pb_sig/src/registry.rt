@@ -84,11 +84,16 @@ impl Registry {
     pub fn builtin(alloc: Global) -> Result<Registry, AllocError>
         ensures { IfOk result (λ r. modules_of r ≡ built_modules) }
     {
-        let command = Known::Builtin(Builtin::command(alloc)?);
-        let ping = Known::Builtin(Builtin::ping(alloc)?);
-        Ok(Registry {
-            modules: vec![in alloc; command, ping]?,
-        })
+        let modules = vec![in alloc;
+            Known::Builtin(Builtin::command(alloc)?),
+            Known::Builtin(Builtin::ping(alloc)?),
+            Known::Builtin(Builtin::shell(alloc)?),
+            Known::Builtin(Builtin::stat(alloc)?),
+            Known::Builtin(Builtin::copy(alloc)?),
+            Known::Builtin(Builtin::file(alloc)?),
+            Known::Builtin(Builtin::service(alloc)?),
+        ]?;
+        Ok(Registry { modules })
     }
 
     // The built-in modules, and those of a file.

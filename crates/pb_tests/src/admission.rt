@@ -67,8 +67,20 @@ fn has_module(registry: &Registry, name: &str, parameters: usize) -> bool {
 #[test]
 fn finds_by_name(rt: HostRuntime) -> Result<(), Fail> {
     let registry = Registry::builtin(rt.alloc())?;
-    assert!(rt; has_module(&registry, "command", 4) && has_module(&registry, "ping", 1));
+    let rows = [
+        ("command", 4),
+        ("ping", 1),
+        ("shell", 4),
+        ("stat", 1),
+        ("copy", 4),
+        ("file", 5),
+        ("service", 3),
+    ];
+    for (name, parameters) in rows {
+        assert!(rt; has_module(&registry, name, parameters), "{name}");
+    }
     assert!(rt; registry.find("pin").is_none() && registry.find("").is_none());
+    assert!(rt; registry.find("setup").is_none());
     Ok(())
 }
 
@@ -88,7 +100,10 @@ fn is_free_form(registry: &Registry, name: &str, expected: Option<&str>) -> bool
 fn free_forms(rt: HostRuntime) -> Result<(), Fail> {
     let registry = Registry::builtin(rt.alloc())?;
     assert!(rt; is_free_form(&registry, "command", Some("cmd")));
-    assert!(rt; is_free_form(&registry, "ping", None));
+    assert!(rt; is_free_form(&registry, "shell", Some("cmd")));
+    for name in ["ping", "stat", "copy", "file", "service"] {
+        assert!(rt; is_free_form(&registry, name, None), "{name}");
+    }
     Ok(())
 }
 
@@ -110,6 +125,38 @@ fn drops_and_completes(rt: HostRuntime) -> Result<(), Fail> {
     Ok(())
 }
 
+/// Of what stands at a path: how many fields are told, and the fields `exists` and `isdir`.
+type Found = (usize, Option<bool>, Option<bool>);
+
+// What is told in the field `stat`; none where it is no record.
+fn found_in(fields: &Fields) -> Option<Found> {
+    match fields.get("stat") {
+        Some(Value::Rec(found)) => Some((
+            found.len(),
+            flag_of(found, "exists"),
+            flag_of(found, "isdir"),
+        )),
+        _ => None,
+    }
+}
+
+fn found_of(alloc: Global, answer: &str) -> Result<Option<Found>, Fail> {
+    match &judged(alloc, "stat", answer)? {
+        Admission::Ok(Value::Rec(fields)) => Ok(found_in(fields)),
+        _ => Ok(None),
+    }
+}
+
+#[test]
+fn drops_inside(rt: HostRuntime) -> Result<(), Fail> {
+    let answer = r#"{"stat":{"exists":true,"isdir":false,"inode":7},"path":"/etc"}"#;
+    let told = told_of(rt.alloc(), "stat", answer)?;
+    assert_eq!(rt; told, Some((false, 3, Some(false), Some(false))));
+    let found = found_of(rt.alloc(), answer)?;
+    assert_eq!(rt; found, Some((2, Some(true), Some(false))));
+    Ok(())
+}
+
 #[test]
 fn refuses_what_does_not(rt: HostRuntime) -> Result<(), Fail> {
     let rows = [
@@ -122,6 +169,8 @@ fn refuses_what_does_not(rt: HostRuntime) -> Result<(), Fail> {
         ("ping", r#"{"ping":"pong","failed":1}"#),
         ("ping", r#"{"ping":"pong","changed":1}"#),
         ("ping", r#"{"ping":"pong","failed":true}"#),
+        ("stat", r#"{"stat":{"isdir":false}}"#),
+        ("service", r#"{"changed":true,"name":7,"state":"started"}"#),
     ];
     for (name, answer) in rows {
         assert!(rt; is_breach(rt.alloc(), name, answer)?, "{answer}");

@@ -1,7 +1,7 @@
 use Rattle.std.proofs.Common.{refl, ◌∙◌}
 use Rattle.std.proofs.lemmas.Result.{IfOk-weaker}
 use Rattle.pb_value.proofs.KindLemmas.{kind_view-Text}
-use Rattle.pb_sig.proofs.builtin.command_parameters.Goals as goal
+use Rattle.pb_sig.proofs.table.program_parameters.Goals as goal
 
 pub returns : goal.returns
 returns c =

@@ -2,7 +2,7 @@ use Rattle.std.proofs.Common.{refl, ◌∙◌}
 use Rattle.std.proofs.lemmas.Result.{IfOk-weaker}
 use Rattle.pb_value.proofs.KindLemmas.{kind_view-Text}
 use Rattle.pb_sig.proofs.ResultKinds.{kind_view-Bool}
-use Rattle.pb_sig.proofs.builtin.ping_shape.Goals as goal
+use Rattle.pb_sig.proofs.table.ping_shape.Goals as goal
 
 pub returns : goal.returns
 returns c =

@@ -6,5 +6,6 @@ pub mod Letters
 pub mod Trees
 pub mod Signs
 pub mod Forms
+pub mod Lexed
 pub mod Reads
 pub mod Words

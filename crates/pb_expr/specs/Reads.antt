@@ -1,25 +1,20 @@
 -- What reading from a token gives: a tree and the token behind it, or a fault.
-use Rattle.std.specs.Prelude.{◌≡◌, ℕ, ◌+◌, ◌<◌, ◌≤◌, List, length, true, Option, Some, None}
+use Rattle.std.specs.Prelude.{◌≡◌, ℕ, ◌<◌, ◌≤◌, List, length, true, Option, Some, None}
 use Rattle.pb_semantics.specs.Gives.{FaultGives}
 use Rattle.pb_language.specs.Expression.{Expression, negation, membership}
 use Rattle.pb_language.specs.plain.Grammar.{Reader, Reading, reading, with_tree}
 use Rattle.pb_language.specs.Simple.{is_simple}
 use Rattle.pb_expr.specs.ExprView.{expr_view}
 use Rattle.pb_expr.specs.Forms.{related_by}
-use Rattle.pb_expr.specs.Letters.{IsSpelled, tokens_at}
-use Rattle.pb_expr.specs.Place.{place_of, least_width}
+use Rattle.pb_expr.specs.Letters.{tokens_at}
+use Rattle.pb_expr.specs.Lexed.{IsToken}
+use Rattle.pb_expr.specs.Place.{place_of}
 use Rattle.pb_expr.specs.Trees.{no_tree}
 use Rattle.pb_expr.specs.declared.expr.Expr.{Expr}
 use Rattle.pb_expr.specs.declared.fault.ExprFault.{ExprFault}
 use Rattle.pb_expr.specs.declared.lexer.Sort.{Sort}
 use Rattle.pb_expr.specs.declared.lexer.Sort.TheVariants as sort
 use Rattle.pb_expr.specs.declared.lexer.Token.{Token}
-
--- a token that the text has
-pub record IsToken (bs : List ℕ) (t : Token) : Type 0 where
-  pub wide : t.start + least_width t.sort ≤ t.end
-  pub within : t.end ≤ length bs
-  pub spelled : IsSpelled bs t
 
 -- that tree is read from the first token on, and this token stands behind it
 pub record IsRead (bs : List ℕ) (t : Token) (r : Expr × Token)

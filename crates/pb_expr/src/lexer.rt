@@ -6,13 +6,14 @@ ghost use Rattle.std.specs.Prelude.{slice_range, string_bytes, true, ℕ};
 ghost use Rattle.pb_expr.specs.Letters as letters;
 ghost use Rattle.pb_expr.specs.Letters.{IsSpelled, int_of, is_lettered, is_number, is_spelled};
 ghost use Rattle.pb_expr.specs.Letters.{letters_at, meaning_at};
-ghost use Rattle.pb_expr.specs.Letters.{quoted_letters, sort_tokens, tokens_at};
+ghost use Rattle.pb_expr.specs.Letters.{quoted_letters, sort_tokens};
+ghost use Rattle.pb_expr.specs.Lexed.{IsNext, IsNoToken};
 ghost use Rattle.pb_expr.specs.Place.{least_width, place_of};
 ghost use Rattle.pb_expr.specs.Signs.{begins_numeral, begins_other, is_double, sign_with};
 ghost use Rattle.pb_expr.specs.Signs.{starts_equal};
 ghost use Rattle.pb_expr.specs.Trees.{no_tree};
 ghost use Rattle.pb_semantics.specs.Words.{FaultGives, text as text_data};
-ghost use Rattle.pb_language.specs.Words.{Tokens, a_number, are_digits, are_name_bytes, escape_of};
+ghost use Rattle.pb_language.specs.Words.{Tokens, a_number, are_digits, escape_of};
 ghost use Rattle.pb_language.specs.Words.{is_digit, is_letter, literal, literal_of, number_then};
 ghost use Rattle.pb_language.specs.Words.{quoted, sign_then, token, tokens_from, tokens_of};
 ghost use Rattle.pb_language.specs.Words.{unreadable, word_token};
@@ -69,15 +70,8 @@ pub struct Token {
 /// The first token at `from` or after it.
 pub fn token_at(text: &[u8], from: usize) -> Result<Token, ExprFault>
     requires { from ≤ length text.now }
-
-    ensures begins { IfOk result (λ t. from ≤ t.start) }
-    ensures ends { IfOk result (λ t. t.end ≤ length text.now) }
-    ensures wide { IfOk result (λ t. t.start + least_width t.sort ≤ t.end) }
-    ensures read { IfOk result (λ t. tokens_at text.now t ≡ tokens_of (drop from text.now)) }
-    ensures spelled { IfOk result (λ t. IsSpelled text.now t) }
-
-    ensures refused { IfErr result (λ _. tokens_of (drop from text.now) ≡ unreadable) }
-    ensures place { IfErr result (λ e. place_of e ≤ length text.now) }
+    ensures next { IfOk result (IsNext text.now from) }
+    ensures refused { IfErr result (IsNoToken text.now from) }
 {
     let start = after_blanks(text, from);
     if start == text.len() {
@@ -185,15 +179,9 @@ fn after_blanks(text: &[u8], from: usize) -> usize
 fn sign_at(text: &[u8], start: usize) -> Result<Token, ExprFault>
     requires within { start < length text.now }
     requires apart { begins_other (slice_index text.now start) ≡ false }
-
     ensures begins { IfOk result (λ t. t.start ≡ start) }
-    ensures ends { IfOk result (λ t. t.end ≤ length text.now) }
-    ensures wide { IfOk result (λ t. t.start + least_width t.sort ≤ t.end) }
-    ensures read { IfOk result (λ t. tokens_at text.now t ≡ tokens_of (drop start text.now)) }
-    ensures spelled { IfOk result (λ t. IsSpelled text.now t) }
-
-    ensures refused { IfErr result (λ _. tokens_of (drop start text.now) ≡ unreadable) }
-    ensures place { IfErr result (λ e. place_of e ≤ length text.now) }
+    ensures next { IfOk result (IsNext text.now start) }
+    ensures refused { IfErr result (IsNoToken text.now start) }
 {
     let is_paired = has_equal(text, start + 1);
     let Some(sort) = sign_of(text[start], is_paired) else {
@@ -249,12 +237,8 @@ fn sign_of(byte: u8, is_paired: bool) -> Option<Sort>
 fn word_at(text: &[u8], start: usize) -> Token
     requires within { start < length text.now }
     requires letter { is_letter (slice_index text.now start) ≡ true }
-
     ensures begins { result.start ≡ start }
-    ensures ends { result.end ≤ length text.now }
-    ensures wide { result.start + least_width result.sort ≤ result.end }
-    ensures read { tokens_at text.now result ≡ tokens_of (drop start text.now) }
-    ensures spelled { IsSpelled text.now result }
+    ensures next { IsNext text.now start result }
 {
     let mut end = start + 1;
     while end < text.len() && is_in_name(text[end]) {
@@ -291,15 +275,9 @@ fn word_of(word: &[u8]) -> Sort
 fn number_at(text: &[u8], start: usize) -> Result<Token, ExprFault>
     requires within { start < length text.now }
     requires first { begins_numeral (slice_index text.now start) ≡ true }
-
     ensures begins { IfOk result (λ t. t.start ≡ start) }
-    ensures ends { IfOk result (λ t. t.end ≤ length text.now) }
-    ensures wide { IfOk result (λ t. t.start + least_width t.sort ≤ t.end) }
-    ensures read { IfOk result (λ t. tokens_at text.now t ≡ tokens_of (drop start text.now)) }
-    ensures spelled { IfOk result (λ t. IsSpelled text.now t) }
-
-    ensures refused { IfErr result (λ _. tokens_of (drop start text.now) ≡ unreadable) }
-    ensures place { IfErr result (λ e. place_of e ≤ length text.now) }
+    ensures next { IfOk result (IsNext text.now start) }
+    ensures refused { IfErr result (IsNoToken text.now start) }
 {
     let end = after_digits(text, start + 1);
     match numeral_of(&text[start..end]) {
@@ -374,15 +352,9 @@ fn is_numeral(digits: &[u8]) -> bool
 fn text_at(text: &[u8], start: usize) -> Result<Token, ExprFault>
     requires within { start < length text.now }
     requires quote { tokens.is_quote (slice_index text.now start) ≡ true }
-
     ensures begins { IfOk result (λ t. t.start ≡ start) }
-    ensures ends { IfOk result (λ t. t.end ≤ length text.now) }
-    ensures wide { IfOk result (λ t. t.start + least_width t.sort ≤ t.end) }
-    ensures read { IfOk result (λ t. tokens_at text.now t ≡ tokens_of (drop start text.now)) }
-    ensures spelled { IfOk result (λ t. IsSpelled text.now t) }
-
-    ensures refused { IfErr result (λ _. tokens_of (drop start text.now) ≡ unreadable) }
-    ensures place { IfErr result (λ e. place_of e ≤ length text.now) }
+    ensures next { IfOk result (IsNext text.now start) }
+    ensures refused { IfErr result (IsNoToken text.now start) }
 {
     match closing_after(text, start) {
         Some(end) => Ok(Token {

@@ -3,7 +3,7 @@ ghost use Rattle.std.specs.Prelude.{◌+◌, ◌<◌, ◌≡◌, ◌≤◌, Err,
 ghost use Rattle.std.specs.Prelude.{length, slice_range, true, vec_len, ℕ};
 ghost use Rattle.pb_semantics.specs.Words.{FaultGives, Gives, is_among, most_nesting};
 ghost use Rattle.pb_semantics.specs.Words.{most_path_steps};
-ghost use Rattle.pb_language.specs.Words.{Deeper, Expression, are_name_bytes, closed};
+ghost use Rattle.pb_language.specs.Words.{Deeper, Expression, closed};
 ghost use Rattle.pb_language.specs.Words.{conjunction_of, cut, cut_in, deeper, disjunction_of};
 ghost use Rattle.pb_language.specs.Words.{expression_of, is_mark, is_quote as is_quote_byte};
 ghost use Rattle.pb_language.specs.Words.{is_simple, literal, literal_before, negation_of};
@@ -13,8 +13,9 @@ ghost use Rattle.pb_language.specs.Words.{steps_of, template_of, tokens_of};
 ghost use Rattle.pb_value.specs.Words.{view};
 ghost use Rattle.pb_expr.specs.ExprView.{expr_view, names_of};
 ghost use Rattle.pb_expr.specs.Letters.{IsSpelled, is_lettered, letters_at, tokens_at};
-ghost use Rattle.pb_expr.specs.Reads.{IsRead, IsRefused, IsToken, joined_by, read_on};
-ghost use Rattle.pb_expr.specs.Place.{least_width, place_of};
+ghost use Rattle.pb_expr.specs.Lexed.{IsToken};
+ghost use Rattle.pb_expr.specs.Reads.{IsRead, IsRefused, joined_by, read_on};
+ghost use Rattle.pb_expr.specs.Place.{place_of};
 ghost use Rattle.pb_expr.specs.Trees.{no_tree};
 ghost use Rattle.pb_expr.specs.Forms.{first_literal, opening_at, with_bytes};
 

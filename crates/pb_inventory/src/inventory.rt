@@ -14,10 +14,10 @@ use pb_value::Fields;
 use std::alloc::{AllocError, Global};
 use std::sync::Arc;
 
-/// What is known of a host.
+// What is known of a host.
 #[derive(Drop)]
 struct Host {
-    /// The names of its groups but `all`, in the order of their bytes.
+    // The names of its groups but `all`, in the order of their bytes.
     groups: Vec<Arc<String>>,
     vars: Fields,
 }

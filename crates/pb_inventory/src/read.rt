@@ -16,7 +16,7 @@ use thiserror::Error;
 /// The most bytes of an inventory.
 pub const INVENTORY_LIMIT: usize = 4_194_304;
 
-/// The most bytes of a host's name.
+// The most bytes of a host's name.
 const MOST_NAME_BYTES: usize = 253;
 
 /// Why a text gives no inventory.

@@ -28,8 +28,8 @@ fn flag_of(fields: &Fields, name: &str) -> Option<bool> {
     }
 }
 
-/// Of a result: whether the task failed, how many fields it has, and the fields `changed` and
-/// `failed`.
+// Of a result: whether the task failed, how many fields it has, and the fields `changed` and
+// `failed`.
 type Told = (bool, usize, Option<bool>, Option<bool>);
 
 // What is told of the result; none for a breach.

@@ -5,7 +5,7 @@ use pb_value::{Fields, Value, read_json};
 use std::alloc::{AllocError, Global};
 use std::test::Fail;
 
-/// What the variables of these texts hold.
+// What the variables of these texts hold.
 const VARIABLES: &[u8] = br#"{"a":true,"b":false,"n":3,"s":"hello","r":{"in":true,"x":3}}"#;
 
 fn spelled(alloc: Global, value: &Value) -> Result<String, AllocError> {
@@ -57,7 +57,7 @@ fn is_text(expected: &Value, found: &str) -> Result<(), Fail> {
     }
 }
 
-/// Texts of expressions, each with what it is worth.
+// Texts of expressions, each with what it is worth.
 const EXPRESSIONS: &[u8] = br#"{
     "a": "true",
     "not n == 3": "false",
@@ -80,7 +80,7 @@ const EXPRESSIONS: &[u8] = br#"{
     "zz": "?"
 }"#;
 
-/// Texts that are no expression, and where; and texts of forms that aren't built yet.
+// Texts that are no expression, and where; and texts of forms that aren't built yet.
 const UNREAD: &[u8] = br#"{
     "": "E01 0",
     "a ==": "E01 4",
@@ -108,7 +108,7 @@ const UNREAD: &[u8] = br#"{
     "r['x']": "N00"
 }"#;
 
-/// Texts that may hold an expression, each with what it is worth.
+// Texts that may hold an expression, each with what it is worth.
 const TEMPLATES: &[u8] = br#"{
     "": "",
     "plain } text": "plain } text",

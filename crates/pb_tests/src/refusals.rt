@@ -8,7 +8,7 @@ use pb_verify::Checked;
 use std::alloc::Global;
 use std::test::Fail;
 
-/// A command whose result is registered, and a debug of its output.
+// A command whose result is registered, and a debug of its output.
 const COMMAND_AND_DEBUG: &[u8] =
     b"[{\"hosts\":\"all\",\"tasks\":[{\"command\":\"x\",\"register\":\"out\"},{\"debug\":{\"msg\":\"{{ out.stdout }}\"}}]}]";
 

@@ -1,5 +1,6 @@
 -- The loop that goes to a word's end.
-use Rattle.std.proofs.Common.{◌∙◌, slice_range, arith}
+use Rattle.std.proofs.Common.{◌∙◌, slice_range, arith, rules}
+use Rattle.std.proofs.lemmas.Grind.{common_steps}
 use Rattle.pb_expr.proofs.Numerals.{names-spelled}
 use Rattle.pb_expr.proofs.Scanned.{names-begin, names-turn, word-begins, word-turn}
 use Rattle.pb_expr.proofs.lexer.word_at.Goals as goal
@@ -24,5 +25,9 @@ loop-end-preserved c =
       read = c.loop-end.invariant.read ∙ word-turn text start end (omega arith) (omega arith) (cc);
     }
 
-pub returns-clause-spelled : goal.returns-clause-spelled
-returns-clause-spelled c = names-spelled c.word_of.result (slice_range c.args.text.now c.args.start c.loop-end.end) c.word_of.ensures.lettered c.loop-end.invariant.lettered
+pub returns-clause-next : goal.returns-clause-next
+returns-clause-next c = record {
+  begins = omega arith;
+  token = record { wide = search rules; within = search rules; spelled = names-spelled c.word_of.result (slice_range c.args.text.now c.args.start c.loop-end.end) c.word_of.ensures.lettered c.loop-end.invariant.lettered };
+  read = grind (arith, common_steps);
+}

@@ -27,9 +27,9 @@ pub and_at-returns-in_err-token_at-clause-refused : goal.and_at-returns-in_err-t
 and_at-returns-in_err-token_at-clause-refused t c =
     passed-refused c.args.text.now _ c.in_err-token_at.field-0.0 _ c.from_residual-in_err-token_at.ensures.1
     (record {
-      place = c.in_err-token_at.ensures.place;
+      place = c.in_err-token_at.ensures.refused.place;
       refused = refuses-none _ _ (and-breaks c.args.text.now c.args.depth (tokens_at c.args.text.now c.args.token) c.operands.operands.items c.operands.after c.operands.invariant.chain (search rules)
-          (ap (negation_of (deeper c.args.depth)) c.in_err-token_at.ensures.refused));
+          (ap (negation_of (deeper c.args.depth)) c.in_err-token_at.ensures.refused.refused));
     })
 
 pub and_at-returns-in_err-operand-clause-refused : goal.and_at-returns-in_err-operand-clause-refused
@@ -39,7 +39,7 @@ and_at-returns-in_err-operand-clause-refused t c =
       place = c.in_err-operand.ensures.refused.place;
       refused = refuses-more _ _ _ c.in_err-operand.ensures.refused.refused
           (λ none. and-breaks c.args.text.now c.args.depth (tokens_at c.args.text.now c.args.token) c.operands.operands.items c.operands.after c.operands.invariant.chain (search rules)
-          (ap (negation_of (deeper c.args.depth)) (sym c.in_ok-token_at.ensures.read) ∙ none));
+          (ap (negation_of (deeper c.args.depth)) (sym c.in_ok-token_at.ensures.next.read) ∙ none));
     })
 
 pub and_at-operands-preserved : goal.and_at-operands-preserved
@@ -51,7 +51,7 @@ and_at-operands-preserved t c = record {
   many = λ other. two-more c.push-in-operands.new.self.items c.operands.operands.items c.in_ok-operand.operand c.in_ok-push-2.ensures.items c.operands.invariant.one;
   chain =
       and-next c.args.text.now c.args.depth (tokens_at c.args.text.now c.args.token) c.operands.operands.items c.operands.after c.in_ok-token_at.field-0 c.in_ok-operand.next c.push-in-operands.new.self.items c.in_ok-operand.operand
-      c.operands.invariant.chain (search rules) c.in_ok-token_at.ensures.read c.in_ok-operand.ensures.read.tree c.in_ok-push-2.ensures.items;
+      c.operands.invariant.chain (search rules) c.in_ok-token_at.ensures.next.read c.in_ok-operand.ensures.read.tree c.in_ok-push-2.ensures.items;
 }
 
 pub and_at-returns-clause-read : goal.and_at-returns-clause-read
@@ -68,7 +68,7 @@ pub inside-returns-in_err-behind_closing-clause-refused : goal.inside-returns-in
 inside-returns-in_err-behind_closing-clause-refused t c =
     passed-refused c.args.text.now _ c.in_err-behind_closing.field-0.0 _ c.from_residual-in_err-behind_closing.ensures.1
     (subst (λ x. IsRefused (Reading Expression) c.args.text.now c.in_err-behind_closing.field-0.0 x)
-    (sym (inside-of c.args.depth c.args.text.now c.args.token c.in_ok-token_at.field-0 (expr_view c.in_ok-expr.expr) c.in_ok-expr.close (search rules) c.in_ok-token_at.ensures.read c.in_ok-expr.ensures.read.tree))
+    (sym (inside-of c.args.depth c.args.text.now c.args.token c.in_ok-token_at.field-0 (expr_view c.in_ok-expr.expr) c.in_ok-expr.close (search rules) c.in_ok-token_at.ensures.next.read c.in_ok-expr.ensures.read.tree))
     (c.in_err-behind_closing.ensures.refused (expr_view c.in_ok-expr.expr)))
 
 pub inside-returns-clause-read : goal.inside-returns-clause-read
@@ -77,7 +77,7 @@ inside-returns-clause-read t c = record {
   next = c.in_ok-behind_closing.ensures.next.1;
   simple = c.in_ok-expr.ensures.read.simple;
   tree =
-      inside-of c.args.depth c.args.text.now c.args.token c.in_ok-token_at.field-0 (expr_view c.in_ok-expr.expr) c.in_ok-expr.close (search rules) c.in_ok-token_at.ensures.read c.in_ok-expr.ensures.read.tree
+      inside-of c.args.depth c.args.text.now c.args.token c.in_ok-token_at.field-0 (expr_view c.in_ok-expr.expr) c.in_ok-expr.close (search rules) c.in_ok-token_at.ensures.next.read c.in_ok-expr.ensures.read.tree
       ∙ c.in_ok-behind_closing.ensures.read (expr_view c.in_ok-expr.expr);
 }
 
@@ -89,7 +89,7 @@ not_at-returns-clause-read t c =
       next = c.in_ok-operand.ensures.read.next;
       simple = ap is_simple same ∙ c.in_ok-operand.ensures.read.simple;
       tree =
-          negation-read c.args.depth c.args.text.now c.args.token c.in_ok-token_at.field-0 (expr_view c.in_ok-operand.operand) c.in_ok-operand.after (search rules) (search rules) c.in_ok-token_at.ensures.read c.in_ok-operand.ensures.read.tree
+          negation-read c.args.depth c.args.text.now c.args.token c.in_ok-token_at.field-0 (expr_view c.in_ok-operand.operand) c.in_ok-operand.after (search rules) (search rules) c.in_ok-token_at.ensures.next.read c.in_ok-operand.ensures.read.tree
           ∙ ap (λ e. Some (reading e (tokens_at c.args.text.now c.in_ok-operand.after))) (sym same);
     }
 
@@ -107,9 +107,9 @@ pub or_at-returns-in_err-token_at-clause-refused : goal.or_at-returns-in_err-tok
 or_at-returns-in_err-token_at-clause-refused t c =
     passed-refused c.args.text.now _ c.in_err-token_at.field-0.0 _ c.from_residual-in_err-token_at.ensures.1
     (record {
-      place = c.in_err-token_at.ensures.place;
+      place = c.in_err-token_at.ensures.refused.place;
       refused = refuses-none _ _ (or-breaks c.args.text.now c.args.depth (tokens_at c.args.text.now c.args.token) c.operands.operands.items c.operands.after c.operands.invariant.chain (search rules)
-          (ap (conjunction_of (deeper c.args.depth)) c.in_err-token_at.ensures.refused));
+          (ap (conjunction_of (deeper c.args.depth)) c.in_err-token_at.ensures.refused.refused));
     })
 
 pub or_at-returns-in_err-operand-clause-refused : goal.or_at-returns-in_err-operand-clause-refused
@@ -119,7 +119,7 @@ or_at-returns-in_err-operand-clause-refused t c =
       place = c.in_err-operand.ensures.refused.place;
       refused = refuses-more _ _ _ c.in_err-operand.ensures.refused.refused
           (λ none. or-breaks c.args.text.now c.args.depth (tokens_at c.args.text.now c.args.token) c.operands.operands.items c.operands.after c.operands.invariant.chain (search rules)
-          (ap (conjunction_of (deeper c.args.depth)) (sym c.in_ok-token_at.ensures.read) ∙ none));
+          (ap (conjunction_of (deeper c.args.depth)) (sym c.in_ok-token_at.ensures.next.read) ∙ none));
     })
 
 pub or_at-operands-preserved : goal.or_at-operands-preserved
@@ -131,7 +131,7 @@ or_at-operands-preserved t c = record {
   many = λ other. two-more c.push-in-operands.new.self.items c.operands.operands.items c.in_ok-operand.operand c.in_ok-push-2.ensures.items c.operands.invariant.one;
   chain =
       or-next c.args.text.now c.args.depth (tokens_at c.args.text.now c.args.token) c.operands.operands.items c.operands.after c.in_ok-token_at.field-0 c.in_ok-operand.next c.push-in-operands.new.self.items c.in_ok-operand.operand
-      c.operands.invariant.chain (search rules) c.in_ok-token_at.ensures.read c.in_ok-operand.ensures.read.tree c.in_ok-push-2.ensures.items;
+      c.operands.invariant.chain (search rules) c.in_ok-token_at.ensures.next.read c.in_ok-operand.ensures.read.tree c.in_ok-push-2.ensures.items;
 }
 
 pub or_at-returns-clause-read : goal.or_at-returns-clause-read

@@ -1,6 +1,6 @@
 use Rattle.pb_expr.specs.ExprView.{exprs_view}
 use Rattle.pb_expr.specs.Letters.{tokens_at}
-use Rattle.pb_expr.specs.Reads.{IsToken}
+use Rattle.pb_expr.specs.Lexed.{IsToken}
 use Rattle.pb_expr.specs.declared.lexer.Sort.TheVariants as sort
 use Rattle.pb_language.specs.plain.Grammar.{conjunction_of, deeper, negation_of}
 use Rattle.pb_language.specs.Tokens.{and_word, or_word}

@@ -5,9 +5,9 @@ use Rattle.pb_expr.proofs.parse.relation_behind.Goals as goal
 
 pub returns-in_ok-token_at-in-Equal-clause-read : goal.returns-in_ok-token_at-in-Equal-clause-read
 returns-in_ok-token_at-in-Equal-clause-read c a d =
-    related-sign c.args.text.now c.args.sign c.in_ok-token_at-in-Equal.field-0 a (operand_of d) c.in-Equal.is c.in_ok-token_at-in-Equal.ensures.read
+    related-sign c.args.text.now c.args.sign c.in_ok-token_at-in-Equal.field-0 a (operand_of d) c.in-Equal.is c.in_ok-token_at-in-Equal.ensures.next.read
 
 pub returns-in_ok-token_at-in-Not-clause-read : goal.returns-in_ok-token_at-in-Not-clause-read
 returns-in_ok-token_at-in-Not-clause-read c a d =
-    related-not-in c.args.text.now c.args.sign c.in_ok-word-in-Not.word c.in_ok-token_at-in-Not.field-0 a (operand_of d) c.in-Not.is c.in_ok-word-in-Not.ensures.read (search rules)
-    c.in_ok-token_at-in-Not.ensures.read
+    related-not-in c.args.text.now c.args.sign c.in_ok-word-in-Not.word c.in_ok-token_at-in-Not.field-0 a (operand_of d) c.in-Not.is c.in_ok-word-in-Not.ensures.next.read (search rules)
+    c.in_ok-token_at-in-Not.ensures.next.read

@@ -1,7 +1,7 @@
 use Rattle.pb_language.specs.plain.Grammar.{steps_of}
 use Rattle.pb_expr.specs.ExprView.{names_of}
 use Rattle.pb_expr.specs.Letters.{tokens_at}
-use Rattle.pb_expr.specs.Reads.{IsToken}
+use Rattle.pb_expr.specs.Lexed.{IsToken}
 use Rattle.pb_expr.proofs.Steps.{with_steps}
 use Rattle.std.proofs.Common.{◌≡◌, vec_len, length, ◌-◌, ◌≤◌}
 use Rattle.pb_expr.proofs.parse.steps_at.Given as goal

@@ -1,1 +1,2 @@
 pub mod KindOrder
+pub mod Words

@@ -11,6 +11,8 @@ mod expressions;
 #[cfg(test)]
 mod inventories;
 #[cfg(test)]
+mod lattices;
+#[cfg(test)]
 mod refusals;
 #[cfg(test)]
 mod runs;

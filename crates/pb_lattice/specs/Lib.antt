@@ -1,0 +1,2 @@
+pub mod KindOrder
+pub mod Words

@@ -12,7 +12,8 @@ use Rattle.pb_value.specs.FromJson.{json_data}
 use Rattle.pb_semantics.specs.Signature.{ModuleData}
 use Rattle.pb_sig.specs.Offences.{offence_of}
 use Rattle.pb_sig.specs.Registered.{registry_of}
-use Rattle.pb_sig.specs.Signatures.{Offence}
+use Rattle.pb_sig.specs.Signatures.{Offence, most_signature_bytes}
+use Rattle.pb_sig.specs.declared.registry.Registry.{Registry}
 use Rattle.pb_sig.specs.declared.fault.SignatureFault.{SignatureFault}
 use Rattle.pb_sig.specs.declared.fault.SignatureFault.TheVariants as signature
 use Rattle.pb_inventory.specs.Hosts.{InventoryData, inventory_of}
@@ -100,6 +101,13 @@ module _ (bs : List ℕ) where
       either : (b : Bool) → nat_lt most_inventory_bytes (length bs) ≡ b → P r
       either true e = subst P (sym (large (ltb-true most_inventory_bytes (length bs) e))) built
       either false e = subst P (sym (no_text (sym (ap (λ b. not b && is_utf8 bs) e) ∙ h) (ltb-false most_inventory_bytes (length bs) e))) json
+
+  -- of the reader of signatures: a file that isn't looked into is refused
+  pub signatures-unlooked : (r : Result Registry SignatureFault) → (most_signature_bytes < length bs → r ≡ Err signature.Limit) → (P : Result Registry SignatureFault → Type 0) → is_looked_into most_signature_bytes bs ≡ false → (is_utf8 bs ≡ false → length bs ≤ most_signature_bytes → r ≡ Err signature.NotJson) → P (Err signature.Limit) → P (Err signature.NotJson) → P r
+  signatures-unlooked r large P h no_text limit json = either (nat_lt most_signature_bytes (length bs)) refl where
+    either : (b : Bool) → nat_lt most_signature_bytes (length bs) ≡ b → P r
+    either true e = subst P (sym (large (ltb-true most_signature_bytes (length bs) e))) limit
+    either false e = subst P (sym (no_text (sym (ap (λ b. not b && is_utf8 bs) e) ∙ h) (ltb-false most_signature_bytes (length bs) e))) json
 
   -- and of the reader of books
   module _ (ms : List ModuleData) (r : Result Book BookFault) (large : most_book_bytes < length bs → r ≡ Err book.NotBuilt) where

@@ -17,4 +17,6 @@ mod refusals;
 #[cfg(test)]
 mod runs;
 #[cfg(test)]
+mod signatures;
+#[cfg(test)]
 mod views;

@@ -31,6 +31,7 @@ def program_checks(top):
         *not_json(),
         *odd_json(),
         *answer_shapes(),
+        *signature_files(),
         *grown_values(),
         *hostile_books(),
         *growths(),
@@ -335,6 +336,55 @@ MOST_GROWTH = 2.5  # where a book is twice as large
 GLIMPSE = 0.05  # a time that says nothing of its growth
 
 
+# Files of signatures: the order of the files, limits to the last byte and level, and hostile ones.
+
+
+FLAG = {"kind": "bool", "always": True}
+TEXT = {"kind": "text", "always": True}
+SIGNED = ["check", "book", "-i", "inventory", "-s", "signatures"]
+
+
+def module_of(name="probe", params=None, ok=None):
+    failure = {"changed": FLAG, "msg": TEXT}
+    return {"name": name, "params": params or {}, "ok": {"changed": FLAG, **(ok or {})}, "failure": failure}
+
+
+def nested_kind(levels):
+    kind = "int"
+    for _ in range(levels):
+        kind = {"list": kind, "max": 1}
+    return {"p": {"kind": kind, "required": False}}
+
+
+def signature_files():
+    accepted = exactly("accepted budget 0\n", 0)
+    fields = lambda count: {f"f{n}": {"kind": "int", "always": False} for n in range(count)}
+    files = {
+        "none": ([], accepted),
+        "8-levels": ([module_of(params=nested_kind(8))], accepted),
+        "9-levels": ([module_of(params=nested_kind(9))], refused("S05")),
+        "60-levels": ([module_of(params=nested_kind(60))], refused("S05")),
+        "64-fields": ([module_of(ok=fields(63))], accepted),
+        "65-fields": ([module_of(ok=fields(64))], refused("S05")),
+        "20000-fields": ([module_of(ok=fields(20_000))], refused("S05")),
+        "name-of-64": ([module_of("a" * 64)], accepted),
+        "name-of-65": ([module_of("a" * 65)], refused("S02")),
+        "name-twice": ([module_of(), module_of()], refused("S04")),
+        "law-before-form-later": ([module_of(ok={"results": TEXT}), 5], refused("S03")),
+    }
+    text = {name: (json.dumps(modules), judge) for name, (modules, judge) in files.items()}
+    text["not-utf8"] = (b'["\xff"]', refused("S01"))
+    text["largest"] = ("[]" + " " * 1_048_574, accepted)
+    text["too-large"] = ("[]" + " " * 1_048_575, refused("S05"))
+    checks = [Check(f"signatures-{name}", SIGNED, judge, {**FILES, "signatures": content}) for name, (content, judge) in text.items()]
+    bad = {"book": "[", "inventory": "[", "signatures": "["}
+    return checks + [
+        Check("signatures-first", SIGNED, refused("S01"), {**FILES, **bad}),
+        Check("inventory-second", SIGNED, refused("I01"), {**FILES, **bad, "signatures": "[]"}),
+        Check("book-last", SIGNED, refused("P01"), {**FILES, "book": "["}),
+    ]
+
+
 def hostile_books():
     as_list = lambda text: [text, text]
     as_record = lambda text: {"f": text, "g": text}
@@ -480,7 +530,7 @@ def python_reads(content):
 
 
 def examples(folder):
-    first, settings, faulty = folder / "first", folder / "settings", folder / "faulty"
+    first, settings, signed, faulty = (folder / name for name in ["first", "settings", "signed", "faulty"])
     recap = "web1 : ok=7 changed=3 unreachable=0 failed=0 skipped=0 rescued=0 ignored=0\n"
     settings_recap = "web1 : ok=6 changed=4 unreachable=0 failed=0 skipped=1 rescued=0 ignored=0\n"
     return [
@@ -495,6 +545,12 @@ def examples(folder):
             "example-settings-run",
             [*words_of("run", settings), "--answers", str(settings / "answers.json")],
             exactly(settings_recap, 0),
+        ),
+        Check("example-signed", [*words_of("check", signed), "-s", str(signed / "signatures.json")], exactly("accepted budget 2\n", 0)),
+        Check(
+            "example-signed-run",
+            [*words_of("run", signed), "-s", str(signed / "signatures.json"), "--answers", str(signed / "answers.json")],
+            exactly("web1 : ok=2 changed=1 unreachable=0 failed=0 skipped=0 rescued=0 ignored=0\n", 0),
         ),
         Check("example-faulty", words_of("check", faulty), exactly("refused V03 line 5 host web1\n", 1)),
     ]

@@ -74,13 +74,13 @@ built (Some x) = Ok x
 
 -- what a text is, by what its value is, or else the code of the whole file
 abbrev pub of_text : {X : Type 0} → Code → (Data → Option X) → Option Data → Result X Code
-of_text not_json read None = Err not_json
-of_text not_json read (Some d) = built (read d)
+of_text code read None = Err code
+of_text code read (Some d) = built (read d)
 
 -- a text that is too long isn't looked at
 abbrev pub of_bytes : {X : Type 0} → ℕ → Code → (Data → Option X) → List ℕ → Result X Code
-of_bytes most not_json read bytes =
-    if nat_lt most (length bytes) then Err N00 else of_text not_json read (json_data bytes)
+of_bytes most code read bytes =
+    if nat_lt most (length bytes) then Err N00 else of_text code read (json_data bytes)
 
 -- a text is looked into: it isn't too long, and is UTF-8
 abbrev pub is_looked_into : ℕ → List ℕ → Bool

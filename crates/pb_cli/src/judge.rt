@@ -198,7 +198,7 @@ fn judge_read(
         (book_verdict (modules_of registry) book.now)) }
     ensures kept { IfOk result (λ c. c.inventory ≡ inventory) }
     ensures book_read { IfOk result
-        (λ c. book_verdict (modules_of registry) book.now ≡ Ok (book_of c.book)) }
+        (λ c. book_verdict (modules_of c.registry) book.now ≡ Ok (book_of c.book)) }
     ensures modules { IfOk result (λ c. c.registry ≡ registry) }
 {
     let book = Book::read(alloc, book, &registry)?;

@@ -30,7 +30,7 @@ fn declared_modules(rt: HostRuntime) -> Result<(), Fail> {
     let registry = read(rt.alloc(), text.as_str())?;
     let probe = registry.find("probe").ok_or("no such module")?;
     assert!(rt; probe.name() == "probe" && probe.shared_name().as_str() == "probe");
-    assert!(rt; probe.params().len() == 1 && probe.params()[0].required);
+    assert!(rt; matches!(probe.params(), [only] if only.required));
     assert!(rt; probe.free_form().is_none());
     assert!(rt; registry.find("ping").is_some() && registry.find("zz").is_none());
     assert!(rt; registry.modules().len() == Registry::builtin(rt.alloc())?.modules().len() + 1);
@@ -61,7 +61,12 @@ fn refused_signatures(rt: HostRuntime) -> Result<(), Fail> {
     let lawless = list_of(rt.alloc(), WITHOUT_MSG, "5")?;
     assert!(rt; matches!(read(rt.alloc(), lawless.as_str()), Err(SignatureFault::Law)));
     let malformed = list_of(rt.alloc(), "5", WITHOUT_MSG)?;
-    assert!(rt; matches!(read(rt.alloc(), malformed.as_str()), Err(SignatureFault::Form)));
+    assert!(rt;
+        matches!(
+            read(rt.alloc(), malformed.as_str()),
+            Err(SignatureFault::Form)
+        )
+    );
     let taken = list_of(rt.alloc(), PROBE, NAMED_PING)?;
     assert!(rt; matches!(read(rt.alloc(), taken.as_str()), Err(SignatureFault::Taken)));
     let twice = list_of(rt.alloc(), PROBE, PROBE)?;
@@ -74,5 +79,7 @@ fn refused_signatures(rt: HostRuntime) -> Result<(), Fail> {
 #[test]
 fn names(rt: HostRuntime) {
     assert!(rt; is_variable("a_1") && is_variable("_") && !is_variable("1a") && !is_variable(""));
-    assert!(rt; is_one_of("b", &["a", "b"]) && !is_one_of("c", &["a", "b"]) && !is_one_of("a", &[]));
+    assert!(rt;
+        is_one_of("b", &["a", "b"]) && !is_one_of("c", &["a", "b"]) && !is_one_of("a", &[])
+    );
 }

@@ -27,14 +27,16 @@ returns-in_err-verify-clause-verdict c =
 
 pub returns-clause-book_read : goal.returns-clause-book_read
 returns-clause-book_read c =
-    let ms = modules_of c.args.registry in
     let b = c.in_ok-book.book in
-    book_verdict-read c.args.book.now ms c.read.result c.read.ensures.large b c.in_ok-book.was c.in_ok-book.ensures.book ∙ ap (λ x. Ok (book_of x)) (sym c.in_ok-verify.ensures.handed.0)
+    let kept = c.in_ok-verify.ensures.handed in
+    ap (λ r. book_verdict (modules_of r) c.args.book.now) kept.2
+    ∙ book_verdict-read c.args.book.now (modules_of c.args.registry) c.read.result c.read.ensures.large b c.in_ok-book.was c.in_ok-book.ensures.book ∙ ap (λ x. Ok (book_of x)) (sym kept.0)
 
 pub returns-clause-verdict : goal.returns-clause-verdict
 returns-clause-verdict c =
     let ms = modules_of c.args.registry in
     let i = inventory_view c.args.inventory in
+    let b = c.in_ok-book.book in
     let kept = c.in_ok-verify.ensures.handed in
-    Tells-accepted ms i (book_of c.in_ok-verify.field-0.book) c.in_ok-verify.field-0 (book_verdict ms c.args.book.now) (returns-clause-book_read c)
-    (ap (λ b. judged ms (inventory_of i) (book_of b)) kept.0 ∙ c.in_ok-verify.ensures.verdict)
+    let read = book_verdict-read c.args.book.now ms c.read.result c.read.ensures.large b c.in_ok-book.was c.in_ok-book.ensures.book in
+    Tells-accepted ms i (book_of b) c.in_ok-verify.field-0 (book_verdict ms c.args.book.now) read c.in_ok-verify.ensures.verdict

@@ -1,5 +1,5 @@
 use Rattle.std.proofs.Common.{◌≡◌, Err, Ok, Some, sym, ap, ◌∙◌}
-use Rattle.std.proofs.lemmas.Result.{err_from_is_err_and}
+use Rattle.std.proofs.lemmas.Result.{IfOk-weaker, err_from_is_err_and}
 use Rattle.pb_inventory.specs.Inventory.{inventory_view}
 use Rattle.pb_sig.specs.Modules.{modules_of}
 use Rattle.pb_sig.specs.Registered.{registry_of}
@@ -31,6 +31,11 @@ returns-clause-verdict c =
     let read = inventory_verdict-read c.args.inventory.now c.read-2.result c.read-2.ensures.large c.in_ok-inventory.inventory c.in_ok-inventory.was c.in_ok-inventory.ensures.ok in
     Tells-after c.judge_read.result (modules_verdict (Some c.args.signatures.now)) ms c.args.inventory.now c.args.book.now (ap with_code c.in_ok-registry.ensures.verdict)
     (Tells-found c.judge_read.result ms i (inventory_verdict c.args.inventory.now) (book_verdict ms c.args.book.now) read c.judge_read.ensures.verdict)
+
+pub returns-clause-read : goal.returns-clause-read
+returns-clause-read c =
+    let read = inventory_verdict-read c.args.inventory.now c.read-2.result c.read-2.ensures.large c.in_ok-inventory.inventory c.in_ok-inventory.was c.in_ok-inventory.ensures.ok in
+    IfOk-weaker c.judge_read.result _ _ (λ _ kept. read ∙ ap (λ i. Ok (inventory_view i)) (sym kept)) c.judge_read.ensures.kept
 
 pub returns-in_err-registry-clause-apart : goal.returns-in_err-registry-clause-apart
 returns-in_err-registry-clause-apart c = λ unlooked memory.

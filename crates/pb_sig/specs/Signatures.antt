@@ -1,7 +1,7 @@
 -- The modules that a file of signatures declares, or why it is refused (this project's own).
-use Rattle.std.specs.Prelude.{ℕ, zero, suc, pos, List, [], ◌∷◌, ◌++◌, length, map, Bool, true, false}
-use Rattle.std.specs.Prelude.{not, ◌&&◌, ◌||◌, ◌==◌, nat_le, nat_lt, cond, Option, Some, None, codes}
-use Rattle.std.specs.Prelude.{Result, Ok, Err}
+use Rattle.std.specs.Prelude.{ℕ, zero, suc, pos, List, [], ◌∷◌, ◌++◌, length, map, Bool, true}
+use Rattle.std.specs.Prelude.{false, not, ◌&&◌, ◌||◌, ◌==◌, nat_le, nat_lt, cond, Option, Some}
+use Rattle.std.specs.Prelude.{None, codes, Result, Ok, Err}
 use Rattle.std.specs.List.{starts_with}
 use Rattle.std.specs.Str.{bytes_eq}
 use Rattle.pb_semantics.specs.Data.{Data, Items, Fields, boolean, int, text, list, rec, no_items}

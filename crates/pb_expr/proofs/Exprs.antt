@@ -1,13 +1,16 @@
 -- The layers of values and of expressions.
-use Rattle.std.proofs.Common.{◌≡◌, Bool, Box, Vec, Global, rules}
+use Rattle.std.proofs.Common.{◌≡◌, Bool, Box, Vec, Global, string_bytes, rules}
 use Rattle.pb_semantics.specs.Data.{boolean, opaque}
-use Rattle.pb_language.specs.Expression.{equal, literal, negation, conjunction, disjunction, comparison, membership, list_of}
+use Rattle.pb_language.specs.Expression.{literal, negation, conjunction, disjunction, comparison, membership, undefinable, value_status, path_or, value_or, length_of, joined_by, concatenation, list_of, variable}
 use Rattle.pb_value.specs.View.{view}
 use Rattle.pb_value.specs.declared.value.Value as Value-of
 use Rattle.pb_value.specs.declared.value.Value.{Value, the_lemmas as value_lemmas}
-use Rattle.pb_expr.specs.ExprView.{expr_view, exprs_view}
+use Rattle.pb_expr.specs.ExprView.{expr_view, exprs_view, names_of, comparison_view, status_view}
 use Rattle.pb_expr.specs.declared.expr.Expr.{Expr, the_lemmas}
 use Rattle.pb_expr.specs.declared.expr.Expr as Expr-of
+use Rattle.pb_expr.specs.declared.expr.Comparison.{Comparison}
+use Rattle.pb_expr.specs.declared.expr.Path.{Path}
+use Rattle.pb_expr.specs.declared.expr.Status.{Status}
 
 pub view-Bool : (b : Bool) → view (Value-of.Bool b) ≡ boolean b
 view-Bool b = search (rules, value_lemmas)
@@ -18,11 +21,29 @@ view-Opaque = search (rules, value_lemmas)
 pub view-Not : (b : Box Expr Global) → expr_view (Expr-of.Not b) ≡ negation (expr_view b.value)
 view-Not b = search (rules, the_lemmas)
 
-pub view-Equal : (a b : Box Expr Global) → expr_view (Expr-of.Equal a b) ≡ comparison equal (expr_view a.value) (expr_view b.value)
-view-Equal a b = search (rules, the_lemmas)
+pub view-Compare : (c : Comparison) (a b : Box Expr Global) → expr_view (Expr-of.Compare c a b) ≡ comparison (comparison_view c) (expr_view a.value) (expr_view b.value)
+view-Compare c a b = search (rules, the_lemmas)
 
-pub view-Unequal : (a b : Box Expr Global) → expr_view (Expr-of.Unequal a b) ≡ negation (comparison equal (expr_view a.value) (expr_view b.value))
-view-Unequal a b = search (rules, the_lemmas)
+pub view-Undefinable : (b : Box Expr Global) → expr_view (Expr-of.Undefinable b) ≡ undefinable (expr_view b.value)
+view-Undefinable b = search (rules, the_lemmas)
+
+pub view-Status : (s : Status) (b : Box Expr Global) → expr_view (Expr-of.Status s b) ≡ value_status (status_view s) (expr_view b.value)
+view-Status s b = search (rules, the_lemmas)
+
+pub view-PathOr : (p : Path) (b : Box Expr Global) → expr_view (Expr-of.PathOr p b) ≡ path_or (variable (string_bytes p.root)) (names_of p.steps.items) (expr_view b.value)
+view-PathOr p b = search (rules, the_lemmas)
+
+pub view-ValueOr : (a b : Box Expr Global) → expr_view (Expr-of.ValueOr a b) ≡ value_or (expr_view a.value) (expr_view b.value)
+view-ValueOr a b = search (rules, the_lemmas)
+
+pub view-Length : (b : Box Expr Global) → expr_view (Expr-of.Length b) ≡ length_of (expr_view b.value)
+view-Length b = search (rules, the_lemmas)
+
+pub view-Join : (a b : Box Expr Global) → expr_view (Expr-of.Join a b) ≡ joined_by (expr_view a.value) (expr_view b.value)
+view-Join a b = search (rules, the_lemmas)
+
+pub view-Concat : (v : Vec Expr Global) → expr_view (Expr-of.Concat v) ≡ concatenation (exprs_view v.items)
+view-Concat v = search (rules, the_lemmas)
 
 pub view-In : (a b : Box Expr Global) → expr_view (Expr-of.In a b) ≡ membership (expr_view a.value) (expr_view b.value)
 view-In a b = search (rules, the_lemmas)

@@ -1,19 +1,20 @@
 -- The fault and the kind of a form beside those of its operands.
-use Rattle.std.proofs.Common.{◌≡◌, suc, List, [], ◌∷◌, ◌++◌, length, Bool, true, false, ◌&&◌, Option, Some, None, refl, sym, ap, ◌∙◌}
+use Rattle.std.proofs.Common.{◌≡◌, ℕ, suc, ◌+◌, ◌<◌, List, [], ◌∷◌, ◌++◌, length, drop, get_or, String, Global, string_bytes, Bool, true, false, ◌&&◌, Option, Some, None, refl, sym, ap, ◌∙◌}
 use Rattle.pb_semantics.specs.Kind.{KindData, Slots, Spot, never, recs, nowhere, spot, slot_at}
 use Rattle.pb_semantics.specs.Join.{join}
 use Rattle.pb_language.specs.Expression.{Name, Expressions, expression}
 use Rattle.pb_language.specs.Scope.{Scope, spot_kind, below_spot}
-use Rattle.pb_language.specs.Kinds.{path_spot, count, kind_of}
+use Rattle.pb_language.specs.Kinds.{path_spot, step_spot, count, kind_of}
 use Rattle.pb_language.specs.Fit.{Fault, perhaps_missing, first, is_boolean, field_fault, steps_fault, fault, chain_fault, are_booleans}
 use Rattle.pb_language.specs.Narrow.{narrow}
 use Rattle.pb_language.proofs.Untaught.{narrow_untaught}
 use Rattle.pb_value.specs.KindView.{kind_view}
 use Rattle.pb_value.specs.declared.kind.Kind.{Kind}
-use Rattle.pb_expr.specs.ExprView.{expr_view, exprs_view}
+use Rattle.pb_expr.specs.ExprView.{expr_view, exprs_view, names_of}
 use Rattle.pb_expr.specs.FitView.{LeadsTo, certain}
 use Rattle.pb_value.specs.Growing.{joined_onto}
 use Rattle.pb_expr.specs.declared.expr.Expr.{Expr}
+use Rattle.pb_expr.proofs.Turns.{drop-at}
 use Rattle.pb_expr.proofs.Untaught.{expr-untaught}
 
 -- a chain knows at each operand what it knew before the first
@@ -58,3 +59,14 @@ field-uncertain n ns ss h = missing (slot_at n ss) (steps_fault ns) h
 pub below-never : (n : Name) (ns : List Name) → LeadsTo (n ∷ ns) never ns never
 below-never n [] = (refl, refl)
 below-never n (m ∷ ns) = (refl, refl)
+
+-- a path that is lost stays so
+pub nowhere-below : (ns : List Name) → path_spot ns nowhere ≡ nowhere
+nowhere-below [] = refl
+nowhere-below (n ∷ ns) = refl
+
+pub lost-below : (ns : List (String Global)) (i : ℕ) (n : String Global) (a : Bool) (k : KindData) → i < length ns → n ≡ get_or ns i n → nowhere ≡ step_spot (string_bytes n) k
+    → path_spot (names_of (drop i ns)) (spot a k) ≡ nowhere
+lost-below ns i n a k lt is lost =
+    ap (λ ms. path_spot (names_of ms) (spot a k)) (drop-at ns i n lt is)
+    ∙ ap (λ s. path_spot (names_of (drop (i + 1) ns)) (below_spot a s)) (sym lost) ∙ nowhere-below (names_of (drop (i + 1) ns))

@@ -2,7 +2,9 @@ pub mod Equality
 pub mod Outcomes
 pub mod Exprs
 pub mod Turns
+pub mod MadeTexts
 pub mod Findings
+pub mod Answered
 pub mod Parsed
 pub mod Ascending
 pub mod Untaught

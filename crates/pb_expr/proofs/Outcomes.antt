@@ -1,10 +1,10 @@
 -- The value of a form beside the values of its operands.
-use Rattle.std.proofs.Common.{◌≡◌, ℕ, List, [], ◌∷◌, ◌++◌, Bool, true, false, ◌||◌, Some, None, refl, sym, ap, ◌∙◌}
+use Rattle.std.proofs.Common.{◌≡◌, ℕ, ℤ, List, [], ◌∷◌, ◌++◌, Bool, true, false, ◌||◌, int_lt, int_le, Some, None, refl, sym, ap, ◌∙◌}
 use Rattle.pb_semantics.specs.Data.{Data, Items, Fields, null, boolean, int, text, list, rec, opaque, no_items, item, no_fields, field}
 use Rattle.pb_language.specs.Evaluates.{is_unreadable}
-use Rattle.pb_language.specs.Expression.{Expressions, no_expressions, expression}
+use Rattle.pb_language.specs.Expression.{Comparison, equal, less, at_most, more, at_least, Expressions, no_expressions, expression}
 use Rattle.pb_language.specs.World.{World}
-use Rattle.pb_language.specs.Evaluation.{Outcome, Stuck, value, stuck, wrong_sort, then_go, only_boolean, negated, and_then, or_then, holds_opaque, equal_values, found_in, put_item, put_part, eval, eval_all, eval_any}
+use Rattle.pb_language.specs.Evaluation.{Outcome, Stuck, value, stuck, wrong_sort, then_go, only_boolean, negated, and_then, or_then, holds_opaque, equal_values, ordered, compared, found_in, joined, put_item, put_part, eval, eval_all, eval_any}
 use Rattle.pb_value.specs.Append.{append_fields}
 use Rattle.pb_value.specs.View.{view, items_view, truth}
 use Rattle.pb_value.specs.declared.value.Value.{Value}
@@ -14,37 +14,74 @@ or_right : (b : Bool) → (b || true) ≡ true
 or_right true = refl
 or_right false = refl
 
--- an operand without a value may as well be opaque
-pub negated-by : (r d : Data) (o : Outcome) → r ≡ shown (negated d) → d ≡ shown o → r ≡ shown (then_go o negated)
-negated-by r d (stuck s) h i = h ∙ ap (λ x. shown (negated x)) i
-negated-by r d (value e) h i = h ∙ ap (λ x. shown (negated x)) i
+-- an operand without a value may as well be opaque, where what is opaque spoils the form
+pub one-by : (h : Data → Outcome) (r d : Data) (o : Outcome) → shown (h opaque) ≡ opaque → r ≡ shown (h d) → d ≡ shown o → r ≡ shown (then_go o h)
+one-by h r d (stuck s) spoils is told = is ∙ ap (λ x. shown (h x)) told ∙ spoils
+one-by h r d (value e) spoils is told = is ∙ ap (λ x. shown (h x)) told
 
-equal-both : (o p : Outcome) → shown (equal_values (shown o) (shown p)) ≡ shown (then_go o (λ d. then_go p (equal_values d)))
-equal-both (stuck s) p = refl
-equal-both (value d) (stuck s) = rw (or_right (holds_opaque d)) refl
-equal-both (value d) (value e) = refl
+strict : (h : Data → Data → Outcome) (o p : Outcome) → ((x : Data) → shown (h opaque x) ≡ opaque) → ((x : Data) → shown (h x opaque) ≡ opaque)
+    → shown (h (shown o) (shown p)) ≡ shown (then_go o (λ x. then_go p (h x)))
+strict h (stuck s) p first second = first (shown p)
+strict h (value d) (stuck s) first second = second d
+strict h (value d) (value e) first second = refl
 
-found-opaque : (e : Data) → shown (found_in opaque e) ≡ opaque
-found-opaque (list es) = refl
-found-opaque e = refl
+both-by : (h : Data → Data → Outcome) (r d e : Data) (o p : Outcome) → ((x : Data) → shown (h opaque x) ≡ opaque) → ((x : Data) → shown (h x opaque) ≡ opaque)
+    → r ≡ shown (h d e) → d ≡ shown o → e ≡ shown p → r ≡ shown (then_go o (λ x. then_go p (h x)))
+both-by h r d e o p first second is one two =
+    is ∙ ap (λ x. shown (h x e)) one ∙ ap (λ x. shown (h (shown o) x)) two ∙ strict h o p first second
 
-found-both : (o p : Outcome) → shown (found_in (shown o) (shown p)) ≡ shown (then_go o (λ d. then_go p (found_in d)))
-found-both (stuck s) p = found-opaque (shown p)
-found-both (value null) (stuck s) = refl
-found-both (value (boolean b)) (stuck s) = refl
-found-both (value (int z)) (stuck s) = refl
-found-both (value (text t)) (stuck s) = refl
-found-both (value (list ds)) (stuck s) = refl
-found-both (value (rec fs)) (stuck s) = refl
-found-both (value opaque) (stuck s) = refl
-found-both (value d) (value e) = refl
+ordered-opaque : (f : ℤ → ℤ → Bool) (d : Data) → shown (ordered f d opaque) ≡ opaque
+ordered-opaque f (int z) = refl
+ordered-opaque f d = refl
 
-pub equal-by : (r d e : Data) (o p : Outcome) → r ≡ shown (equal_values d e) → d ≡ shown o → e ≡ shown p → r ≡ shown (then_go o (λ x. then_go p (equal_values x)))
-equal-by r d e o p h i j =
-    h ∙ ap (λ x. shown (equal_values x e)) i ∙ ap (λ x. shown (equal_values (shown o) x)) j ∙ equal-both o p
+compared-first : (c : Comparison) (e : Data) → shown (compared c opaque e) ≡ opaque
+compared-first equal e = refl
+compared-first less e = refl
+compared-first at_most e = refl
+compared-first more e = refl
+compared-first at_least e = refl
+
+compared-second : (c : Comparison) (d : Data) → shown (compared c d opaque) ≡ opaque
+compared-second equal d = rw (or_right (holds_opaque d)) refl
+compared-second less d = ordered-opaque _ d
+compared-second at_most d = ordered-opaque _ d
+compared-second more d = ordered-opaque _ d
+compared-second at_least d = ordered-opaque _ d
+
+pub compared-by : (c : Comparison) (r d e : Data) (o p : Outcome) → r ≡ shown (compared c d e) → d ≡ shown o → e ≡ shown p
+    → r ≡ shown (then_go o (λ x. then_go p (compared c x)))
+compared-by c r d e o p = both-by (compared c) r d e o p (compared-first c) (compared-second c)
+
+found-first : (e : Data) → shown (found_in opaque e) ≡ opaque
+found-first (list es) = refl
+found-first e = refl
+
+found-second : (d : Data) → shown (found_in d opaque) ≡ opaque
+found-second (text s) = refl
+found-second d = refl
 
 pub found-by : (r d e : Data) (o p : Outcome) → r ≡ shown (found_in d e) → d ≡ shown o → e ≡ shown p → r ≡ shown (then_go o (λ x. then_go p (found_in x)))
-found-by r d e o p h i j = h ∙ ap (λ x. shown (found_in x e)) i ∙ ap (λ x. shown (found_in (shown o) x)) j ∙ found-both o p
+found-by r d e o p = both-by found_in r d e o p found-first found-second
+
+joined-second : (d : Data) → shown (joined d opaque) ≡ opaque
+joined-second (list ds) = refl
+joined-second d = refl
+
+pub joined-by : (r d e : Data) (o p : Outcome) → r ≡ shown (joined d e) → d ≡ shown o → e ≡ shown p → r ≡ shown (then_go o (λ x. then_go p (joined x)))
+joined-by r d e o p = both-by joined r d e o p (λ x. refl) joined-second
+
+-- an order the other way round
+ordered-back : (f : ℤ → ℤ → Bool) (d e : Data) → shown (ordered f e d) ≡ shown (ordered (λ y z. f z y) d e)
+ordered-back f (int y) (int z) = refl
+ordered-back f (int y) e = refl
+ordered-back f d (int z) = refl
+ordered-back f d e = refl
+
+pub more-less : (d e : Data) → shown (compared less e d) ≡ shown (compared more d e)
+more-less d e = ordered-back (λ y z. int_lt y z) d e
+
+pub at_least-at_most : (d e : Data) → shown (compared at_most e d) ≡ shown (compared at_least d e)
+at_least-at_most d e = ordered-back (λ y z. int_le y z) d e
 
 only-once : (o : Outcome) → then_go (then_go o only_boolean) only_boolean ≡ then_go o only_boolean
 only-once (stuck s) = refl

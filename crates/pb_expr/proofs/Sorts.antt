@@ -71,6 +71,12 @@ negation-read n bs t first e u is some next h =
     ap (negation_of (deeper n)) (of_sort bs t sort.Not is) ∙ ap (λ (f : Reader). with_tree (λ x. negation x) (f (behind bs t))) (negated-deeper n some)
     ∙ ap (λ ts. with_tree (λ x. negation x) (negation_of (deeper (n - 1)) ts)) (sym next) ∙ ap (with_tree (λ x. negation x)) h
 
+pub negation-refused : (n : ℕ) (bs : List ℕ) (t first : Place) → t.sort ≡ sort.Not → (n ≡ 0 → ⊥) → tokens_at bs first ≡ behind bs t
+    → negation_of (deeper (n - 1)) (tokens_at bs first) ≡ None → negation_of (deeper n) (tokens_at bs t) ≡ None
+negation-refused n bs t first is some next h =
+    ap (negation_of (deeper n)) (of_sort bs t sort.Not is) ∙ ap (λ (f : Reader). with_tree (λ x. negation x) (f (behind bs t))) (negated-deeper n some)
+    ∙ ap (λ ts. with_tree (λ x. negation x) (negation_of (deeper (n - 1)) ts)) (sym next) ∙ ap (with_tree (λ x. negation x)) h
+
 -- an expression behind which the text ends, and one behind which it goes on
 pub whole-read : (n : ℕ) (bs : List ℕ) (from : ℕ) (t : Place) (e : Expression) (u : Place) → n ≡ 32 → tokens_at bs t ≡ tokens_of (drop from bs)
     → disjunction_of (deeper n) (tokens_at bs t) ≡ Some (reading e (tokens_at bs u)) → u.sort ≡ sort.End → expression_of (drop from bs) ≡ Some e

@@ -2,16 +2,16 @@
 use Rattle.std.proofs.Common.{◌≡◌, ℕ, suc, ◌+◌, ◌<◌, ◌≤◌, List, [], ◌∷◌, ◌++◌, length, get_or, drop, map, Bool, true, false, Option, Some, None, String, Global, string_bytes, refl, sym, ap, ◌∙◌, add-one}
 use Rattle.std.proofs.Math.Seq.{drop-cons}
 use Rattle.std.proofs.lemmas.List.{drop_all}
-use Rattle.pb_semantics.specs.Data.{Data, Fields, boolean, list, rec, opaque, no_fields, field}
+use Rattle.pb_semantics.specs.Data.{Data, Fields, count_of, boolean, list, rec, opaque, no_fields, field}
 use Rattle.pb_language.specs.Evaluates.{is_unreadable}
 use Rattle.pb_language.specs.Expression.{Name}
 use Rattle.pb_language.specs.World.{World}
-use Rattle.pb_language.specs.Evaluation.{no_field, or_stuck, value_below, eval, eval_all, eval_any, eval_items, eval_parts}
+use Rattle.pb_language.specs.Evaluation.{Outcome, field_count, value, stuck, no_field, or_stuck, then_go, given, value_else, or_else, found, read, value_below, eval, eval_all, eval_any, eval_items, eval_parts}
 use Rattle.pb_value.specs.Append.{append_fields}
-use Rattle.pb_value.specs.View.{view, items_view, fields_of, truth}
+use Rattle.pb_value.specs.View.{view, items_view, fields_of, fields_view, truth}
 use Rattle.pb_value.specs.declared.value.Value.{Value}
 use Rattle.pb_expr.specs.ExprView.{expr_view, exprs_view, parts_view, names_of, field_in}
-use Rattle.pb_expr.specs.OwnWorld.{shown}
+use Rattle.pb_expr.specs.OwnWorld.{shown, value_read}
 use Rattle.pb_expr.specs.declared.expr.Expr.{Expr}
 use Rattle.pb_expr.proofs.Outcomes.{and-true, and-false, and-spoilt, or-true, or-false, or-spoilt, after_items, items-spoilt, items-step, items-end, after_fields, fields-spoilt, fields-step}
 
@@ -98,8 +98,8 @@ below-field : (n : Name) (ns : List Name) (d e : Data) → Some e ≡ field_in n
 below-field n ns (rec fs) e h = ap (or_stuck no_field (value_below ns)) (sym h)
 below-field n ns d e h = cc
 
-below-nothing : (n : Name) (ns : List Name) (d : Data) → None ≡ field_in n d → shown (value_below (n ∷ ns) d) ≡ opaque
-below-nothing n ns (rec fs) h = ap (λ o. shown (or_stuck no_field (value_below ns) o)) (sym h)
+below-nothing : (n : Name) (ns : List Name) (d : Data) → None ≡ field_in n d → value_read (value_below (n ∷ ns) d) ≡ None
+below-nothing n ns (rec fs) h = ap (λ o. value_read (or_stuck no_field (value_below ns) o)) (sym h)
 below-nothing n ns d h = refl
 
 pub steps-turn : (ns : List (String Global)) (i : ℕ) (n : String Global) (d e : Data) → i < length ns → n ≡ get_or ns i n → Some e ≡ field_in (string_bytes n) d
@@ -108,9 +108,50 @@ steps-turn ns i n d e lt is there =
     ap (λ ms. value_below (names_of ms) d) (drop-at ns i n lt is) ∙ below-field (string_bytes n) (names_of (drop (i + 1) ns)) d e there
 
 pub steps-lost : (ns : List (String Global)) (i : ℕ) (n : String Global) (d : Data) → i < length ns → n ≡ get_or ns i n → None ≡ field_in (string_bytes n) d
-    → shown (value_below (names_of (drop i ns)) d) ≡ opaque
+    → value_read (value_below (names_of (drop i ns)) d) ≡ None
 steps-lost ns i n d lt is none =
-    ap (λ ms. shown (value_below (names_of ms) d)) (drop-at ns i n lt is) ∙ below-nothing (string_bytes n) (names_of (drop (i + 1) ns)) d none
+    ap (λ ms. value_read (value_below (names_of ms) d)) (drop-at ns i n lt is) ∙ below-nothing (string_bytes n) (names_of (drop (i + 1) ns)) d none
 
-pub steps-done : (ns : List (String Global)) (i : ℕ) (d : Data) → length ns ≤ i → shown (value_below (names_of (drop i ns)) d) ≡ d
-steps-done ns i d past = ap (λ ms. shown (value_below (names_of ms) d)) (drop_all i ns past)
+pub steps-done : (ns : List (String Global)) (i : ℕ) (d : Data) → length ns ≤ i → value_read (value_below (names_of (drop i ns)) d) ≡ Some d
+steps-done ns i d past = ap (λ ms. value_read (value_below (names_of ms) d)) (drop_all i ns past)
+
+-- a value that is read, and one that isn't
+pub read-some : (o : Outcome) (d : Data) → Some d ≡ value_read o → d ≡ shown o
+read-some (value e) d h = cc
+read-some (stuck s) d h = cc
+
+pub read-none : (o : Outcome) → None ≡ value_read o → opaque ≡ shown o
+read-none (value e) h = cc
+read-none (stuck s) h = refl
+
+-- a path, and what stands for it where nothing is there
+given-shown : (o : Outcome) → shown (then_go o given) ≡ shown o
+given-shown (stuck s) = refl
+given-shown (value opaque) = refl
+given-shown (value d) = refl
+
+-- where a path leads, of a value that is there
+else-some : (p o : Outcome) (d : Data) → Some d ≡ value_read p → d ≡ shown (value_else p o)
+else-some (value e) o d h = cc
+else-some (stuck s) o d h = cc
+
+else-none : (p o : Outcome) → None ≡ value_read p → shown o ≡ shown (value_else p o)
+else-none (value e) o h = cc
+else-none (stuck s) o h = refl
+
+pub or-some : (ns : List Name) (v : Option Data) (o : Outcome) (d : Data) → Some d ≡ value_read (read ns (found v)) → d ≡ shown (or_else ns (found v) o)
+or-some ns None o d h = cc
+or-some ns (Some e) o d h = else-some (value_below ns e) o d h
+
+pub or-none : (ns : List Name) (v : Option Data) (o : Outcome) → None ≡ value_read (read ns (found v)) → shown o ≡ shown (or_else ns (found v) (then_go o given))
+or-none ns None o h = sym (given-shown o)
+or-none ns (Some e) o h = sym (given-shown o) ∙ else-none (value_below ns e) (then_go o given) h
+
+-- how many items and fields there are
+pub items_count : (vs : List Value) → length vs ≡ count_of (items_view vs)
+items_count [] = refl
+items_count (v ∷ vs) = ap suc (items_count vs)
+
+pub fields_count : (ms : List (String Global × Value)) → length ms ≡ field_count (fields_view ms)
+fields_count [] = refl
+fields_count (m ∷ ms) = ap suc (fields_count ms)

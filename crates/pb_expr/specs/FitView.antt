@@ -1,11 +1,14 @@
 -- What finding a kind gives.
-use Rattle.std.specs.Prelude.{◌≡◌, true, false, List, [], Option, Some, None}
+use Rattle.std.specs.Prelude.{◌≡◌, Bool, true, false, List, [], Option, Some, None}
+use denote.Ref.{Bor}
 use Rattle.pb_semantics.specs.Kind.{KindData, Slots, Spot, no_slots, nowhere, spot}
 use Rattle.pb_language.specs.Expression.{Name}
 use Rattle.pb_language.specs.Scope.{Scope, nothing, spot_kind}
 use Rattle.pb_language.specs.Kinds.{path_spot}
 use Rattle.pb_language.specs.Fit.{Fault, perhaps_undefined, perhaps_missing, wrong_kind}
 use Rattle.pb_language.specs.Fit.{steps_fault}
+use Rattle.pb_value.specs.KindView.{kind_view}
+use Rattle.pb_value.specs.declared.kind.Kind.{Kind}
 use Rattle.pb_expr.specs.declared.fit.Unfit.{Unfit}
 use Rattle.pb_expr.specs.declared.fit.Unfit.TheVariants.{Undefined, MissingField, WrongKind}
 use Rattle.pb_expr.specs.declared.fit.KindFault.{KindFault}
@@ -43,6 +46,11 @@ abbrev pub certain : Spot → Option KindData
 certain nowhere = None
 certain (spot true k) = Some k
 certain (spot false k) = None
+
+-- a kind that is found, and whether it is certainly there
+abbrev pub spot_found : Option (Bool × Bor Kind) → Spot
+spot_found None = nowhere
+spot_found (Some s) = spot s.0 (kind_view s.1.now)
 
 -- the first steps below the first kind lead as the second below the second: to the same faults and
 -- to the same kind

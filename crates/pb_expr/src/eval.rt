@@ -1,17 +1,17 @@
 // The value of an expression.
 ghost use Rattle.std.specs.Prelude.{◌≡◌, IfOk, MatchOption, false, is_some, option_map};
 ghost use Rattle.std.specs.Prelude.{string_bytes, true};
-ghost use Rattle.pb_semantics.specs.Words.{boolean, field_value, is_part, list};
-ghost use Rattle.pb_language.specs.Words.{equal_values, eval as outcome_of, eval_all, eval_any};
-ghost use Rattle.pb_language.specs.Words.{eval_items, eval_parts, found, found_in, is_unreadable};
-ghost use Rattle.pb_language.specs.Words.{negated, read, stuck, value, value_below, wrong_sort};
+ghost use Rattle.pb_semantics.specs.Words.{field_value, is_part, list};
+ghost use Rattle.pb_language.specs.Words.{eval as outcome_of, eval_all, eval_any, eval_items};
+ghost use Rattle.pb_language.specs.Words.{eval_parts, eval_text, found, found_in, is_unreadable};
+ghost use Rattle.pb_language.specs.Words.{path_or, read, value_below, variable};
 ghost use Rattle.pb_value.specs.Words.{fields_view, items_view, view};
-ghost use Rattle.pb_expr.specs.ExprView.{expr_view, exprs_view, field_in, names_of};
-ghost use Rattle.pb_expr.specs.ExprView.{parts_view};
-ghost use Rattle.pb_expr.specs.OwnWorld.{shown};
+ghost use Rattle.pb_expr.specs.ExprView.{expr_view, exprs_view, field_in, names_of, parts_view};
+ghost use Rattle.pb_expr.specs.OwnWorld.{shown, value_read};
 
-use crate::equal::{equal, has_item, holds_opaque, items_hold_opaque};
+use crate::equal::{has_item, holds_opaque, items_hold_opaque};
 use crate::expr::{Expr, Path};
+use crate::filter::{append, comparison_of, is_plain, joined, length_of, negation_of, status_of};
 use crate::vars::Vars;
 use pb_value::{Fields, Value, field_of, put_field};
 use std::alloc::{AllocError, Global};
@@ -32,18 +32,24 @@ pub fn eval<V: Vars>(alloc: Global, expr: &Expr, vars: &V) -> Result<Value, Allo
         Expr::Not(operand) => Ok(negation_of(eval(alloc, operand, vars)?)),
         Expr::And(operands) => all_of(alloc, operands, vars),
         Expr::Or(operands) => any_of(alloc, operands, vars),
-        Expr::Equal(left, right) => {
+        Expr::Compare(comparison, left, right) => {
             let left = eval(alloc, left, vars)?;
-            Ok(equality_of(pair_of(alloc, right, vars, left)?))
-        }
-        Expr::Unequal(left, right) => {
-            let left = eval(alloc, left, vars)?;
-            Ok(negation_of(equality_of(pair_of(alloc, right, vars, left)?)))
+            Ok(comparison_of(*comparison, pair_of(alloc, right, vars, left)?))
         }
         Expr::In(part, whole) => {
             let part = eval(alloc, part, vars)?;
             Ok(membership_of(pair_of(alloc, whole, vars, part)?))
         }
+        Expr::Undefinable(_) => Ok(Value::Opaque),
+        Expr::Status(status, of) => Ok(status_of(*status, &eval(alloc, of, vars)?)),
+        Expr::PathOr(path, other) => value_or(alloc, path, other, vars),
+        Expr::ValueOr(value, _) => eval(alloc, value, vars),
+        Expr::Length(of) => Ok(length_of(&eval(alloc, of, vars)?)),
+        Expr::Join(items, between) => {
+            let items = eval(alloc, items, vars)?;
+            joined(alloc, pair_of(alloc, between, vars, items)?)
+        }
+        Expr::Concat(parts) => text_of(alloc, parts, vars),
         Expr::List(items) => list_of(alloc, items, vars),
         Expr::Record(fields) => record_of(alloc, fields, vars),
     }
@@ -133,30 +139,71 @@ fn record_of<V: Vars>(
     Value::of_fields(alloc, values)
 }
 
+// The value at the end of the path, else that of the other.
+#[cycle(eval)]
+fn value_or<V: Vars>(
+    alloc: Global,
+    path: &Path,
+    other: &Expr,
+    vars: &V,
+) -> Result<Value, AllocError>
+    ensures { IfOk result (λ v. view v ≡ shown (outcome_of (V.world vars.now)
+        (path_or (variable (string_bytes path.now.root)) (names_of path.now.steps.items)
+        (expr_view other.now)))) }
+{
+    match path_end(path, vars) {
+        Some(value) => value.clone(),
+        None => eval(alloc, other, vars),
+    }
+}
+
+// The text of all parts.
+#[cycle(eval)]
+fn text_of<V: Vars>(alloc: Global, parts: &[Expr], vars: &V) -> Result<Value, AllocError>
+    ensures { IfOk result (λ v. view v
+        ≡ shown (eval_text (V.world vars.now) (exprs_view parts.now))) }
+{
+    let mut text = String::new(alloc);
+    for part in parts {
+        let found = eval(alloc, part, vars)?;
+        if !is_plain(&found) {
+            return Ok(Value::Opaque);
+        }
+        append(alloc, &mut text, &found)?;
+    }
+    Value::of_text(alloc, text)
+}
+
 fn value_of_path<V: Vars>(path: &Path, vars: &V) -> Result<Value, AllocError>
     ensures { IfOk result (λ v. view v
         ≡ shown (read (names_of path.now.steps.items)
         (found (field_value (string_bytes path.now.root) (V.world vars.now).mine)))) }
 {
-    match vars.value(path.root.as_str()) {
-        Some(held) => inner_value(held, &path.steps),
+    match path_end(path, vars) {
+        Some(value) => value.clone(),
         None => Ok(Value::Opaque),
     }
 }
 
-// The value at the end of the steps.
-fn inner_value(outer: &Value, steps: &[String]) -> Result<Value, AllocError>
-    ensures { IfOk result (λ v. view v
-        ≡ shown (value_below (names_of steps.now) (view outer.now))) }
+// The value at the end of the path, where there is one.
+fn path_end<'v, V: Vars>(path: &Path, vars: &'v V) -> Option<&'v Value>
+    ensures { option_map (λ v. view v.now) result
+        ≡ value_read (read (names_of path.now.steps.items)
+        (found (field_value (string_bytes path.now.root) (V.world vars.now).mine))) }
+{
+    inner_value(vars.value(path.root.as_str())?, &path.steps)
+}
+
+// The value at the end of the steps, where there is one.
+fn inner_value<'v>(outer: &'v Value, steps: &[String]) -> Option<&'v Value>
+    ensures { option_map (λ v. view v.now) result
+        ≡ value_read (value_below (names_of steps.now) (view outer.now)) }
 {
     let mut here = outer;
     for step in steps {
-        match field_inside(here, step.as_str()) {
-            Some(inner) => here = inner,
-            None => return Ok(Value::Opaque),
-        }
+        here = field_inside(here, step.as_str())?;
     }
-    Ok(here.clone()?)
+    Some(here)
 }
 
 fn field_inside<'v>(outer: &'v Value, name: &str) -> Option<&'v Value>
@@ -178,36 +225,6 @@ fn readable(found: Value) -> Option<Value>
         Value::Opaque => None,
         found => Some(found),
     }
-}
-
-fn negation_of(operand: Value) -> Value
-    ensures { view result ≡ shown (negated (view operand)) }
-{
-    match operand {
-        Value::Bool(holds) => Value::Bool(!holds),
-        _ => Value::Opaque,
-    }
-}
-
-fn equality_of(operands: (Value, Value)) -> Value
-    ensures { view result ≡ shown (equal_values (view operands.0) (view operands.1)) }
-{
-    match are_equal(&operands.0, &operands.1) {
-        Some(holds) => Value::Bool(holds),
-        None => Value::Opaque,
-    }
-}
-
-// Whether two values are equal, where both may be read.
-fn are_equal(left: &Value, right: &Value) -> Option<bool>
-    ensures { MatchOption result
-        (equal_values (view left.now) (view right.now) ≡ stuck wrong_sort)
-        (λ b. equal_values (view left.now) (view right.now) ≡ value (boolean b)) }
-{
-    if holds_opaque(left) || holds_opaque(right) {
-        return None;
-    }
-    Some(equal(left, right))
 }
 
 fn membership_of(operands: (Value, Value)) -> Value

@@ -9,6 +9,24 @@ pub struct Path {
     pub steps: Vec<String>,
 }
 
+/// How two values are compared; `a != b` is `not a == b`.
+#[derive(Clone, Copy, PartialEq, Eq, Debug)]
+pub enum Comparison {
+    Equal,
+    Less,
+    AtMost,
+    More,
+    AtLeast,
+}
+
+/// What a test asks of a result; `is succeeded` is `is not failed`.
+#[derive(Clone, Copy, PartialEq, Eq, Debug)]
+pub enum Status {
+    Failed,
+    Changed,
+    Skipped,
+}
+
 /// An expression, a template, or a list or record of these.
 #[derive(Drop)]
 pub enum Expr {
@@ -20,11 +38,24 @@ pub enum Expr {
     And(Vec<Expr>),
     /// `a or b or ..`, from left to right, at least two.
     Or(Vec<Expr>),
-    Equal(Box<Expr>, Box<Expr>),
-    Unequal(Box<Expr>, Box<Expr>),
+    Compare(Comparison, Box<Expr>, Box<Expr>),
     /// `a in b`
     In(Box<Expr>, Box<Expr>),
-    /// A JSON list in an argument, with a template somewhere in it.
+    /// `is defined` of what is no path, which is never fit.
+    Undefinable(Box<Expr>),
+    /// `is failed` and the like, of what is no path.
+    Status(Status, Box<Expr>),
+    /// `path | default(other)`
+    PathOr(Path, Box<Expr>),
+    /// `value | default(other)` of what is no path, whose value it is.
+    ValueOr(Box<Expr>, Box<Expr>),
+    /// `value | length`
+    Length(Box<Expr>),
+    /// `items | join(between)`
+    Join(Box<Expr>, Box<Expr>),
+    /// A text with templates in it, by its parts.
+    Concat(Vec<Expr>),
+    /// A list, be it written in an expression or with a template in a JSON list.
     List(Vec<Expr>),
     /// A JSON object in an argument, with a template somewhere in it.
     Record(BTreeMap<String, Expr>),

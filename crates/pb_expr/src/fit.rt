@@ -1,24 +1,27 @@
 // The kind of an expression in an environment, and why it has none.
-ghost use Rattle.std.specs.Prelude.{◌∷◌, ◌≡◌, Bool, IfOk, List, MatchResult, None, OnOk, Some, not};
-ghost use Rattle.std.specs.Prelude.{option_map, string_bytes, true, ℕ};
-ghost use Rattle.pb_semantics.specs.Words.{Cases, Gives, any_case_holds, any_slot_holds};
-ghost use Rattle.pb_semantics.specs.Words.{booleans, count_of, holds_any as any_in};
-ghost use Rattle.pb_semantics.specs.Words.{lists, put_slot, recs, results};
-ghost use Rattle.pb_semantics.specs.Words.{slot_at as spot_at, spot};
-ghost use Rattle.pb_language.specs.Words.{are_booleans, asks, can_compare, can_find, chain_fault};
-ghost use Rattle.pb_language.specs.Words.{count, equal, fault, fields_fault, first};
-ghost use Rattle.pb_language.specs.Words.{is_any as is_anything, is_boolean, is_text as is_textual};
+ghost use Rattle.std.specs.Prelude.{◌&&◌, ◌||◌, ◌∷◌, ◌≡◌, Bool, IfOk, List, MatchResult, None};
+ghost use Rattle.std.specs.Prelude.{OnOk, Some, not, option_map, string_bytes, true, ℕ};
+ghost use Rattle.pb_semantics.specs.Words.{Cases, Gives, any_case_holds, any_slot_holds, booleans};
+ghost use Rattle.pb_semantics.specs.Words.{count_of, holds_any as any_in, lists, put_slot, recs};
+ghost use Rattle.pb_semantics.specs.Words.{results, slot_at as spot_at, spot, texts};
+ghost use Rattle.pb_semantics.specs.Kind.{ints};
+ghost use Rattle.pb_language.specs.Words.{are_booleans, are_plain, asks, can_compare, can_find};
+ghost use Rattle.pb_language.specs.Words.{chain_fault, count, equal, fault, fields_fault, first};
+ghost use Rattle.pb_language.specs.Words.{has_length as can_be_counted, is_any as is_anything};
+ghost use Rattle.pb_language.specs.Words.{is_boolean, is_plain_list as is_plain_list_kind};
+ghost use Rattle.pb_language.specs.Words.{is_result as is_result_kind, is_text as is_textual};
 ghost use Rattle.pb_language.specs.Words.{items_fault, items_kind, kind_of as kind_found};
-ghost use Rattle.pb_language.specs.Words.{known_items, known_kind, known_slots, parts_slots};
-ghost use Rattle.pb_language.specs.Words.{path_spot, read_fault, root_spot, spot_kind, steps_fault};
-ghost use Rattle.pb_language.specs.Words.{variable, wrong_kind};
+ghost use Rattle.pb_language.specs.Words.{known_items, known_kind, known_slots, parts_fault};
+ghost use Rattle.pb_language.specs.Words.{parts_slots, path_or, path_spot, read_fault, root_spot};
+ghost use Rattle.pb_language.specs.Words.{spot_kind, steps_fault, variable, wrong_kind};
 ghost use Rattle.pb_value.specs.Words.{cases_view, fields_view, items_view, kind_view, slots_view};
 ghost use Rattle.pb_value.specs.Words.{view};
-ghost use Rattle.pb_expr.specs.ExprView.{expr_view, exprs_view, names_of, parts_view};
-ghost use Rattle.pb_expr.specs.FitView.{LeadsTo, certain, fault_found, fault_view};
-ghost use Rattle.pb_expr.specs.FitView.{own_scope};
+ghost use Rattle.pb_expr.specs.ExprView.{comparison_view, expr_view, exprs_view, names_of};
+ghost use Rattle.pb_expr.specs.ExprView.{parts_view};
+ghost use Rattle.pb_expr.specs.FitView.{LeadsTo, certain, fault_found, fault_view, own_scope};
 
-use crate::expr::{Expr, Path};
+use crate::expr::{Comparison, Expr, Path};
+use crate::kinds::{has_length, is_int, is_plain, is_plain_list, is_result, is_text, kind_or};
 use pb_value::below::find;
 use pb_value::{Case, Fields, Kind, Slot, Slots, Value, join_all, put_slot};
 use std::alloc::{AllocError, AllocFailed, Global};
@@ -84,14 +87,27 @@ pub fn kind_of(alloc: Global, expr: &Expr, slots: &Slots) -> Result<Kind, KindFa
         Expr::Path(path) => path_kind(path, slots),
         Expr::Not(operand) => negation_kind(kind_of(alloc, operand, slots)?),
         Expr::And(operands) | Expr::Or(operands) => chain_kind(alloc, operands, slots),
-        Expr::Equal(left, right) | Expr::Unequal(left, right) => {
+        Expr::Compare(comparison, left, right) => {
             let left = kind_of(alloc, left, slots)?;
-            comparison_kind(pair_of(alloc, right, slots, left)?)
+            comparison_kind(*comparison, pair_of(alloc, right, slots, left)?)
         }
         Expr::In(part, whole) => {
             let part = kind_of(alloc, part, slots)?;
             membership_kind(pair_of(alloc, whole, slots, part)?)
         }
+        Expr::Undefinable(of) => no_kind(kind_of(alloc, of, slots)?),
+        Expr::Status(_, of) => status_kind(kind_of(alloc, of, slots)?),
+        Expr::PathOr(path, other) => path_or_kind(alloc, path, other, slots),
+        Expr::ValueOr(value, other) => {
+            let value = kind_of(alloc, value, slots)?;
+            value_or_kind(pair_of(alloc, other, slots, value)?)
+        }
+        Expr::Length(of) => length_kind(kind_of(alloc, of, slots)?),
+        Expr::Join(items, between) => {
+            let items = kind_of(alloc, items, slots)?;
+            joined_kind(pair_of(alloc, between, slots, items)?)
+        }
+        Expr::Concat(parts) => text_kind(alloc, parts, slots),
         Expr::List(items) => list_kind(alloc, items, slots),
         Expr::Record(fields) => record_kind(alloc, fields, slots),
     }
@@ -130,7 +146,7 @@ fn chain_kind(alloc: Global, operands: &[Expr], slots: &Slots) -> Result<Kind, K
         let kind = kind_of(alloc, operand, slots)?;
         are_bool = are_bool & kind.is_bool();
     }
-    asked(are_bool)
+    asked(are_bool, Kind::Bool)
 }
 
 #[cycle(kind_of)]
@@ -168,6 +184,38 @@ fn record_kind(
         put(&mut kinds, name, kind)?;
     }
     Ok(Kind::of_slots(alloc, kinds)?)
+}
+
+#[cycle(kind_of)]
+fn text_kind(alloc: Global, parts: &[Expr], slots: &Slots) -> Result<Kind, KindFault>
+    ensures fault { Gives (λ k. None) fault_found result (first
+        (parts_fault (own_scope (slots_view slots.now.entries)) (exprs_view parts.now))
+        (asks wrong_kind
+        (are_plain (own_scope (slots_view slots.now.entries)) (exprs_view parts.now)))) }
+    ensures kind { IfOk result (λ k. kind_view k ≡ texts) }
+{
+    let mut are_plain = true;
+    for part in parts {
+        let kind = kind_of(alloc, part, slots)?;
+        are_plain = are_plain & is_plain(&kind);
+    }
+    asked(are_plain, Kind::Text)
+}
+
+// The kind at the end of the path, or of the other where there may be none.
+#[cycle(kind_of)]
+fn path_or_kind(alloc: Global, path: &Path, other: &Expr, slots: &Slots) -> Result<Kind, KindFault>
+    ensures fault { Gives (λ k. None) fault_found result
+        (fault (own_scope (slots_view slots.now.entries))
+        (path_or (variable (string_bytes path.now.root)) (names_of path.now.steps.items)
+        (expr_view other.now))) }
+    ensures kind { IfOk result (λ k. kind_view k
+        ≡ kind_found (own_scope (slots_view slots.now.entries))
+        (path_or (variable (string_bytes path.now.root)) (names_of path.now.steps.items)
+        (expr_view other.now))) }
+{
+    let other = part_kind(alloc, other, slots)?;
+    Ok(kind_or(alloc, path, other, slots)?)
 }
 
 // The kind of an item or a field, which isn't `Any`.
@@ -294,12 +342,12 @@ fn certain_kind<'k>(slots: &'k Slots, name: &str) -> Option<&'k Kind>
 }
 
 // The kind of a form whose operands are as it asks.
-fn asked(is_fit: bool) -> Result<Kind, KindFault>
+fn asked(is_fit: bool, kind: Kind) -> Result<Kind, KindFault>
     ensures fault { Gives (λ k. None) fault_found result (asks wrong_kind is_fit) }
-    ensures kind { IfOk result (λ k. kind_view k ≡ booleans) }
+    ensures kind { IfOk result (λ k. k ≡ kind) }
 {
     if is_fit {
-        Ok(Kind::Bool)
+        Ok(kind)
     } else {
         Err(KindFault::Unfit(Unfit::WrongKind))
     }
@@ -310,16 +358,29 @@ fn negation_kind(operand: Kind) -> Result<Kind, KindFault>
         (asks wrong_kind (is_boolean (kind_view operand))) }
     ensures kind { IfOk result (λ k. kind_view k ≡ booleans) }
 {
-    asked(operand.is_bool())
+    asked(operand.is_bool(), Kind::Bool)
 }
 
-// What `==` and `!=` give between operands of these kinds.
-fn comparison_kind(operands: (Kind, Kind)) -> Result<Kind, KindFault>
-    ensures fault { Gives (λ k. None) fault_found result
-        (asks wrong_kind (can_compare equal (kind_view operands.0) (kind_view operands.1))) }
+fn comparison_kind(comparison: Comparison, operands: (Kind, Kind)) -> Result<Kind, KindFault>
+    ensures fault { Gives (λ k. None) fault_found result (asks wrong_kind
+        (can_compare (comparison_view comparison) (kind_view operands.0)
+        (kind_view operands.1))) }
     ensures kind { IfOk result (λ k. kind_view k ≡ booleans) }
 {
-    asked(are_comparable(&operands.0, &operands.1))
+    asked(
+        are_compared(comparison, &operands.0, &operands.1),
+        Kind::Bool,
+    )
+}
+
+fn are_compared(comparison: Comparison, left: &Kind, right: &Kind) -> bool
+    ensures { result
+        ≡ can_compare (comparison_view comparison) (kind_view left.now) (kind_view right.now) }
+{
+    match comparison {
+        Comparison::Equal => are_comparable(left, right),
+        _ => is_int(left) && is_int(right),
+    }
 }
 
 fn are_comparable(left: &Kind, right: &Kind) -> bool
@@ -334,7 +395,7 @@ fn membership_kind(operands: (Kind, Kind)) -> Result<Kind, KindFault>
         (asks wrong_kind (can_find (kind_view operands.0) (kind_view operands.1))) }
     ensures kind { IfOk result (λ k. kind_view k ≡ booleans) }
 {
-    asked(may_hold(&operands.1, &operands.0))
+    asked(may_hold(&operands.1, &operands.0), Kind::Bool)
 }
 
 fn may_hold(whole: &Kind, part: &Kind) -> bool
@@ -351,13 +412,48 @@ fn may_hold(whole: &Kind, part: &Kind) -> bool
     }
 }
 
-fn is_text(kind: &Kind) -> bool
-    ensures { result ≡ is_textual (kind_view kind.now) }
+// `is defined` of what is no path.
+fn no_kind(operand: Kind) -> Result<Kind, KindFault>
+    ensures { Gives (λ k. None) fault_found result (Some wrong_kind) }
 {
-    match kind {
-        Kind::Text | Kind::Host(_) | Kind::Never => true,
-        _ => false,
-    }
+    drop(operand);
+    Err(KindFault::Unfit(Unfit::WrongKind))
+}
+
+fn status_kind(operand: Kind) -> Result<Kind, KindFault>
+    ensures fault { Gives (λ k. None) fault_found result
+        (asks wrong_kind (is_result_kind (kind_view operand))) }
+    ensures kind { IfOk result (λ k. kind_view k ≡ booleans) }
+{
+    asked(is_result(&operand), Kind::Bool)
+}
+
+// The kind of the first of two values, of which neither is of every kind.
+fn value_or_kind(operands: (Kind, Kind)) -> Result<Kind, KindFault>
+    ensures fault { Gives (λ k. None) fault_found result (asks wrong_kind
+        (not (is_anything (kind_view operands.0) || is_anything (kind_view operands.1)))) }
+    ensures kind { IfOk result (λ k. k ≡ operands.0) }
+{
+    asked(!(operands.0.is_any() || operands.1.is_any()), operands.0)
+}
+
+fn length_kind(operand: Kind) -> Result<Kind, KindFault>
+    ensures fault { Gives (λ k. None) fault_found result
+        (asks wrong_kind (can_be_counted (kind_view operand))) }
+    ensures kind { IfOk result (λ k. kind_view k ≡ ints) }
+{
+    asked(has_length(&operand), Kind::Int)
+}
+
+fn joined_kind(operands: (Kind, Kind)) -> Result<Kind, KindFault>
+    ensures fault { Gives (λ k. None) fault_found result (asks wrong_kind
+        (is_plain_list_kind (kind_view operands.0) && is_textual (kind_view operands.1))) }
+    ensures kind { IfOk result (λ k. kind_view k ≡ texts) }
+{
+    asked(
+        is_plain_list(&operands.0) && is_text(&operands.1),
+        Kind::Text,
+    )
 }
 
 // Whether the kind is `Any` or holds it at any depth.

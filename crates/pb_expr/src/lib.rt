@@ -13,12 +13,15 @@ pub mod equal;
 pub mod eval;
 pub mod expr;
 pub mod fault;
+mod filter;
 pub mod fit;
+mod kinds;
 mod lexer;
 pub mod parse;
+pub mod teach;
 pub mod vars;
 
-pub use expr::{Expr, Path};
+pub use expr::{Comparison, Expr, Path, Status};
 pub use fault::ExprFault;
 pub use fit::{KindFault, Unfit, kind_of};
 pub use parse::{parse_expr, parse_template};

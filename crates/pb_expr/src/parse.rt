@@ -19,7 +19,7 @@ ghost use Rattle.pb_expr.specs.Place.{place_of};
 ghost use Rattle.pb_expr.specs.Trees.{no_tree};
 ghost use Rattle.pb_expr.specs.Forms.{first_literal, opening_at, with_bytes};
 
-use crate::expr::{Expr, Path};
+use crate::expr::{Comparison, Expr, Path};
 use crate::fault::ExprFault;
 use crate::lexer::{Sort, Token, is_step, meaning_of, name_of, number_of, token_at};
 use pb_value::Value;
@@ -297,8 +297,11 @@ fn related(alloc: Global, sort: Sort, left: Expr, right: Expr) -> Result<Expr, A
     let left = Box::new(alloc, left)?;
     let right = Box::new(alloc, right)?;
     match sort {
-        Sort::Equal => Ok(Expr::Equal(left, right)),
-        Sort::Unequal => Ok(Expr::Unequal(left, right)),
+        Sort::Equal => Ok(Expr::Compare(Comparison::Equal, left, right)),
+        Sort::Unequal => {
+            let equal = Expr::Compare(Comparison::Equal, left, right);
+            Ok(Expr::Not(Box::new(alloc, equal)?))
+        }
         Sort::Not => Ok(Expr::Not(Box::new(alloc, Expr::In(left, right))?)),
         _ => Ok(Expr::In(left, right)),
     }

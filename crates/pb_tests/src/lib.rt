@@ -9,6 +9,8 @@ mod books;
 #[cfg(test)]
 mod expressions;
 #[cfg(test)]
+mod forms;
+#[cfg(test)]
 mod inventories;
 #[cfg(test)]
 mod lattices;

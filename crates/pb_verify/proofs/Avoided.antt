@@ -3,7 +3,7 @@ use Rattle.std.proofs.Common.{◌≡◌, List, [], Bool, true, false, cond, Opti
 use Rattle.pb_semantics.specs.Kind.{lists, recs, slot_at}
 use Rattle.pb_semantics.specs.Signature.{ParameterData}
 use Rattle.pb_semantics.proofs.Bools.{untrue, and-left, and-right, not-true}
-use Rattle.pb_language.specs.Expression.{Name, equal, Expression, literal, path, negation, conjunction, disjunction, comparison, membership, list_of, record_of, in_batch, defined, path_status, variable, Expressions, no_expressions, expression, Parts, no_parts, part}
+use Rattle.pb_language.specs.Expression.{Name, Expression, literal, path, negation, conjunction, disjunction, comparison, membership, list_of, record_of, in_batch, defined, path_status, variable, Expressions, no_expressions, expression, Parts, no_parts, part}
 use Rattle.pb_semantics.specs.Kind.{Slots, Spot, spot}
 use Rattle.pb_semantics.proofs.PutSlots.{at_put}
 use Rattle.pb_language.specs.Book.{Work, module_work, set_fact_work, Registry}
@@ -76,7 +76,7 @@ module _ (h : Name) (c d : Scope) (o : SameBut h c d) where
     fault_same (negation e) s = rw (fault_same e s, kind_same e s) refl
     fault_same (conjunction es) s = rw (chain_same es true s, booleans_same es true s) refl
     fault_same (disjunction es) s = rw (chain_same es false s, booleans_same es false s) refl
-    fault_same (comparison equal a b) s =
+    fault_same (comparison r a b) s =
         let x = and-left (avoids h a) (avoids h b) s in
         let y = and-right (avoids h a) (avoids h b) s in
         rw (fault_same a x, fault_same b y, kind_same a x, kind_same b y) refl

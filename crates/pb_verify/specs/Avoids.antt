@@ -2,7 +2,7 @@
 use Rattle.std.specs.Prelude.{Bool, true, false, not, ◌&&◌}
 use Rattle.std.specs.Str.{bytes_eq}
 use Rattle.pb_language.specs.Book.{Work, module_work, set_fact_work}
-use Rattle.pb_language.specs.Expression.{Name, equal, Expression, literal, path, negation}
+use Rattle.pb_language.specs.Expression.{Name, Expression, literal, path, negation}
 use Rattle.pb_language.specs.Expression.{conjunction, disjunction, comparison, membership, list_of}
 use Rattle.pb_language.specs.Expression.{record_of, variable, Expressions, no_expressions}
 use Rattle.pb_language.specs.Expression.{expression, Parts, no_parts, part}
@@ -15,7 +15,7 @@ abbrev mutual
   avoids h (negation e) = avoids h e
   avoids h (conjunction es) = all_avoid h es
   avoids h (disjunction es) = all_avoid h es
-  avoids h (comparison equal a b) = avoids h a && avoids h b
+  avoids h (comparison x a b) = avoids h a && avoids h b
   avoids h (membership a b) = avoids h a && avoids h b
   avoids h (list_of es) = all_avoid h es
   avoids h (record_of ps) = parts_avoid h ps

@@ -56,11 +56,12 @@ fn avoids(expr: &Expr, name: &str) -> bool
         Expr::Not(operand) => avoids(operand, name),
         Expr::And(operands) => all_are_free(operands, name),
         Expr::Or(operands) => all_are_free(operands, name),
-        Expr::Equal(left, right) => avoids(left, name) && avoids(right, name),
-        Expr::Unequal(left, right) => avoids(left, name) && avoids(right, name),
+        Expr::Compare(_, left, right) => avoids(left, name) && avoids(right, name),
         Expr::In(part, whole) => avoids(part, name) && avoids(whole, name),
         Expr::List(items) => all_are_free(items, name),
         Expr::Record(fields) => fields_avoid(fields, name),
+        Expr::Undefinable(_) | Expr::Length(_) | Expr::Concat(_) => false,
+        Expr::Status(_, _) | Expr::PathOr(_, _) | Expr::ValueOr(_, _) | Expr::Join(_, _) => false,
     }
 }
 

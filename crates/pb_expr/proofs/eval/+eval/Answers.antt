@@ -1,19 +1,20 @@
 use Rattle.std.proofs.Common.{◌≡◌, true, false, Some, [], ◌∷◌, ◌++◌, map, drop, ◌+◌, string_bytes, String, Global, IfOk, sym, ap, ◌∙◌, subst, append_assoc}
+use Rattle.std.proofs.lemmas.Result.{IfOk-weaker}
 use Rattle.std.specs.List.Sorted.{IsStrictlySortedBy}
 use Rattle.std.specs.Map.{keys_of}
 use Rattle.std.specs.String.{string_cmp}
 use Rattle.pb_semantics.specs.Data.{Data, field, no_fields}
-use Rattle.pb_language.specs.Expression.{equal, comparison}
-use Rattle.pb_language.specs.Evaluation.{eval, eval_items, eval_parts}
+use Rattle.pb_language.specs.Evaluation.{eval, eval_items, eval_parts, eval_text}
 use Rattle.pb_value.specs.View.{view, items_view, fields_view, fields_of}
 use Rattle.pb_value.proofs.Fields.{put_last}
 use Rattle.pb_value.specs.Append.{append_fields}
-use Rattle.pb_expr.specs.ExprView.{expr_view, exprs_view, parts_view}
+use Rattle.pb_expr.specs.ExprView.{comparison_view, expr_view, exprs_view, parts_view}
 use Rattle.pb_expr.specs.OwnWorld.{shown}
 use Rattle.pb_expr.specs.declared.expr.Expr.{Expr}
-use Rattle.pb_expr.proofs.Outcomes.{negated-by, equal-by, found-by, after_items, after_fields, fields-end}
-use Rattle.pb_expr.proofs.Exprs.{view-Bool, view-Opaque, view-And, view-Or, view-Equal, view-Unequal, view-In, view-List}
+use Rattle.pb_expr.proofs.Outcomes.{one-by, compared-by, joined-by, found-by, after_items, after_fields, fields-end}
+use Rattle.pb_expr.proofs.Exprs.{view-Bool, view-Opaque, view-And, view-Or, view-Compare, view-Undefinable, view-Status, view-PathOr, view-ValueOr, view-Length, view-Join, view-Concat, view-In, view-List}
 use Rattle.pb_expr.proofs.Turns.{all-turn, all-stops, all-spoilt, all-done, any-turn, any-stops, any-spoilt, any-done, list-turn, list-spoilt, list-done, record-turn, record-spoilt, fields-last}
+use Rattle.pb_expr.proofs.MadeTexts.{after_text, concat-first, concat-turn, concat-spoilt, concat-done}
 use Rattle.pb_expr.proofs.eval.+eval.Goals as goal
 
 pub all_of-loop-operand-preserved : goal.all_of-loop-operand-preserved
@@ -42,24 +43,55 @@ any_of-returns g t c =
     ∙ sym (ap shown c.loop-operand.invariant
     ∙ any-done w c.args.operands.now c.loop-operand.operand-index c.loop-operand-test.false)
 
-pub eval-returns-in_ok-pair_of-in-Equal : goal.eval-returns-in_ok-pair_of-in-Equal
-eval-returns-in_ok-pair_of-in-Equal g t c =
+pub eval-returns-in_ok-pair_of-in-Compare : goal.eval-returns-in_ok-pair_of-in-Compare
+eval-returns-in_ok-pair_of-in-Compare g t c =
     let w = g.V.Vars.world c.args.vars.now in
-    let p = c.in-Equal in
-    let r = c.in_ok-pair_of-in-Equal in
-    rw (p.is, view-Equal p.left p.right) (equal-by (view c.equality_of.result) (view r.field-0.0) (view r.field-0.1) (eval w (expr_view p.left.value)) (eval w (expr_view p.right.value)) c.equality_of.ensures
-    (ap view r.ensures.left ∙ c.in_ok-left-in-Equal.ensures ∙ ap (λ e. shown (eval w (expr_view e))) c.deref-in-Equal.ensures)
-    (r.ensures.right ∙ ap (λ e. shown (eval w (expr_view e))) c.deref-in-Equal-2.ensures))
+    let p = c.in-Compare in
+    let r = c.in_ok-pair_of-in-Compare in
+    rw (p.is, view-Compare p.comparison p.left p.right) (compared-by (comparison_view p.comparison) (view c.comparison_of.result) (view r.field-0.0) (view r.field-0.1)
+    (eval w (expr_view p.left.value)) (eval w (expr_view p.right.value)) c.comparison_of.ensures
+    (ap view r.ensures.left ∙ c.in_ok-left-in-Compare.ensures ∙ ap (λ e. shown (eval w (expr_view e))) c.deref-in-Compare.ensures)
+    (r.ensures.right ∙ ap (λ e. shown (eval w (expr_view e))) c.deref-in-Compare-2.ensures))
 
-pub eval-returns-in_ok-pair_of-in-Unequal : goal.eval-returns-in_ok-pair_of-in-Unequal
-eval-returns-in_ok-pair_of-in-Unequal g t c =
+pub eval-returns-in_ok-pair_of-in-Join : goal.eval-returns-in_ok-pair_of-in-Join
+eval-returns-in_ok-pair_of-in-Join g t c =
     let w = g.V.Vars.world c.args.vars.now in
-    let p = c.in-Unequal in
-    let r = c.in_ok-pair_of-in-Unequal in
-    rw (p.is, view-Unequal p.left p.right) (negated-by (view c.negation_of-in-Unequal.result) (view c.equality_of-in-Unequal.result) (eval w (comparison equal (expr_view p.left.value) (expr_view p.right.value))) c.negation_of-in-Unequal.ensures
-    (equal-by (view c.equality_of-in-Unequal.result) (view r.field-0.0) (view r.field-0.1) (eval w (expr_view p.left.value)) (eval w (expr_view p.right.value)) c.equality_of-in-Unequal.ensures
-    (ap view r.ensures.left ∙ c.in_ok-left-in-Unequal.ensures ∙ ap (λ e. shown (eval w (expr_view e))) c.deref-in-Unequal.ensures)
-    (r.ensures.right ∙ ap (λ e. shown (eval w (expr_view e))) c.deref-in-Unequal-2.ensures)))
+    let p = c.in-Join in
+    let r = c.in_ok-pair_of-in-Join in
+    rw (p.is, view-Join p.items p.between) (IfOk-weaker c.joined.result _ _ (λ v h. joined-by (view v) (view r.field-0.0) (view r.field-0.1)
+    (eval w (expr_view p.items.value)) (eval w (expr_view p.between.value)) h
+    (ap view r.ensures.left ∙ c.in_ok-items-in-Join.ensures ∙ ap (λ e. shown (eval w (expr_view e))) c.deref-in-Join.ensures)
+    (r.ensures.right ∙ ap (λ e. shown (eval w (expr_view e))) c.deref-in-Join-2.ensures)) c.joined.ensures)
+
+pub text_of-loop-part-init : goal.text_of-loop-part-init
+text_of-loop-part-init g t c =
+    let whole = eval_text (g.V.Vars.world c.args.vars.now) (exprs_view c.args.parts.now) in
+    sym (ap (λ s. after_text s whole) c.new-text.ensures.bytes ∙ concat-first (g.V.Vars.world c.args.vars.now) (exprs_view c.args.parts.now))
+
+pub text_of-loop-part-preserved : goal.text_of-loop-part-preserved
+text_of-loop-part-preserved g t c =
+    let w = g.V.Vars.world c.args.vars.now in
+    let parts = c.args.parts.now in
+    let i = c.loop-part.part-index in
+    c.loop-part.invariant
+    ∙ concat-turn w parts (string_bytes c.loop-part.text) i c.part-item.result c.in_ok-found.found c.loop-part-test.true c.part-item.is c.in_ok-found.ensures (sym c.if-not-is_plain.ensures)
+    ∙ ap (λ t. after_text t (eval_text w (exprs_view (drop (i + 1) parts)))) (sym c.in_ok-append.ensures)
+
+pub text_of-returns : goal.text_of-returns
+text_of-returns g t c =
+    let w = g.V.Vars.world c.args.vars.now in
+    subst (λ (d : Data). IfOk c.of_text.result (λ v. view v ≡ d))
+    (sym (ap shown c.loop-part.invariant
+    ∙ concat-done w c.args.parts.now (string_bytes c.loop-part.text) c.loop-part.part-index c.loop-part-test.false))
+    c.of_text.ensures
+
+pub text_of-returns-then-not-is_plain : goal.text_of-returns-then-not-is_plain
+text_of-returns-then-not-is_plain g t c =
+    let w = g.V.Vars.world c.args.vars.now in
+    view-Opaque
+    ∙ sym (ap shown c.loop-part.invariant
+    ∙ concat-spoilt w c.args.parts.now (string_bytes c.loop-part.text) c.loop-part.part-index c.part-item.result c.in_ok-found.found
+    c.loop-part-test.true c.part-item.is c.in_ok-found.ensures (sym c.if-not-is_plain.ensures))
 
 pub eval-returns-in_ok-pair_of-in-In : goal.eval-returns-in_ok-pair_of-in-In
 eval-returns-in_ok-pair_of-in-In g t c =

@@ -1,10 +1,11 @@
-use Rattle.std.proofs.Common.{◌≡◌, ◌++◌, List, map, drop, String, Global}
-use Rattle.pb_language.specs.Evaluation.{eval, eval_all, eval_any, eval_items, eval_parts}
+use Rattle.std.proofs.Common.{◌≡◌, ◌++◌, List, map, drop, String, Global, string_bytes}
+use Rattle.pb_language.specs.Evaluation.{eval, eval_all, eval_any, eval_items, eval_parts, eval_text}
 use Rattle.pb_value.specs.View.{items_view, fields_view, fields_of}
 use Rattle.pb_expr.specs.ExprView.{expr_view, exprs_view, parts_view}
 use Rattle.pb_expr.specs.OwnWorld.{shown}
 use Rattle.pb_expr.specs.declared.expr.Expr.{Expr}
 use Rattle.pb_expr.proofs.Outcomes.{after_items, after_fields}
+use Rattle.pb_expr.proofs.MadeTexts.{after_text}
 use Rattle.pb_expr.proofs.eval.+eval.Given as goal
 
 abbrev pub invariant-all_of-loop-operand : goal.invariant-all_of-loop-operand
@@ -18,6 +19,10 @@ invariant-any_of-loop-operand g l =
 abbrev pub invariant-list_of-loop-item : goal.invariant-list_of-loop-item
 invariant-list_of-loop-item g l =
     eval_items (g.V.Vars.world l.vars) (exprs_view l.items) ≡ after_items (items_view l.values.items) (eval_items (g.V.Vars.world l.vars) (exprs_view (drop l.item-index l.items)))
+
+abbrev pub invariant-text_of-loop-part : goal.invariant-text_of-loop-part
+invariant-text_of-loop-part g l =
+    eval_text (g.V.Vars.world l.vars) (exprs_view l.parts) ≡ after_text (string_bytes l.text) (eval_text (g.V.Vars.world l.vars) (exprs_view (drop l.part-index l.parts)))
 
 abbrev pub invariant-record_of-loop-name : goal.invariant-record_of-loop-name
 invariant-record_of-loop-name g l =

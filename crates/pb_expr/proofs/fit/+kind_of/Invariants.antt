@@ -1,6 +1,6 @@
 use Rattle.std.proofs.Common.{◌≡◌, ◌++◌, ◌&&◌, List, Bool, drop, String, Global}
 use Rattle.pb_language.specs.Kinds.{kind_of, items_kind}
-use Rattle.pb_language.specs.Fit.{chain_fault, are_booleans, items_fault, fields_fault}
+use Rattle.pb_language.specs.Fit.{chain_fault, are_booleans, items_fault, fields_fault, parts_fault, are_plain}
 use Rattle.pb_value.specs.KindView.{slots_view}
 use Rattle.pb_expr.specs.ExprView.{expr_view, exprs_view, parts_view}
 use Rattle.pb_expr.specs.FitView.{own_scope}
@@ -31,3 +31,11 @@ invariant-record_kind-loop-name l =
     (done : List (String Global × Expr)) × (l.fields.entries ≡ done ++ l.name-iterator)
     × (slots_view l.kinds.entries ≡ slots_from (λ e. kind_of c (expr_view e)) done)
     × (fields_fault c (parts_view l.fields.entries) ≡ fields_fault c (parts_view l.name-iterator))
+
+abbrev pub invariant-text_kind-loop-part : goal.invariant-text_kind-loop-part
+invariant-text_kind-loop-part l =
+    let c = own_scope (slots_view l.slots.entries) in
+    record {
+      faults : parts_fault c (exprs_view l.parts) ≡ parts_fault c (exprs_view (drop l.part-index l.parts));
+      kinds : are_plain c (exprs_view l.parts) ≡ l.are_plain && are_plain c (exprs_view (drop l.part-index l.parts));
+    }

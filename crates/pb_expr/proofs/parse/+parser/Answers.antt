@@ -10,7 +10,7 @@ use Rattle.pb_expr.proofs.Exprs.{view-And, view-Not, view-Or}
 use Rattle.pb_expr.proofs.Operands.{one-more, two-more, and-first, and-next, and-breaks, and-done, or-first, or-next, or-breaks, or-done}
 use Rattle.pb_expr.proofs.Parsed.{are_simple-push}
 use Rattle.pb_expr.proofs.Refusals.{refuses-none, refuses-more, passed-refused}
-use Rattle.pb_expr.proofs.Sorts.{inside-of, negation-read}
+use Rattle.pb_expr.proofs.Sorts.{inside-of, negation-read, negation-refused}
 use Rattle.pb_expr.proofs.parse.+parser.Goals as goal
 
 pub and_at-operands-init : goal.and_at-operands-init
@@ -92,6 +92,15 @@ not_at-returns-clause-read t c =
           negation-read c.args.depth c.args.text.now c.args.token c.in_ok-token_at.field-0 (expr_view c.in_ok-operand.operand) c.in_ok-operand.after (search rules) (search rules) c.in_ok-token_at.ensures.next.read c.in_ok-operand.ensures.read.tree
           ∙ ap (λ e. Some (reading e (tokens_at c.args.text.now c.in_ok-operand.after))) (sym same);
     }
+
+pub not_at-returns-in_err-operand-clause-refused : goal.not_at-returns-in_err-operand-clause-refused
+not_at-returns-in_err-operand-clause-refused t c =
+    passed-refused c.args.text.now _ c.in_err-operand.field-0.0 _ c.from_residual-in_err-operand.ensures.1
+    (record {
+      place = c.in_err-operand.ensures.refused.place;
+      refused = refuses-more _ _ _ c.in_err-operand.ensures.refused.refused
+          (λ none. negation-refused c.args.depth c.args.text.now c.args.token c.in_ok-token_at.field-0 (search rules) (search rules) c.in_ok-token_at.ensures.next.read none);
+    })
 
 pub or_at-operands-init : goal.or_at-operands-init
 or_at-operands-init t c = record {

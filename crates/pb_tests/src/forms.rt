@@ -1,0 +1,263 @@
+// What forms are worth that the reader of texts doesn't read yet: their trees are made by hand.
+use pb_expr::eval::eval;
+use pb_expr::teach::answered;
+use pb_expr::{Comparison, Expr, KindFault, Path, Status, Unfit, kind_of};
+use pb_value::{Case, Fields, Kind, Shape, Slot, Slots, Value, put_slot, read_json};
+use std::alloc::Global;
+use std::sync::Arc;
+use std::test::Fail;
+
+fn literal(alloc: Global, json: &str) -> Result<Expr, Fail> {
+    Ok(Expr::Literal(read_json(alloc, json.as_bytes())?))
+}
+
+fn boxed(alloc: Global, json: &str) -> Result<Box<Expr>, Fail> {
+    Ok(Box::new(alloc, literal(alloc, json)?)?)
+}
+
+// The literals of a JSON list.
+fn literals(alloc: Global, json: &str) -> Result<Vec<Expr>, Fail> {
+    let mut parts = Vec::new(alloc);
+    if let Value::List(items) = &read_json(alloc, json.as_bytes())? {
+        for item in items.iter() {
+            parts.push(Expr::Literal(item.clone()?))?;
+        }
+    }
+    Ok(parts)
+}
+
+// `a.b`
+fn path(alloc: Global) -> Result<Path, Fail> {
+    let mut steps = Vec::new(alloc);
+    steps.push(String::from_str(alloc, "b")?)?;
+    Ok(Path {
+        root: String::from_str(alloc, "a")?,
+        steps,
+    })
+}
+
+// The expression has that value where the variables are those.
+fn is_worth(alloc: Global, expr: &Expr, variables: &str, expected: &str) -> Result<(), Fail> {
+    let variables = match &read_json(alloc, variables.as_bytes())? {
+        Value::Rec(fields) => fields.clone()?,
+        _ => Err("no variables")?,
+    };
+    let fields: &Fields = &variables;
+    let found = eval(alloc, expr, fields)?;
+    if pb_expr::equal::equal(&found, &read_json(alloc, expected.as_bytes())?) {
+        Ok(())
+    } else {
+        Err(expected)?
+    }
+}
+
+fn compared(alloc: Global, comparison: Comparison, left: &str, right: &str) -> Result<Expr, Fail> {
+    Ok(Expr::Compare(comparison, boxed(alloc, left)?, boxed(alloc, right)?))
+}
+
+#[test]
+fn orders(rt: HostRuntime) -> Result<(), Fail> {
+    let alloc = rt.alloc();
+    is_worth(
+        alloc,
+        &compared(alloc, Comparison::Less, "2", "3")?,
+        "{}",
+        "true",
+    )?;
+    is_worth(
+        alloc,
+        &compared(alloc, Comparison::Less, "3", "3")?,
+        "{}",
+        "false",
+    )?;
+    is_worth(
+        alloc,
+        &compared(alloc, Comparison::AtMost, "3", "3")?,
+        "{}",
+        "true",
+    )?;
+    is_worth(
+        alloc,
+        &compared(alloc, Comparison::More, "2", "3")?,
+        "{}",
+        "false",
+    )?;
+    is_worth(
+        alloc,
+        &compared(alloc, Comparison::AtLeast, "-1", "-2")?,
+        "{}",
+        "true",
+    )?;
+    is_worth(
+        alloc,
+        &compared(alloc, Comparison::Equal, "[1]", "[1]")?,
+        "{}",
+        "true",
+    )
+}
+
+#[test]
+fn texts_with_parts(rt: HostRuntime) -> Result<(), Fail> {
+    let alloc = rt.alloc();
+    let parts = literals(alloc, r#"["n=", 1, " ", true]"#)?;
+    is_worth(alloc, &Expr::Concat(parts), "{}", r#""n=1 True""#)?;
+    let joined = Expr::Join(boxed(alloc, r#"[1, true, "x"]"#)?, boxed(alloc, r#"", ""#)?);
+    is_worth(alloc, &joined, "{}", r#""1, True, x""#)?;
+    let none = Expr::Join(boxed(alloc, "[]")?, boxed(alloc, r#"", ""#)?);
+    is_worth(alloc, &none, "{}", r#""""#)
+}
+
+#[test]
+fn lengths(rt: HostRuntime) -> Result<(), Fail> {
+    let alloc = rt.alloc();
+    is_worth(alloc, &Expr::Length(boxed(alloc, "[1, 2]")?), "{}", "2")?;
+    is_worth(
+        alloc,
+        &Expr::Length(boxed(alloc, r#""\u00e4b""#)?),
+        "{}",
+        "2",
+    )?;
+    is_worth(
+        alloc,
+        &Expr::Length(boxed(alloc, r#"{"x": 1}"#)?),
+        "{}",
+        "1",
+    )
+}
+
+#[test]
+fn defaults(rt: HostRuntime) -> Result<(), Fail> {
+    let alloc = rt.alloc();
+    let default = Expr::PathOr(path(alloc)?, boxed(alloc, r#""z""#)?);
+    is_worth(alloc, &default, "{}", r#""z""#)?;
+    is_worth(alloc, &default, r#"{"a": {"c": 1}}"#, r#""z""#)?;
+    is_worth(alloc, &default, r#"{"a": 7}"#, r#""z""#)?;
+    is_worth(alloc, &default, r#"{"a": {"b": 1}}"#, "1")?;
+    let value = Expr::ValueOr(boxed(alloc, "1")?, boxed(alloc, "2")?);
+    is_worth(alloc, &value, "{}", "1")
+}
+
+#[test]
+fn statuses(rt: HostRuntime) -> Result<(), Fail> {
+    let alloc = rt.alloc();
+    let told = r#"{"changed": true, "failed": false, "skipped": true}"#;
+    is_worth(
+        alloc,
+        &Expr::Status(Status::Changed, boxed(alloc, told)?),
+        "{}",
+        "true",
+    )?;
+    is_worth(
+        alloc,
+        &Expr::Status(Status::Failed, boxed(alloc, told)?),
+        "{}",
+        "false",
+    )?;
+    is_worth(
+        alloc,
+        &Expr::Status(Status::Skipped, boxed(alloc, told)?),
+        "{}",
+        "true",
+    )?;
+    let untold = r#"{"changed": true, "failed": false}"#;
+    is_worth(
+        alloc,
+        &Expr::Status(Status::Skipped, boxed(alloc, untold)?),
+        "{}",
+        "false",
+    )
+}
+
+// The kind of `a.b | default('z')` where `a` has that kind.
+fn default_kind(alloc: Global, slot: Slot<Kind>) -> Result<Kind, Fail> {
+    let mut inner = Slots::new(alloc);
+    put_slot(&mut inner, String::from_str(alloc, "b")?, slot)?;
+    let mut slots = Slots::new(alloc);
+    let record = Kind::of_slots(alloc, inner)?;
+    put_slot(
+        &mut slots,
+        String::from_str(alloc, "a")?,
+        Slot::always(record),
+    )?;
+    let default = Expr::PathOr(path(alloc)?, boxed(alloc, r#""z""#)?);
+    match kind_of(alloc, &default, &slots) {
+        Ok(kind) => Ok(kind),
+        Err(_) => Err("no kind")?,
+    }
+}
+
+#[test]
+fn kinds(rt: HostRuntime) -> Result<(), Fail> {
+    let alloc = rt.alloc();
+    let none = Slots::new(alloc);
+    let parts = Expr::Concat(literals(alloc, r#"["n=", 1]"#)?);
+    assert!(rt; matches!(kind_of(alloc, &parts, &none), Ok(Kind::Text)));
+    let length = Expr::Length(boxed(alloc, "[1, 2]")?);
+    assert!(rt; matches!(kind_of(alloc, &length, &none), Ok(Kind::Int)));
+    let number = Expr::Length(boxed(alloc, "1")?);
+    assert!(rt;
+        matches!(
+            kind_of(alloc, &number, &none),
+            Err(KindFault::Unfit(Unfit::WrongKind))
+        )
+    );
+    let texts = compared(alloc, Comparison::Less, r#""a""#, r#""b""#)?;
+    assert!(rt;
+        matches!(
+            kind_of(alloc, &texts, &none),
+            Err(KindFault::Unfit(Unfit::WrongKind))
+        )
+    );
+    assert!(rt; matches!(default_kind(alloc, Slot::always(Kind::Int))?, Kind::Int));
+    assert!(rt; matches!(default_kind(alloc, Slot::maybe(Kind::Int))?, Kind::Any));
+    assert!(rt; matches!(default_kind(alloc, Slot::maybe(Kind::Text))?, Kind::Text));
+    Ok(())
+}
+
+// A case of a result of `ping`, with no field.
+fn case(alloc: Global, shape: Shape, failed: bool) -> Result<Case<Kind>, Fail> {
+    Ok(Case {
+        action: Arc::new(alloc, String::from_str(alloc, "ping")?)?,
+        shape,
+        failed,
+        fields: Kind::of_slots(alloc, Slots::new(alloc))?,
+    })
+}
+
+// A result that has run, has failed or was skipped.
+fn result_kind(alloc: Global) -> Result<Kind, Fail> {
+    let mut cases = Vec::new(alloc);
+    cases.push(case(alloc, Shape::Ok, false)?)?;
+    cases.push(case(alloc, Shape::Failure, true)?)?;
+    cases.push(case(alloc, Shape::Skipped, false)?)?;
+    let record = Kind::of_slots(alloc, Slots::new(alloc))?;
+    Ok(Kind::of_cases(alloc, cases, record)?)
+}
+
+// Of how many cases, and how many failed ones, the result may be after that answer.
+fn cases_left(alloc: Global, status: Status, answer: bool) -> Result<(usize, usize), Fail> {
+    match &answered(alloc, &result_kind(alloc)?, status, answer)? {
+        Kind::Result(cases, _) => {
+            let mut failed = 0;
+            for case in cases.iter() {
+                if case.failed {
+                    failed += 1;
+                }
+            }
+            Ok((cases.len(), failed))
+        }
+        _ => Err("no result")?,
+    }
+}
+
+#[test]
+fn answers_of_statuses(rt: HostRuntime) -> Result<(), Fail> {
+    let alloc = rt.alloc();
+    assert_eq!(rt; cases_left(alloc, Status::Failed, true)?, (1, 1));
+    assert_eq!(rt; cases_left(alloc, Status::Failed, false)?, (2, 0));
+    assert_eq!(rt; cases_left(alloc, Status::Skipped, true)?, (1, 0));
+    assert_eq!(rt; cases_left(alloc, Status::Skipped, false)?, (2, 1));
+    assert_eq!(rt; cases_left(alloc, Status::Changed, true)?, (2, 1));
+    assert_eq!(rt; cases_left(alloc, Status::Changed, false)?, (3, 1));
+    Ok(())
+}

@@ -5,6 +5,8 @@ pub mod Turns
 pub mod MadeTexts
 pub mod Findings
 pub mod Answered
+pub mod Placed
+pub mod NewCases
 pub mod Parsed
 pub mod Ascending
 pub mod Untaught

@@ -1,10 +1,10 @@
 -- The value of a form beside the values of its operands.
 use Rattle.std.proofs.Common.{◌≡◌, ℕ, ℤ, List, [], ◌∷◌, ◌++◌, Bool, true, false, ◌||◌, int_lt, int_le, Some, None, refl, sym, ap, ◌∙◌}
-use Rattle.pb_semantics.specs.Data.{Data, Items, Fields, null, boolean, int, text, list, rec, opaque, no_items, item, no_fields, field}
+use Rattle.pb_semantics.specs.Data.{Data, Items, Fields, boolean, int, text, list, rec, opaque, no_items, item, no_fields, field}
 use Rattle.pb_language.specs.Evaluates.{is_unreadable}
 use Rattle.pb_language.specs.Expression.{Comparison, equal, less, at_most, more, at_least, Expressions, no_expressions, expression}
 use Rattle.pb_language.specs.World.{World}
-use Rattle.pb_language.specs.Evaluation.{Outcome, Stuck, value, stuck, wrong_sort, then_go, only_boolean, negated, and_then, or_then, holds_opaque, equal_values, ordered, compared, found_in, joined, put_item, put_part, eval, eval_all, eval_any}
+use Rattle.pb_language.specs.Evaluation.{Outcome, Stuck, value, stuck, wrong_sort, then_go, only_boolean, and_then, or_then, holds_opaque, ordered, compared, found_in, joined, put_item, put_part, eval, eval_all, eval_any}
 use Rattle.pb_value.specs.Append.{append_fields}
 use Rattle.pb_value.specs.View.{view, items_view, truth}
 use Rattle.pb_value.specs.declared.value.Value.{Value}

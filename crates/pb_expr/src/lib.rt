@@ -18,6 +18,7 @@ pub mod fit;
 mod kinds;
 mod lexer;
 pub mod parse;
+pub mod taught;
 pub mod teach;
 pub mod vars;
 

@@ -1,15 +1,19 @@
-// What the answer of a test teaches of the kind of a result.
-ghost use Rattle.std.specs.Prelude.{[], ◌∷◌, ◌≡◌, IfOk, codes};
+// What the answer of a status's test teaches of a kind, and of the kind at the end of a path.
+ghost use Rattle.std.specs.Prelude.{[], ◌∷◌, ◌≡◌, IfOk, codes, string_bytes};
 ghost use Rattle.pb_semantics.specs.Kind.{is_skipped as is_skip};
-ghost use Rattle.pb_language.specs.Narrow.{answers, cases_with, has_slot, least_record, on_results};
+ghost use Rattle.pb_semantics.specs.Words.{no_cases, one, recs};
+ghost use Rattle.pb_language.specs.Narrow.{answers, cases_changed, cases_with, changed_at};
+ghost use Rattle.pb_language.specs.Narrow.{has_slot, least_record, on_results, with_change};
+ghost use Rattle.pb_language.specs.Scope.{with_slot};
 ghost use Rattle.pb_language.specs.Words.{results_of};
-ghost use Rattle.pb_value.specs.Words.{cases_view, kind_view, shape_view};
-ghost use Rattle.pb_expr.specs.ExprView.{status_view};
+ghost use Rattle.pb_value.specs.Words.{cases_view, is_always, kind_view, shape_view, slots_view};
+ghost use Rattle.pb_expr.specs.ExprView.{names_of, status_view};
 
 use crate::expr::Status;
-use pb_value::below::has_field;
-use pb_value::{Case, Kind, Shape, join_all};
+use pb_value::below::{find, has_field};
+use pb_value::{Case, Kind, Shape, Slot, Slots, join_all, put_slot};
 use std::alloc::{AllocError, Global};
+use std::collections::BTreeMap;
 
 /// The kind of what a test of that status had that answer of: a result keeps the cases that may
 /// give it, any other kind stays.
@@ -33,7 +37,7 @@ pub fn answered(
 }
 
 // A result of one of these cases.
-fn result_of(alloc: Global, cases: Vec<Case<Kind>>) -> Result<Kind, AllocError>
+pub(crate) fn result_of(alloc: Global, cases: Vec<Case<Kind>>) -> Result<Kind, AllocError>
     ensures { IfOk result (λ k. kind_view k ≡ results_of (cases_view cases.items)) }
 {
     let record = record_above(alloc, &cases)?;
@@ -74,8 +78,16 @@ fn cases_answered(
 fn case_shared(case: &Case<Kind>) -> Result<Case<Kind>, AllocError>
     ensures { IfOk result (λ c. cases_view (c ∷ []) ≡ cases_view (case.now ∷ [])) }
 {
+    case_with(case, case.fields.clone()?)
+}
+
+// The case with that record in place of its own.
+pub(crate) fn case_with(case: &Case<Kind>, fields: Kind) -> Result<Case<Kind>, AllocError>
+    ensures { IfOk result (λ c. cases_view (c ∷ [])
+        ≡ one (string_bytes case.now.action.value) (shape_view case.now.shape) case.now.failed
+        (kind_view fields) no_cases) }
+{
     let action = case.action.clone()?;
-    let fields = case.fields.clone()?;
     Ok(Case {
         action,
         shape: case.shape,
@@ -114,4 +126,107 @@ fn tells_skipped(record: &Kind) -> bool
         Kind::Rec(slots) => has_field(slots, "skipped"),
         _ => false,
     }
+}
+
+/// The kind in which a test of that status at the end of the steps had that answer: each record or
+/// result on the way is that with the field so changed.
+///
+/// # Errors
+///
+/// Want of memory, also where it would weigh more than `MOST_KIND` or nest too deep.
+#[cycle(answered_at)]
+pub fn answered_at(
+    alloc: Global,
+    kind: &Kind,
+    steps: &[String],
+    status: Status,
+    answer: bool,
+) -> Result<Kind, AllocError>
+    ensures { IfOk result (λ k. kind_view k ≡ changed_at (names_of steps.now)
+        (on_results (cases_with (answers (status_view status) answer))) (kind_view kind.now)) }
+{
+    let Some((name, rest)) = steps.split_first() else {
+        return answered(alloc, kind, status, answer);
+    };
+    match kind {
+        Kind::Result(cases, _) => {
+            let changed = cases_answered_below(alloc, cases, name, rest, status, answer)?;
+            result_of(alloc, changed)
+        }
+        _ => answered_below(alloc, kind, name, rest, status, answer),
+    }
+}
+
+// The cases, each with its record so changed.
+#[cycle(answered_at)]
+fn cases_answered_below(
+    alloc: Global,
+    cases: &[Case<Kind>],
+    name: &String,
+    steps: &[String],
+    status: Status,
+    answer: bool,
+) -> Result<Vec<Case<Kind>>, AllocError>
+    ensures { let changed = changed_at (names_of steps.now)
+        (on_results (cases_with (answers (status_view status) answer))) in
+        IfOk result (λ all. cases_view all.items
+        ≡ cases_changed (with_change (string_bytes name.now) changed) (cases_view cases.now)) }
+{
+    let mut all = Vec::new(alloc);
+    for case in cases {
+        let fields = answered_below(alloc, &case.fields, name, steps, status, answer)?;
+        let changed = case_with(case, fields)?;
+        all.push(changed)?;
+    }
+    Ok(all)
+}
+
+// A record with the field of that name so changed, where it has one; any other kind stays.
+#[cycle(answered_at)]
+fn answered_below(
+    alloc: Global,
+    kind: &Kind,
+    name: &String,
+    steps: &[String],
+    status: Status,
+    answer: bool,
+) -> Result<Kind, AllocError>
+    ensures { let changed = changed_at (names_of steps.now)
+        (on_results (cases_with (answers (status_view status) answer))) in
+        IfOk result (λ k. kind_view k
+        ≡ with_change (string_bytes name.now) changed (kind_view kind.now)) }
+{
+    let Kind::Rec(slots) = kind else {
+        return kind.clone();
+    };
+    let Some(slot) = find(slots, name.as_str()) else {
+        return kind.clone();
+    };
+    let changed = Slot {
+        presence: slot.presence,
+        kind: answered_at(alloc, &slot.kind, steps, status, answer)?,
+    };
+    record_with(alloc, slots, name, changed)
+}
+
+// A record of the slots with that one in place of any other of its name.
+pub(crate) fn record_with(
+    alloc: Global,
+    slots: &Slots,
+    name: &String,
+    slot: Slot<Kind>,
+) -> Result<Kind, AllocError>
+    ensures { IfOk result (λ k. kind_view k ≡ recs (with_slot (string_bytes name.now)
+        (is_always slot.presence) (kind_view slot.kind) (slots_view slots.now.entries))) }
+{
+    let mut all = BTreeMap::new(alloc);
+    for (other, known) in slots.iter() {
+        let copy = Slot {
+            presence: known.presence,
+            kind: known.kind.clone()?,
+        };
+        put_slot(&mut all, other.clone()?, copy)?;
+    }
+    put_slot(&mut all, name.clone()?, slot)?;
+    Kind::of_slots(alloc, all)
 }

@@ -11,8 +11,8 @@ use Rattle.pb_value.specs.Append.{append_fields}
 use Rattle.pb_expr.specs.ExprView.{comparison_view, expr_view, exprs_view, parts_view}
 use Rattle.pb_expr.specs.OwnWorld.{shown}
 use Rattle.pb_expr.specs.declared.expr.Expr.{Expr}
-use Rattle.pb_expr.proofs.Outcomes.{one-by, compared-by, joined-by, found-by, after_items, after_fields, fields-end}
-use Rattle.pb_expr.proofs.Exprs.{view-Bool, view-Opaque, view-And, view-Or, view-Compare, view-Undefinable, view-Status, view-PathOr, view-ValueOr, view-Length, view-Join, view-Concat, view-In, view-List}
+use Rattle.pb_expr.proofs.Outcomes.{compared-by, joined-by, found-by, after_items, after_fields, fields-end}
+use Rattle.pb_expr.proofs.Exprs.{view-Bool, view-Opaque, view-And, view-Or, view-Compare, view-Join, view-In, view-List}
 use Rattle.pb_expr.proofs.Turns.{all-turn, all-stops, all-spoilt, all-done, any-turn, any-stops, any-spoilt, any-done, list-turn, list-spoilt, list-done, record-turn, record-spoilt, fields-last}
 use Rattle.pb_expr.proofs.MadeTexts.{after_text, concat-first, concat-turn, concat-spoilt, concat-done}
 use Rattle.pb_expr.proofs.eval.+eval.Goals as goal

@@ -1,9 +1,4 @@
-use Rattle.std.proofs.Common.{sym, ap, ◌∙◌}
-use Rattle.std.proofs.lemmas.List.{drop_all}
-use Rattle.pb_semantics.specs.Kind.{never}
-use Rattle.pb_language.specs.Narrow.{least_record}
-use Rattle.pb_value.specs.Growing.{joined_onto}
-use Rattle.pb_value.specs.KindView.{cases_view}
+use Rattle.std.proofs.Common.{◌∙◌}
 use Rattle.pb_expr.proofs.Answered.{record-turn}
 use Rattle.pb_expr.proofs.teach.record_above.Goals as goal
 

@@ -255,12 +255,7 @@ fn cases_left(alloc: Global, status: Status, answer: bool) -> Result<(usize, usi
 fn cases_of(kind: &Kind) -> Result<(usize, usize), Fail> {
     match kind {
         Kind::Result(cases, _) => {
-            let mut failed = 0;
-            for case in cases.iter() {
-                if case.failed {
-                    failed += 1;
-                }
-            }
+            let failed = cases.iter().filter(|case| case.failed).count();
             Ok((cases.len(), failed))
         }
         _ => Err("no result")?,

@@ -4,10 +4,9 @@ use Rattle.pb_semantics.specs.Kind.{KindData, Slots, Spot, never, recs, nowhere,
 use Rattle.pb_semantics.specs.Join.{join}
 use Rattle.pb_language.specs.Expression.{Name, Expressions, expression}
 use Rattle.pb_language.specs.Scope.{Scope, spot_kind, below_spot}
-use Rattle.pb_language.specs.Kinds.{path_spot, step_spot, count, kind_of}
+use Rattle.pb_language.specs.Kinds.{path_spot, step_spot, count, kind_of, default_kind, shown_spot}
 use Rattle.pb_language.specs.Fit.{Fault, perhaps_missing, first, is_boolean, field_fault, steps_fault, fault, chain_fault, are_booleans}
 use Rattle.pb_language.specs.Narrow.{narrow}
-use Rattle.pb_language.proofs.Untaught.{narrow_untaught}
 use Rattle.pb_value.specs.KindView.{kind_view}
 use Rattle.pb_value.specs.declared.kind.Kind.{Kind}
 use Rattle.pb_expr.specs.ExprView.{expr_view, exprs_view, names_of}
@@ -15,19 +14,18 @@ use Rattle.pb_expr.specs.FitView.{LeadsTo, certain}
 use Rattle.pb_value.specs.Growing.{joined_onto}
 use Rattle.pb_expr.specs.declared.expr.Expr.{Expr}
 use Rattle.pb_expr.proofs.Turns.{drop-at}
-use Rattle.pb_expr.proofs.Untaught.{expr-untaught}
 
--- a chain knows at each operand what it knew before the first
-pub chain-turn : (c : Scope) (e : Expr) (es : Expressions) (b : Bool) → fault c (expr_view e) ≡ None → chain_fault c (expression (expr_view e) es) b ≡ chain_fault c es b
-chain-turn c e es b h =
-    ap (λ f. first f (chain_fault (narrow c (expr_view e) b) es b)) h ∙ ap (λ d. chain_fault d es b) (narrow_untaught (expr_view e) c b (expr-untaught e))
+-- a chain knows at each operand what those before it taught
+pub chain-turn : (c d : Scope) (e : Expr) (es : Expressions) (b : Bool) → fault c (expr_view e) ≡ None → d ≡ narrow c (expr_view e) b
+    → chain_fault c (expression (expr_view e) es) b ≡ chain_fault d es b
+chain-turn c d e es b h is = ap (λ f. first f (chain_fault (narrow c (expr_view e) b) es b)) h ∙ ap (λ s. chain_fault s es b) (sym is)
 
-pub booleans-turn : (a q : Bool) (k : KindData) (c : Scope) (e : Expr) (es : Expressions) (b : Bool) → q ≡ is_boolean k → k ≡ kind_of c (expr_view e)
-    → a && are_booleans c (expression (expr_view e) es) b ≡ (a && q) && are_booleans c es b
-booleans-turn false q k c e es b h i = refl
-booleans-turn true q k c e es b h i =
+pub booleans-turn : (a q : Bool) (k : KindData) (c d : Scope) (e : Expr) (es : Expressions) (b : Bool) → q ≡ is_boolean k → k ≡ kind_of c (expr_view e) → d ≡ narrow c (expr_view e) b
+    → a && are_booleans c (expression (expr_view e) es) b ≡ (a && q) && are_booleans d es b
+booleans-turn false q k c d e es b h i is = refl
+booleans-turn true q k c d e es b h i is =
     ap (λ m. is_boolean m && are_booleans (narrow c (expr_view e) b) es b) (sym i) ∙ ap (λ x. x && are_booleans (narrow c (expr_view e) b) es b) (sym h)
-    ∙ ap (λ d. q && are_booleans d es b) (narrow_untaught (expr_view e) c b (expr-untaught e))
+    ∙ ap (λ s. q && are_booleans s es b) (sym is)
 
 pub count-exprs : (es : List Expr) → count (exprs_view es) ≡ length es
 count-exprs [] = refl
@@ -70,3 +68,8 @@ pub lost-below : (ns : List (String Global)) (i : ℕ) (n : String Global) (a : 
 lost-below ns i n a k lt is lost =
     ap (λ ms. path_spot (names_of ms) (spot a k)) (drop-at ns i n lt is)
     ∙ ap (λ s. path_spot (names_of (drop (i + 1) ns)) (below_spot a s)) (sym lost) ∙ nowhere-below (names_of (drop (i + 1) ns))
+
+-- what a test showed to be there is certain
+pub shown-kind : (s : Spot) (m : KindData) → spot_kind s ≡ default_kind (shown_spot true s) m
+shown-kind nowhere m = refl
+shown-kind (spot a k) m = refl

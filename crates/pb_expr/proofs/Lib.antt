@@ -6,10 +6,11 @@ pub mod MadeTexts
 pub mod Findings
 pub mod Answered
 pub mod Placed
+pub mod Overlaid
+pub mod Ways
 pub mod NewCases
 pub mod Parsed
 pub mod Ascending
-pub mod Untaught
 pub mod Records
 pub mod Scanned
 pub mod Meanings

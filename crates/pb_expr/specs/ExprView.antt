@@ -6,7 +6,8 @@ use Rattle.pb_semantics.specs.Data.{Data, rec, field_value}
 use Rattle.pb_language.specs.Expression.{Name, Comparison, equal, less, at_most, more, at_least}
 use Rattle.pb_language.specs.Expression.{Status, is_failed, is_changed, is_skipped, Expression}
 use Rattle.pb_language.specs.Expression.{literal, path, negation, conjunction, disjunction}
-use Rattle.pb_language.specs.Expression.{comparison, membership, undefinable, value_status, path_or}
+use Rattle.pb_language.specs.Expression.{comparison, membership, defined, undefinable}
+use Rattle.pb_language.specs.Expression.{path_status, value_status, path_or}
 use Rattle.pb_language.specs.Expression.{value_or, length_of, joined_by, concatenation, list_of}
 use Rattle.pb_language.specs.Expression.{record_of, variable, Expressions, no_expressions}
 use Rattle.pb_language.specs.Expression.{expression, Parts, no_parts, part}
@@ -50,7 +51,10 @@ expr_step (Expr-F.And v) = conjunction (exprs_of v.items)
 expr_step (Expr-F.Or v) = disjunction (exprs_of v.items)
 expr_step (Expr-F.Compare c a b) = comparison (comparison_view c) a.value b.value
 expr_step (Expr-F.In a b) = membership a.value b.value
+expr_step (Expr-F.Defined p) = defined (variable (string_bytes p.root)) (names_of p.steps.items)
 expr_step (Expr-F.Undefinable b) = undefinable b.value
+expr_step (Expr-F.PathStatus s p) =
+    path_status (status_view s) (variable (string_bytes p.root)) (names_of p.steps.items)
 expr_step (Expr-F.Status s b) = value_status (status_view s) b.value
 expr_step (Expr-F.PathOr p b) =
     path_or (variable (string_bytes p.root)) (names_of p.steps.items) b.value

@@ -2,6 +2,7 @@ pub mod Place
 pub mod ExprView
 pub mod FitView
 pub mod OwnWorld
+pub mod TaughtView
 pub mod Letters
 pub mod Trees
 pub mod Signs

@@ -2,15 +2,17 @@
 ghost use Rattle.std.specs.Prelude.{◌≡◌, IfOk, MatchOption, false, is_some, option_map};
 ghost use Rattle.std.specs.Prelude.{string_bytes, true};
 ghost use Rattle.pb_semantics.specs.Words.{field_value, is_part, list};
+ghost use Rattle.pb_language.specs.Expression.{path_status};
 ghost use Rattle.pb_language.specs.Words.{eval as outcome_of, eval_all, eval_any, eval_items};
 ghost use Rattle.pb_language.specs.Words.{eval_parts, eval_text, found, found_in, is_unreadable};
 ghost use Rattle.pb_language.specs.Words.{path_or, read, value_below, variable};
 ghost use Rattle.pb_value.specs.Words.{fields_view, items_view, view};
 ghost use Rattle.pb_expr.specs.ExprView.{expr_view, exprs_view, field_in, names_of, parts_view};
+ghost use Rattle.pb_expr.specs.ExprView.{status_view};
 ghost use Rattle.pb_expr.specs.OwnWorld.{shown, value_read};
 
 use crate::equal::{has_item, holds_opaque, items_hold_opaque};
-use crate::expr::{Expr, Path};
+use crate::expr::{Expr, Path, Status};
 use crate::filter::{append, comparison_of, is_plain, joined, length_of, negation_of, status_of};
 use crate::vars::Vars;
 use pb_value::{Fields, Value, field_of, put_field};
@@ -40,7 +42,9 @@ pub fn eval<V: Vars>(alloc: Global, expr: &Expr, vars: &V) -> Result<Value, Allo
             let part = eval(alloc, part, vars)?;
             Ok(membership_of(pair_of(alloc, whole, vars, part)?))
         }
+        Expr::Defined(path) => Ok(Value::Bool(path_end(path, vars).is_some())),
         Expr::Undefinable(_) => Ok(Value::Opaque),
+        Expr::PathStatus(status, path) => Ok(status_at(*status, path, vars)),
         Expr::Status(status, of) => Ok(status_of(*status, &eval(alloc, of, vars)?)),
         Expr::PathOr(path, other) => value_or(alloc, path, other, vars),
         Expr::ValueOr(value, _) => eval(alloc, value, vars),
@@ -182,6 +186,17 @@ fn value_of_path<V: Vars>(path: &Path, vars: &V) -> Result<Value, AllocError>
     match path_end(path, vars) {
         Some(value) => value.clone(),
         None => Ok(Value::Opaque),
+    }
+}
+
+// What the test says of the value at the end of the path.
+fn status_at<V: Vars>(status: Status, path: &Path, vars: &V) -> Value
+    ensures { view result ≡ shown (outcome_of (V.world vars.now) (path_status (status_view status)
+        (variable (string_bytes path.now.root)) (names_of path.now.steps.items))) }
+{
+    match path_end(path, vars) {
+        Some(value) => status_of(status, value),
+        None => Value::Opaque,
     }
 }
 

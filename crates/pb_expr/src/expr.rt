@@ -41,8 +41,12 @@ pub enum Expr {
     Compare(Comparison, Box<Expr>, Box<Expr>),
     /// `a in b`
     In(Box<Expr>, Box<Expr>),
+    /// `path is defined`
+    Defined(Path),
     /// `is defined` of what is no path, which is never fit.
     Undefinable(Box<Expr>),
+    /// `path is failed` and the like.
+    PathStatus(Status, Path),
     /// `is failed` and the like, of what is no path.
     Status(Status, Box<Expr>),
     /// `path | default(other)`

@@ -5,6 +5,7 @@ ghost use Rattle.pb_semantics.specs.Words.{Cases, Gives, any_case_holds, any_slo
 ghost use Rattle.pb_semantics.specs.Words.{count_of, holds_any as any_in, lists, put_slot, recs};
 ghost use Rattle.pb_semantics.specs.Words.{results, slot_at as spot_at, spot, texts};
 ghost use Rattle.pb_semantics.specs.Kind.{ints};
+ghost use Rattle.pb_language.specs.Expression.{path as path_of};
 ghost use Rattle.pb_language.specs.Words.{are_booleans, are_plain, asks, can_compare, can_find};
 ghost use Rattle.pb_language.specs.Words.{chain_fault, count, equal, fault, fields_fault, first};
 ghost use Rattle.pb_language.specs.Words.{has_length as can_be_counted, is_any as is_anything};
@@ -18,10 +19,14 @@ ghost use Rattle.pb_value.specs.Words.{cases_view, fields_view, items_view, kind
 ghost use Rattle.pb_value.specs.Words.{view};
 ghost use Rattle.pb_expr.specs.ExprView.{comparison_view, expr_view, exprs_view, names_of};
 ghost use Rattle.pb_expr.specs.ExprView.{parts_view};
-ghost use Rattle.pb_expr.specs.FitView.{LeadsTo, certain, fault_found, fault_view, own_scope};
+ghost use Rattle.pb_expr.specs.FitView.{LeadsTo, certain, fault_found, fault_view};
+ghost use Rattle.pb_expr.specs.TaughtView.{scope_view};
 
 use crate::expr::{Comparison, Expr, Path};
-use crate::kinds::{has_length, is_int, is_plain, is_plain_list, is_result, is_text, kind_or};
+use crate::kinds::{has_length, is_int, is_plain, is_plain_list, is_result, is_text};
+use crate::kinds::{kind_at_end, kind_or};
+use crate::narrow::narrow;
+use crate::scope::{Taught, is_present, slot_of};
 use pb_value::below::find;
 use pb_value::{Case, Fields, Kind, Slot, Slots, Value, join_all, put_slot};
 use std::alloc::{AllocError, AllocFailed, Global};
@@ -76,40 +81,44 @@ impl<T: Drop> From<AllocFailed<T>> for KindFault {
 /// The kind of a fit expression in an environment, or else the first fault from left to right,
 /// operands before the form round them.
 #[cycle(kind_of)]
-pub fn kind_of(alloc: Global, expr: &Expr, slots: &Slots) -> Result<Kind, KindFault>
+pub fn kind_of(alloc: Global, expr: &Expr, known: &Slots,
+    taught: &Taught) -> Result<Kind, KindFault>
     ensures fault { Gives (λ k. None) fault_found result
-        (fault (own_scope (slots_view slots.now.entries)) (expr_view expr.now)) }
+        (fault (scope_view known.now taught.now) (expr_view expr.now)) }
     ensures kind { IfOk result (λ k. kind_view k
-        ≡ kind_found (own_scope (slots_view slots.now.entries)) (expr_view expr.now)) }
+        ≡ kind_found (scope_view known.now taught.now) (expr_view expr.now)) }
 {
     match expr {
         Expr::Literal(known) => Ok(literal_kind(alloc, known)?),
-        Expr::Path(path) => path_kind(path, slots),
-        Expr::Not(operand) => negation_kind(kind_of(alloc, operand, slots)?),
-        Expr::And(operands) | Expr::Or(operands) => chain_kind(alloc, operands, slots),
+        Expr::Path(path) => path_kind(path, known, taught),
+        Expr::Not(operand) => negation_kind(kind_of(alloc, operand, known, taught)?),
+        Expr::And(operands) => chain_kind(alloc, operands, true, known, taught),
+        Expr::Or(operands) => chain_kind(alloc, operands, false, known, taught),
         Expr::Compare(comparison, left, right) => {
-            let left = kind_of(alloc, left, slots)?;
-            comparison_kind(*comparison, pair_of(alloc, right, slots, left)?)
+            let left = kind_of(alloc, left, known, taught)?;
+            comparison_kind(*comparison, pair_of(alloc, right, known, taught, left)?)
         }
         Expr::In(part, whole) => {
-            let part = kind_of(alloc, part, slots)?;
-            membership_kind(pair_of(alloc, whole, slots, part)?)
+            let part = kind_of(alloc, part, known, taught)?;
+            membership_kind(pair_of(alloc, whole, known, taught, part)?)
         }
-        Expr::Undefinable(of) => no_kind(kind_of(alloc, of, slots)?),
-        Expr::Status(_, of) => status_kind(kind_of(alloc, of, slots)?),
-        Expr::PathOr(path, other) => path_or_kind(alloc, path, other, slots),
+        Expr::Defined(_) => Ok(Kind::Bool),
+        Expr::Undefinable(of) => no_kind(kind_of(alloc, of, known, taught)?),
+        Expr::PathStatus(_, path) => status_kind(path_kind(path, known, taught)?),
+        Expr::Status(_, of) => status_kind(kind_of(alloc, of, known, taught)?),
+        Expr::PathOr(path, other) => path_or_kind(alloc, path, other, known, taught),
         Expr::ValueOr(value, other) => {
-            let value = kind_of(alloc, value, slots)?;
-            value_or_kind(pair_of(alloc, other, slots, value)?)
+            let value = kind_of(alloc, value, known, taught)?;
+            value_or_kind(pair_of(alloc, other, known, taught, value)?)
         }
-        Expr::Length(of) => length_kind(kind_of(alloc, of, slots)?),
+        Expr::Length(of) => length_kind(kind_of(alloc, of, known, taught)?),
         Expr::Join(items, between) => {
-            let items = kind_of(alloc, items, slots)?;
-            joined_kind(pair_of(alloc, between, slots, items)?)
+            let items = kind_of(alloc, items, known, taught)?;
+            joined_kind(pair_of(alloc, between, known, taught, items)?)
         }
-        Expr::Concat(parts) => text_kind(alloc, parts, slots),
-        Expr::List(items) => list_kind(alloc, items, slots),
-        Expr::Record(fields) => record_kind(alloc, fields, slots),
+        Expr::Concat(parts) => text_kind(alloc, parts, known, taught),
+        Expr::List(items) => list_kind(alloc, items, known, taught),
+        Expr::Record(fields) => record_kind(alloc, fields, known, taught),
     }
 }
 
@@ -118,48 +127,57 @@ pub fn kind_of(alloc: Global, expr: &Expr, slots: &Slots) -> Result<Kind, KindFa
 fn pair_of(
     alloc: Global,
     right: &Expr,
-    slots: &Slots,
+    known: &Slots,
+    taught: &Taught,
     left: Kind,
 ) -> Result<(Kind, Kind), KindFault>
     ensures fault { Gives (λ k. None) fault_found result
-        (fault (own_scope (slots_view slots.now.entries)) (expr_view right.now)) }
+        (fault (scope_view known.now taught.now) (expr_view right.now)) }
     ensures left { IfOk result (λ k. k.0 ≡ left) }
     ensures kind { IfOk result (λ k. kind_view k.1
-        ≡ kind_found (own_scope (slots_view slots.now.entries)) (expr_view right.now)) }
+        ≡ kind_found (scope_view known.now taught.now) (expr_view right.now)) }
 {
-    let right = kind_of(alloc, right, slots)?;
+    let right = kind_of(alloc, right, known, taught)?;
     Ok((left, right))
 }
 
+// The kind of a chain in which each operand is asked where those before it had that answer.
 #[cycle(kind_of)]
-fn chain_kind(alloc: Global, operands: &[Expr], slots: &Slots) -> Result<Kind, KindFault>
-    ensures fault { (answer : Bool) → Gives (λ k. None) fault_found result (first
-        (chain_fault (own_scope (slots_view slots.now.entries)) (exprs_view operands.now)
-        answer)
+fn chain_kind(
+    alloc: Global,
+    operands: &[Expr],
+    answer: bool,
+    known: &Slots,
+    taught: &Taught,
+) -> Result<Kind, KindFault>
+    ensures fault { Gives (λ k. None) fault_found result (first
+        (chain_fault (scope_view known.now taught.now) (exprs_view operands.now) answer)
         (asks wrong_kind
-        (are_booleans (own_scope (slots_view slots.now.entries)) (exprs_view operands.now)
-        answer))) }
+        (are_booleans (scope_view known.now taught.now) (exprs_view operands.now) answer))) }
     ensures kind { IfOk result (λ k. kind_view k ≡ booleans) }
 {
+    let mut here = taught.copy(alloc)?;
     let mut are_bool = true;
     for operand in operands {
-        let kind = kind_of(alloc, operand, slots)?;
+        let kind = kind_of(alloc, operand, known, &here)?;
         are_bool = are_bool & kind.is_bool();
+        here = narrow(alloc, operand, answer, known, here)?;
     }
     asked(are_bool, Kind::Bool)
 }
 
 #[cycle(kind_of)]
-fn list_kind(alloc: Global, items: &[Expr], slots: &Slots) -> Result<Kind, KindFault>
+fn list_kind(alloc: Global, items: &[Expr], known: &Slots,
+    taught: &Taught) -> Result<Kind, KindFault>
     ensures fault { Gives (λ k. None) fault_found result
-        (items_fault (own_scope (slots_view slots.now.entries)) (exprs_view items.now)) }
+        (items_fault (scope_view known.now taught.now) (exprs_view items.now)) }
     ensures kind { IfOk result (λ k. kind_view k
-        ≡ lists (items_kind (own_scope (slots_view slots.now.entries)) (exprs_view items.now))
+        ≡ lists (items_kind (scope_view known.now taught.now) (exprs_view items.now))
         (count (exprs_view items.now))) }
 {
     let mut kinds = Vec::new(alloc);
     for item in items {
-        let kind = part_kind(alloc, item, slots)?;
+        let kind = part_kind(alloc, item, known, taught)?;
         kinds.push(kind)?;
     }
     let joined = join_all(alloc, &kinds)?;
@@ -170,33 +188,35 @@ fn list_kind(alloc: Global, items: &[Expr], slots: &Slots) -> Result<Kind, KindF
 fn record_kind(
     alloc: Global,
     fields: &BTreeMap<String, Expr>,
-    slots: &Slots,
+    known: &Slots,
+    taught: &Taught,
 ) -> Result<Kind, KindFault>
     ensures fault { Gives (λ k. None) fault_found result
-        (fields_fault (own_scope (slots_view slots.now.entries)) (parts_view fields.now.entries)) }
+        (fields_fault (scope_view known.now taught.now) (parts_view fields.now.entries)) }
     ensures kind { IfOk result (λ k. kind_view k
-        ≡ recs (parts_slots (own_scope (slots_view slots.now.entries))
+        ≡ recs (parts_slots (scope_view known.now taught.now)
         (parts_view fields.now.entries))) }
 {
     let mut kinds = BTreeMap::new(alloc);
     for (name, field) in fields.iter() {
-        let kind = part_kind(alloc, field, slots)?;
+        let kind = part_kind(alloc, field, known, taught)?;
         put(&mut kinds, name, kind)?;
     }
     Ok(Kind::of_slots(alloc, kinds)?)
 }
 
 #[cycle(kind_of)]
-fn text_kind(alloc: Global, parts: &[Expr], slots: &Slots) -> Result<Kind, KindFault>
+fn text_kind(alloc: Global, parts: &[Expr], known: &Slots,
+    taught: &Taught) -> Result<Kind, KindFault>
     ensures fault { Gives (λ k. None) fault_found result (first
-        (parts_fault (own_scope (slots_view slots.now.entries)) (exprs_view parts.now))
+        (parts_fault (scope_view known.now taught.now) (exprs_view parts.now))
         (asks wrong_kind
-        (are_plain (own_scope (slots_view slots.now.entries)) (exprs_view parts.now)))) }
+        (are_plain (scope_view known.now taught.now) (exprs_view parts.now)))) }
     ensures kind { IfOk result (λ k. kind_view k ≡ texts) }
 {
     let mut are_plain = true;
     for part in parts {
-        let kind = kind_of(alloc, part, slots)?;
+        let kind = kind_of(alloc, part, known, taught)?;
         are_plain = are_plain & is_plain(&kind);
     }
     asked(are_plain, Kind::Text)
@@ -204,32 +224,34 @@ fn text_kind(alloc: Global, parts: &[Expr], slots: &Slots) -> Result<Kind, KindF
 
 // The kind at the end of the path, or of the other where there may be none.
 #[cycle(kind_of)]
-fn path_or_kind(alloc: Global, path: &Path, other: &Expr, slots: &Slots) -> Result<Kind, KindFault>
+fn path_or_kind(alloc: Global, path: &Path, other: &Expr, known: &Slots,
+    taught: &Taught) -> Result<Kind, KindFault>
     ensures fault { Gives (λ k. None) fault_found result
-        (fault (own_scope (slots_view slots.now.entries))
+        (fault (scope_view known.now taught.now)
         (path_or (variable (string_bytes path.now.root)) (names_of path.now.steps.items)
         (expr_view other.now))) }
     ensures kind { IfOk result (λ k. kind_view k
-        ≡ kind_found (own_scope (slots_view slots.now.entries))
+        ≡ kind_found (scope_view known.now taught.now)
         (path_or (variable (string_bytes path.now.root)) (names_of path.now.steps.items)
         (expr_view other.now))) }
 {
-    let other = part_kind(alloc, other, slots)?;
-    Ok(kind_or(alloc, path, other, slots)?)
+    let other = part_kind(alloc, other, known, taught)?;
+    Ok(kind_or(alloc, path, other, known, taught)?)
 }
 
 // The kind of an item or a field, which isn't `Any`.
 #[cycle(kind_of)]
-fn part_kind(alloc: Global, expr: &Expr, slots: &Slots) -> Result<Kind, KindFault>
+fn part_kind(alloc: Global, expr: &Expr, known: &Slots,
+    taught: &Taught) -> Result<Kind, KindFault>
     ensures fault { Gives (λ k. None) fault_found result (first
-        (fault (own_scope (slots_view slots.now.entries)) (expr_view expr.now))
+        (fault (scope_view known.now taught.now) (expr_view expr.now))
         (asks wrong_kind
-        (not (is_anything (kind_found (own_scope (slots_view slots.now.entries))
+        (not (is_anything (kind_found (scope_view known.now taught.now)
         (expr_view expr.now)))))) }
     ensures kind { IfOk result (λ k. kind_view k
-        ≡ kind_found (own_scope (slots_view slots.now.entries)) (expr_view expr.now)) }
+        ≡ kind_found (scope_view known.now taught.now) (expr_view expr.now)) }
 {
-    let kind = kind_of(alloc, expr, slots)?;
+    let kind = kind_of(alloc, expr, known, taught)?;
     not_any(kind)
 }
 
@@ -251,20 +273,52 @@ fn put(kinds: &mut Slots, name: &String, kind: Kind) -> Result<(), AllocError>
     put_slot(kinds, name.clone()?, Slot::always(kind))
 }
 
-fn path_kind(path: &Path, slots: &Slots) -> Result<Kind, KindFault>
-    ensures fault { let c = own_scope (slots_view slots.now.entries) in
+// The kind at the end of a path, of which nothing is asked where a test showed that it is there.
+fn path_kind(path: &Path, known: &Slots, taught: &Taught) -> Result<Kind, KindFault>
+    ensures fault { let c = scope_view known.now taught.now in
         let root = variable (string_bytes path.now.root) in
-        let kind = spot_kind (root_spot c root) in
         Gives (λ k. None) fault_found result
-        (first (read_fault c root) (steps_fault (names_of path.now.steps.items) kind)) }
-    ensures kind { let root = root_spot (own_scope (slots_view slots.now.entries))
+        (fault c (path_of root (names_of path.now.steps.items))) }
+    ensures kind { let root = root_spot (scope_view known.now taught.now)
         (variable (string_bytes path.now.root)) in
         IfOk result (λ k. kind_view k
         ≡ spot_kind (path_spot (names_of path.now.steps.items) root)) }
 {
-    match certain_kind(slots, path.root.as_str()) {
+    if is_present(taught, path) {
+        Ok(kind_at_end(path, known, taught)?)
+    } else {
+        read_kind(path, known, taught)
+    }
+}
+
+// The kind at the end of a path that is read.
+fn read_kind(path: &Path, known: &Slots, taught: &Taught) -> Result<Kind, KindFault>
+    ensures fault { let c = scope_view known.now taught.now in
+        let root = variable (string_bytes path.now.root) in
+        let kind = spot_kind (root_spot c root) in
+        Gives (λ k. None) fault_found result
+        (first (read_fault c root) (steps_fault (names_of path.now.steps.items) kind)) }
+    ensures kind { let root = root_spot (scope_view known.now taught.now)
+        (variable (string_bytes path.now.root)) in
+        IfOk result (λ k. kind_view k
+        ≡ spot_kind (path_spot (names_of path.now.steps.items) root)) }
+{
+    match certain_root(known, taught, path.root.as_str()) {
         Some(kind) => inner_kind(kind, &path.steps),
         None => Err(KindFault::Unfit(Unfit::Undefined)),
+    }
+}
+
+// The kind of a variable that is certainly there.
+fn certain_root<'k>(known: &'k Slots, taught: &'k Taught, name: &str) -> Option<&'k Kind>
+    ensures { option_map (λ k. kind_view k.now) result
+        ≡ certain (spot_at name.now (scope_view known.now taught.now).own) }
+{
+    let slot = slot_of(known, taught, name)?;
+    if slot.presence.is_always() {
+        Some(&slot.kind)
+    } else {
+        None
     }
 }
 

@@ -6,12 +6,16 @@ ghost use Rattle.pb_language.specs.Words.{is_flag as is_flag_spot, is_int as is_
 ghost use Rattle.pb_language.specs.Words.{is_plain_kind, is_plain_list as is_plain_list_kind};
 ghost use Rattle.pb_language.specs.Words.{is_result as is_result_kind, is_status_record};
 ghost use Rattle.pb_language.specs.Words.{is_text as is_textual, may_be_flag as may_be_flag_spot};
-ghost use Rattle.pb_language.specs.Words.{path_spot, step_spot};
+ghost use Rattle.pb_language.specs.Kinds.{shown_spot};
+ghost use Rattle.pb_language.specs.Scope.{is_present as is_shown};
+ghost use Rattle.pb_language.specs.Words.{path_spot, root_spot, spot_kind, step_spot, variable};
 ghost use Rattle.pb_value.specs.Words.{kind_view, slots_view};
 ghost use Rattle.pb_expr.specs.ExprView.{names_of};
 ghost use Rattle.pb_expr.specs.FitView.{spot_found};
+ghost use Rattle.pb_expr.specs.TaughtView.{scope_view};
 
 use crate::expr::Path;
+use crate::scope::{Taught, is_present, slot_of};
 use pb_value::below::find;
 use pb_value::join::join;
 use pb_value::{Kind, Slots};
@@ -110,17 +114,29 @@ fn may_be_flag(slots: &Slots, name: &str) -> bool
 }
 
 // What is known at the end of the path, and whether it is certainly there.
-fn spot_at_end<'k>(path: &Path, slots: &'k Slots) -> Option<(bool, &'k Kind)>
+fn spot_at_end<'k>(
+    path: &Path,
+    known: &'k Slots,
+    taught: &'k Taught,
+) -> Option<(bool, &'k Kind)>
     ensures { spot_found result ≡ path_spot (names_of path.now.steps.items)
-        (slot_at (string_bytes path.now.root) (slots_view slots.now.entries)) }
+        (slot_at (string_bytes path.now.root) (scope_view known.now taught.now).own) }
 {
-    let (mut is_certain, mut here) = spot_in(slots, path.root.as_str())?;
+    let (mut is_certain, mut here) = spot_of(known, taught, path.root.as_str())?;
     for step in &path.steps {
         let (is_there, inner) = spot_below(here, step.as_str())?;
         is_certain = is_certain & is_there;
         here = inner;
     }
     Some((is_certain, here))
+}
+
+// What is known of a variable.
+fn spot_of<'k>(known: &'k Slots, taught: &'k Taught, name: &str) -> Option<(bool, &'k Kind)>
+    ensures { spot_found result ≡ slot_at name.now (scope_view known.now taught.now).own }
+{
+    let slot = slot_of(known, taught, name)?;
+    Some((slot.presence.is_always(), &slot.kind))
 }
 
 // What is known of a field of a value of that kind.
@@ -147,20 +163,54 @@ fn spot_in<'k>(slots: &'k Slots, name: &str) -> Option<(bool, &'k Kind)>
     Some((slot.presence.is_always(), &slot.kind))
 }
 
-/// The kind at the end of the path where something certainly stands there, the other where nothing
-/// can, else the least kind above both.
+/// The kind at the end of the path, `Never` where nothing can stand there.
+pub(crate) fn kind_at_end(path: &Path, known: &Slots, taught: &Taught) -> Result<Kind, AllocError>
+    ensures { IfOk result (λ k. kind_view k ≡ spot_kind
+        (path_spot (names_of path.now.steps.items)
+        (slot_at (string_bytes path.now.root) (scope_view known.now taught.now).own))) }
+{
+    match spot_at_end(path, known, taught) {
+        None => Ok(Kind::Never),
+        Some((_, kind)) => kind.clone(),
+    }
+}
+
+/// The kind at the end of the path where something certainly stands there, or a test showed that it
+/// does, the other where nothing can, else the least kind above both.
 pub(crate) fn kind_or(
     alloc: Global,
     path: &Path,
     other: Kind,
-    slots: &Slots,
+    known: &Slots,
+    taught: &Taught,
+) -> Result<Kind, AllocError>
+    ensures { let c = scope_view known.now taught.now in
+        let root = variable (string_bytes path.now.root) in
+        let names = names_of path.now.steps.items in
+        IfOk result (λ k. kind_view k ≡ default_kind
+        (shown_spot (is_shown c root names) (path_spot names (root_spot c root)))
+        (kind_view other)) }
+{
+    if is_present(taught, path) {
+        return kind_at_end(path, known, taught);
+    }
+    kind_there_or(alloc, path, other, known, taught)
+}
+
+// The same where no test showed it.
+fn kind_there_or(
+    alloc: Global,
+    path: &Path,
+    other: Kind,
+    known: &Slots,
+    taught: &Taught,
 ) -> Result<Kind, AllocError>
     ensures { IfOk result (λ k. kind_view k ≡ default_kind
         (path_spot (names_of path.now.steps.items)
-        (slot_at (string_bytes path.now.root) (slots_view slots.now.entries)))
+        (slot_at (string_bytes path.now.root) (scope_view known.now taught.now).own))
         (kind_view other)) }
 {
-    match spot_at_end(path, slots) {
+    match spot_at_end(path, known, taught) {
         None => Ok(other),
         Some((true, kind)) => kind.clone(),
         Some((false, kind)) => join(alloc, kind, &other),

@@ -144,7 +144,7 @@ ascend_puts : (b : Bool) (ss us : Slots) → Ascend us → Ascend (puts b ss us)
 ascend_puts b no_slots us h = h
 ascend_puts b (slot n a k ss) us h = ascend_puts b ss _ (ascend_put n true (kind_with k (λ m. met b k m) (slot_at n us)) us h)
 
-ascend_closed : (ss us : Slots) → Ascend us → Ascend (closed ss us)
+pub ascend_closed : (ss us : Slots) → Ascend us → Ascend (closed ss us)
 ascend_closed no_slots us h = h
 ascend_closed (slot n a k ss) us h = ascend_closed ss _ (ascend_put n a k us h)
 
@@ -157,7 +157,7 @@ abbrev met_spot : Bool → Spot → Spot → Spot
 met_spot true s t = join_spot s t
 met_spot false s t = join_spot t s
 
-abbrev over : Spot → Spot → Spot
+abbrev pub over : Spot → Spot → Spot
 over nowhere t = t
 over (spot a k) t = spot a k
 
@@ -183,7 +183,7 @@ closed_step : (q : Bool) (a : Bool) (k : KindData) (s t : Spot) → (q ≡ true 
 closed_step true a k s t f = rw (f refl) refl
 closed_step false a k s t f = refl
 
-at_closed : (p : List ℕ) (ss us : Slots) → Ascend ss → slot_at p (closed ss us) ≡ over (slot_at p ss) (slot_at p us)
+pub at_closed : (p : List ℕ) (ss us : Slots) → Ascend ss → slot_at p (closed ss us) ≡ over (slot_at p ss) (slot_at p us)
 at_closed p no_slots us h = refl
 at_closed p (slot n a k ss) us h =
     at_closed p ss _ h.1 ∙ ap (over (slot_at p ss)) (at_put p n a k us) ∙ closed_step (bytes_eq p n) a k (slot_at p ss) (slot_at p us) (gone p n ss h.0)
@@ -260,11 +260,11 @@ grown_met false false (spot true k) (spot c m) = refl
 grown_met false false (spot false k) nowhere = refl
 grown_met false false (spot false k) (spot c m) = refl
 
-ascend_met : (b : Bool) (ss ts : Slots) → Ascend ss → Ascend ts → Ascend (met_slots b ss ts)
+pub ascend_met : (b : Bool) (ss ts : Slots) → Ascend ss → Ascend ts → Ascend (met_slots b ss ts)
 ascend_met true ss ts h i = ascend_others ts ss (joined ss ts) (ascend_joined ss ts h)
 ascend_met false ss ts h i = ascend_others ss ts (joined ts ss) (ascend_joined ts ss i)
 
-at_met : (b : Bool) (p : List ℕ) (ss ts : Slots) → Ascend ss → Ascend ts → slot_at p (met_slots b ss ts) ≡ met_spot b (slot_at p ss) (slot_at p ts)
+pub at_met : (b : Bool) (p : List ℕ) (ss ts : Slots) → Ascend ss → Ascend ts → slot_at p (met_slots b ss ts) ≡ met_spot b (slot_at p ss) (slot_at p ts)
 at_met true p ss ts h i = at_join p ss ts (once_of ts i)
 at_met false p ss ts h i = at_join p ts ss (once_of ss h)
 

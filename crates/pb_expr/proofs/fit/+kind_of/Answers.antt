@@ -6,7 +6,7 @@ use Rattle.pb_language.specs.Kinds.{count, kind_of, items_kind}
 use Rattle.pb_language.specs.Fit.{first, chain_fault, are_booleans, items_fault, fields_fault}
 use Rattle.pb_value.specs.KindView.{kind_view, slots_view}
 use Rattle.pb_expr.specs.ExprView.{expr_view, exprs_view, parts_view}
-use Rattle.pb_expr.specs.FitView.{own_scope}
+use Rattle.pb_expr.specs.TaughtView.{scope_view}
 use Rattle.pb_value.specs.Growing.{joined_onto}
 use Rattle.pb_expr.specs.declared.expr.Expr.{Expr}
 use Rattle.pb_expr.proofs.Ascending.{Ascending}
@@ -17,22 +17,24 @@ use Rattle.pb_expr.proofs.fit.+kind_of.Goals as goal
 
 pub chain_kind-loop-operand-preserved : goal.chain_kind-loop-operand-preserved
 chain_kind-loop-operand-preserved t c =
-    let s = own_scope (slots_view c.args.slots.now.entries) in
+    let l = c.loop-operand in
+    let s = scope_view c.args.known.now l.here in
+    let d = scope_view c.args.known.now c.in_ok-here-2.here in
+    let b = c.args.answer in
     let items = c.args.operands.now in
-    let i = c.loop-operand.operand-index in
+    let i = l.operand-index in
     let e = c.operand-item.result in
     let rest = exprs_view (drop (i + 1) items) in
-    let are_bool = c.loop-operand.are_bool in
     let next : drop i items ≡ e ∷ drop (i + 1) items = drop-at items i e c.loop-operand-test.true c.operand-item.is in
     record {
-      faults = λ b. c.loop-operand.invariant.faults b ∙ ap (λ es. chain_fault s (exprs_view es) b) next ∙ chain-turn s e rest b c.in_ok-kind.ensures.fault;
-      kinds = λ b. c.loop-operand.invariant.kinds b ∙ ap (λ es. are_bool && are_booleans s (exprs_view es) b) next
-          ∙ booleans-turn are_bool c.is_bool-are_bool.result (kind_view c.in_ok-kind.kind) s e rest b c.is_bool-are_bool.ensures c.in_ok-kind.ensures.kind;
+      faults = l.invariant.faults ∙ ap (λ es. chain_fault s (exprs_view es) b) next ∙ chain-turn s d e rest b c.in_ok-kind.ensures.fault c.in_ok-here-2.ensures;
+      kinds = l.invariant.kinds ∙ ap (λ es. l.are_bool && are_booleans s (exprs_view es) b) next
+          ∙ booleans-turn l.are_bool c.is_bool-are_bool.result (kind_view c.in_ok-kind.kind) s d e rest b c.is_bool-are_bool.ensures c.in_ok-kind.ensures.kind c.in_ok-here-2.ensures;
     }
 
 pub list_kind-loop-item-preserved : goal.list_kind-loop-item-preserved
 list_kind-loop-item-preserved t c =
-    let s = own_scope (slots_view c.args.slots.now.entries) in
+    let s = scope_view c.args.known.now c.args.taught.now in
     let items = c.args.items.now in
     let i = c.loop-item.item-index in
     let e = c.item-item.result in
@@ -48,14 +50,14 @@ list_kind-loop-item-preserved t c =
 
 pub list_kind-returns-clause-fault : goal.list_kind-returns-clause-fault
 list_kind-returns-clause-fault t c =
-    let s = own_scope (slots_view c.args.slots.now.entries) in
+    let s = scope_view c.args.known.now c.args.taught.now in
     let items = c.args.items.now in
     let past = drop_all c.loop-item.item-index items c.loop-item-test.false in
     c.loop-item.invariant.faults ∙ ap (λ xs. items_fault s (exprs_view xs)) past
 
 pub list_kind-returns-clause-kind : goal.list_kind-returns-clause-kind
 list_kind-returns-clause-kind t c =
-    let s = own_scope (slots_view c.args.slots.now.entries) in
+    let s = scope_view c.args.known.now c.args.taught.now in
     let items = c.args.items.now in
     let es = exprs_view c.args.items.now in
     let kinds = c.loop-item.kinds.items in
@@ -69,7 +71,7 @@ list_kind-returns-clause-kind t c =
 
 pub record_kind-loop-name-preserved : goal.record_kind-loop-name-preserved
 record_kind-loop-name-preserved t c =
-    let s = own_scope (slots_view c.args.slots.now.entries) in
+    let s = scope_view c.args.known.now c.args.taught.now in
     let inv = c.loop-name.invariant in
     let done = inv.0 in
     let e : String Global × Expr = (c.in-Some.name.now, c.in-Some.field.now) in
@@ -87,12 +89,12 @@ record_kind-loop-name-preserved t c =
 
 pub record_kind-returns-clause-fault : goal.record_kind-returns-clause-fault
 record_kind-returns-clause-fault t c =
-    let s = own_scope (slots_view c.args.slots.now.entries) in
+    let s = scope_view c.args.known.now c.args.taught.now in
     c.loop-name.invariant.3 ∙ ap (λ es. fields_fault s (parts_view es)) (c.in-None.ensures).steps.0
 
 pub record_kind-returns-clause-kind : goal.record_kind-returns-clause-kind
 record_kind-returns-clause-kind t c =
-    let s = own_scope (slots_view c.args.slots.now.entries) in
+    let s = scope_view c.args.known.now c.args.taught.now in
     let inv = c.loop-name.invariant in
     let nil : c.loop-name.name-iterator ≡ [] = (c.in-None.ensures).steps.0 in
     let whole : c.args.fields.now.entries ≡ inv.0 = inv.1 ∙ ap (λ es. inv.0 ++ es) nil ∙ append-nil inv.0 in

@@ -1,0 +1,11 @@
+use Rattle.std.proofs.Common.{◌≡◌, length}
+use Rattle.pb_expr.specs.TaughtView.{scope_view, scopes_view}
+use Rattle.pb_expr.proofs.Ways.{met_by}
+use Rattle.pb_expr.proofs.narrow.taught_by_all.Given as goal
+
+abbrev pub decreases-loop-way : goal.decreases-loop-way
+decreases-loop-way l = length l.ways.items
+
+abbrev pub invariant-loop-way : goal.invariant-loop-way
+invariant-loop-way l =
+    met_by (scopes_view l.known l.initial.ways.items) (scope_view l.known l.initial.all) ≡ met_by (scopes_view l.known l.ways.items) (scope_view l.known l.all)

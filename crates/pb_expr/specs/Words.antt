@@ -2,3 +2,4 @@
 pub use Rattle.pb_expr.specs.ExprView.{expr_view, exprs_view, parts_view}
 pub use Rattle.pb_expr.specs.FitView.{fault_found, fault_view, own_scope}
 pub use Rattle.pb_expr.specs.OwnWorld.{own_world, shown}
+pub use Rattle.pb_expr.specs.TaughtView.{scope_of, scope_view}

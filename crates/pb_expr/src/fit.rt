@@ -23,8 +23,9 @@ ghost use Rattle.pb_expr.specs.FitView.{LeadsTo, certain, fault_found, fault_vie
 ghost use Rattle.pb_expr.specs.TaughtView.{scope_view};
 
 use crate::expr::{Comparison, Expr, Path};
-use crate::kinds::{has_length, is_int, is_plain, is_plain_list, is_result, is_text};
-use crate::kinds::{kind_at_end, kind_or};
+use crate::kinds::{
+    has_length, is_int, is_plain, is_plain_list, is_result, is_text, kind_at_end, kind_or,
+};
 use crate::narrow::narrow;
 use crate::scope::{Taught, is_present, slot_of};
 use pb_value::below::find;
@@ -78,11 +79,15 @@ impl<T: Drop> From<AllocFailed<T>> for KindFault {
     }
 }
 
-/// The kind of a fit expression in an environment, or else the first fault from left to right,
-/// operands before the form round them.
+/// The kind of a fit expression by what is known of variables and what tests have taught, or else
+/// the first fault from left to right, operands before the form round them.
 #[cycle(kind_of)]
-pub fn kind_of(alloc: Global, expr: &Expr, known: &Slots,
-    taught: &Taught) -> Result<Kind, KindFault>
+pub fn kind_of(
+    alloc: Global,
+    expr: &Expr,
+    known: &Slots,
+    taught: &Taught,
+) -> Result<Kind, KindFault>
     ensures fault { Gives (λ k. None) fault_found result
         (fault (scope_view known.now taught.now) (expr_view expr.now)) }
     ensures kind { IfOk result (λ k. kind_view k
@@ -167,8 +172,12 @@ fn chain_kind(
 }
 
 #[cycle(kind_of)]
-fn list_kind(alloc: Global, items: &[Expr], known: &Slots,
-    taught: &Taught) -> Result<Kind, KindFault>
+fn list_kind(
+    alloc: Global,
+    items: &[Expr],
+    known: &Slots,
+    taught: &Taught,
+) -> Result<Kind, KindFault>
     ensures fault { Gives (λ k. None) fault_found result
         (items_fault (scope_view known.now taught.now) (exprs_view items.now)) }
     ensures kind { IfOk result (λ k. kind_view k
@@ -206,8 +215,12 @@ fn record_kind(
 }
 
 #[cycle(kind_of)]
-fn text_kind(alloc: Global, parts: &[Expr], known: &Slots,
-    taught: &Taught) -> Result<Kind, KindFault>
+fn text_kind(
+    alloc: Global,
+    parts: &[Expr],
+    known: &Slots,
+    taught: &Taught,
+) -> Result<Kind, KindFault>
     ensures fault { Gives (λ k. None) fault_found result (first
         (parts_fault (scope_view known.now taught.now) (exprs_view parts.now))
         (asks wrong_kind
@@ -224,8 +237,13 @@ fn text_kind(alloc: Global, parts: &[Expr], known: &Slots,
 
 // The kind at the end of the path, or of the other where there may be none.
 #[cycle(kind_of)]
-fn path_or_kind(alloc: Global, path: &Path, other: &Expr, known: &Slots,
-    taught: &Taught) -> Result<Kind, KindFault>
+fn path_or_kind(
+    alloc: Global,
+    path: &Path,
+    other: &Expr,
+    known: &Slots,
+    taught: &Taught,
+) -> Result<Kind, KindFault>
     ensures fault { Gives (λ k. None) fault_found result
         (fault (scope_view known.now taught.now)
         (path_or (variable (string_bytes path.now.root)) (names_of path.now.steps.items)
@@ -241,8 +259,7 @@ fn path_or_kind(alloc: Global, path: &Path, other: &Expr, known: &Slots,
 
 // The kind of an item or a field, which isn't `Any`.
 #[cycle(kind_of)]
-fn part_kind(alloc: Global, expr: &Expr, known: &Slots,
-    taught: &Taught) -> Result<Kind, KindFault>
+fn part_kind(alloc: Global, expr: &Expr, known: &Slots, taught: &Taught) -> Result<Kind, KindFault>
     ensures fault { Gives (λ k. None) fault_found result (first
         (fault (scope_view known.now taught.now) (expr_view expr.now))
         (asks wrong_kind

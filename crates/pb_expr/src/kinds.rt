@@ -114,11 +114,7 @@ fn may_be_flag(slots: &Slots, name: &str) -> bool
 }
 
 // What is known at the end of the path, and whether it is certainly there.
-fn spot_at_end<'k>(
-    path: &Path,
-    known: &'k Slots,
-    taught: &'k Taught,
-) -> Option<(bool, &'k Kind)>
+fn spot_at_end<'k>(path: &Path, known: &'k Slots, taught: &'k Taught) -> Option<(bool, &'k Kind)>
     ensures { spot_found result ≡ path_spot (names_of path.now.steps.items)
         (slot_at (string_bytes path.now.root) (scope_view known.now taught.now).own) }
 {

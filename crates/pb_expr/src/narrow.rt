@@ -13,9 +13,9 @@ ghost use Rattle.pb_expr.specs.ExprView.{expr_view, exprs_view, names_of, status
 ghost use Rattle.pb_expr.specs.TaughtView.{present_view, scope_view, scopes_view, slot_given};
 ghost use Rattle.pb_expr.specs.TaughtView.{taught_by};
 
+use crate::defined::defined_at;
 use crate::expr::{Expr, Path, Status};
 use crate::scope::{Taught, both, slot_of};
-use crate::taught::defined_at;
 use crate::teach::answered_at;
 use pb_value::{Kind, Slot, Slots, put_slot};
 use std::alloc::{AllocError, Global};
@@ -37,7 +37,8 @@ pub fn narrow(
     known: &Slots,
     taught: Taught,
 ) -> Result<Taught, AllocError>
-    ensures { IfOk result (λ t. scope_view known.now t ≡ narrow (scope_view known.now taught) (expr_view expr.now) answer) }
+    ensures { IfOk result (λ t. scope_view known.now t
+        ≡ narrow (scope_view known.now taught) (expr_view expr.now) answer) }
 {
     match expr {
         Expr::Not(operand) => narrow(alloc, operand, !answer, known, taught),
@@ -82,7 +83,8 @@ fn narrow_any(
     known: &Slots,
     taught: Taught,
 ) -> Result<Taught, AllocError>
-    ensures { IfOk result (λ t. scope_view known.now t ≡ where_taught (any_teaches (exprs_view operands.now))
+    ensures { IfOk result (λ t. scope_view known.now t
+        ≡ where_taught (any_teaches (exprs_view operands.now))
         (narrow_some (scope_view known.now taught) (exprs_view operands.now) answer)
         (scope_view known.now taught)) }
 {

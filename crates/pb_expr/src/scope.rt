@@ -143,8 +143,8 @@ fn begins(few: &[String], many: &[String]) -> bool
     }
 }
 
-/// What both ways of two teach, where one of them was gone: of each name the least kind above both,
-/// and the paths that both showed to be there.
+/// What both ways of two teach, of which one was taken: of each name the least kind above both, and
+/// the paths that both showed to be there. It takes time for each name that is known.
 ///
 /// # Errors
 ///
@@ -155,7 +155,8 @@ pub(crate) fn both(
     one: &Taught,
     other: &Taught,
 ) -> Result<Taught, AllocError>
-    ensures { IfOk result (λ t. scope_view known.now t ≡ both_scopes (scope_view known.now one.now) (scope_view known.now other.now)) }
+    ensures { IfOk result (λ t. scope_view known.now t
+        ≡ both_scopes (scope_view known.now one.now) (scope_view known.now other.now)) }
 {
     let first = whole(alloc, known, &one.slots)?;
     let second = whole(alloc, known, &other.slots)?;

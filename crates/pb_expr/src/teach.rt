@@ -10,10 +10,10 @@ ghost use Rattle.pb_value.specs.Words.{cases_view, is_always, kind_view, shape_v
 ghost use Rattle.pb_expr.specs.ExprView.{names_of, status_view};
 
 use crate::expr::Status;
+use crate::scope::slots_copied;
 use pb_value::below::{find, has_field};
 use pb_value::{Case, Kind, Shape, Slot, Slots, join_all, put_slot};
 use std::alloc::{AllocError, Global};
-use std::collections::BTreeMap;
 
 /// The kind of what a test of that status had that answer of: a result keeps the cases that may
 /// give it, any other kind stays.
@@ -219,14 +219,7 @@ pub(crate) fn record_with(
     ensures { IfOk result (λ k. kind_view k ≡ recs (with_slot (string_bytes name.now)
         (is_always slot.presence) (kind_view slot.kind) (slots_view slots.now.entries))) }
 {
-    let mut all = BTreeMap::new(alloc);
-    for (other, known) in slots.iter() {
-        let copy = Slot {
-            presence: known.presence,
-            kind: known.kind.clone()?,
-        };
-        put_slot(&mut all, other.clone()?, copy)?;
-    }
+    let mut all = slots_copied(alloc, slots)?;
     put_slot(&mut all, name.clone()?, slot)?;
     Kind::of_slots(alloc, all)
 }

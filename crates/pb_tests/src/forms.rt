@@ -1,8 +1,8 @@
 // What forms are worth that the reader of texts doesn't read yet: their trees are made by hand.
+use pb_expr::defined::{can_have, defined_at};
 use pb_expr::eval::eval;
-use pb_expr::taught::{can_have, defined_at};
 use pb_expr::teach::{answered, answered_at};
-use pb_expr::{Comparison, Expr, KindFault, Path, Status, Unfit, kind_of};
+use pb_expr::{Comparison, Expr, KindFault, Path, Status, Taught, Unfit, kind_of};
 use pb_value::below::find;
 use pb_value::{Case, Fields, Kind, Shape, Slot, Slots, Value, put_slot, read_json};
 use std::alloc::Global;
@@ -182,7 +182,7 @@ fn default_kind(alloc: Global, slot: Slot<Kind>) -> Result<Kind, Fail> {
         Slot::always(record),
     )?;
     let default = Expr::PathOr(path(alloc)?, boxed(alloc, r#""z""#)?);
-    match kind_of(alloc, &default, &slots) {
+    match kind_of(alloc, &default, &slots, &Taught::nothing(alloc)) {
         Ok(kind) => Ok(kind),
         Err(_) => Err("no kind")?,
     }
@@ -192,21 +192,22 @@ fn default_kind(alloc: Global, slot: Slot<Kind>) -> Result<Kind, Fail> {
 fn kinds(rt: HostRuntime) -> Result<(), Fail> {
     let alloc = rt.alloc();
     let none = Slots::new(alloc);
+    let untaught = Taught::nothing(alloc);
     let parts = Expr::Concat(literals(alloc, r#"["n=", 1]"#)?);
-    assert!(rt; matches!(kind_of(alloc, &parts, &none), Ok(Kind::Text)));
+    assert!(rt; matches!(kind_of(alloc, &parts, &none, &untaught), Ok(Kind::Text)));
     let length = Expr::Length(boxed(alloc, "[1, 2]")?);
-    assert!(rt; matches!(kind_of(alloc, &length, &none), Ok(Kind::Int)));
+    assert!(rt; matches!(kind_of(alloc, &length, &none, &untaught), Ok(Kind::Int)));
     let number = Expr::Length(boxed(alloc, "1")?);
     assert!(rt;
         matches!(
-            kind_of(alloc, &number, &none),
+            kind_of(alloc, &number, &none, &untaught),
             Err(KindFault::Unfit(Unfit::WrongKind))
         )
     );
     let texts = compared(alloc, Comparison::Less, r#""a""#, r#""b""#)?;
     assert!(rt;
         matches!(
-            kind_of(alloc, &texts, &none),
+            kind_of(alloc, &texts, &none, &untaught),
             Err(KindFault::Unfit(Unfit::WrongKind))
         )
     );

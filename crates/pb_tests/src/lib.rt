@@ -21,4 +21,6 @@ mod runs;
 #[cfg(test)]
 mod signatures;
 #[cfg(test)]
+mod teaching;
+#[cfg(test)]
 mod views;

@@ -60,8 +60,9 @@ fn avoids(expr: &Expr, name: &str) -> bool
         Expr::In(part, whole) => avoids(part, name) && avoids(whole, name),
         Expr::List(items) => all_are_free(items, name),
         Expr::Record(fields) => fields_avoid(fields, name),
-        Expr::Undefinable(_) | Expr::Length(_) | Expr::Concat(_) => false,
-        Expr::Status(_, _) | Expr::PathOr(_, _) | Expr::ValueOr(_, _) | Expr::Join(_, _) => false,
+        Expr::Defined(_) | Expr::Undefinable(_) | Expr::Length(_) | Expr::Concat(_) => false,
+        Expr::PathStatus(_, _) | Expr::Status(_, _) | Expr::PathOr(_, _) => false,
+        Expr::ValueOr(_, _) | Expr::Join(_, _) => false,
     }
 }
 

@@ -27,7 +27,7 @@ ghost use Rattle.pb_verify.specs.Way.{sets_of, work_result, written_after, writt
 use crate::environment::{Environment, environment_of, make_ready, put_known, settled, widen};
 use crate::results::ResultTable;
 use pb_book::{Argument, Task, Work};
-use pb_expr::{Expr, KindFault, Unfit, kind_of};
+use pb_expr::{Expr, KindFault, Taught, Unfit, kind_of};
 use pb_sig::{Module, Parameter, Registry};
 use pb_value::below::below;
 use pb_value::{Kind, Slot, Slots, put_slot};
@@ -260,12 +260,22 @@ fn call_asked(
     }
 }
 
+// The kind of a text where no test has taught anything.
+fn own_kind(alloc: Global, expr: &Expr, environment: &Slots) -> Result<Kind, KindFault>
+    ensures fault { Gives (λ k. None) fault_found result
+        (fault (own_scope (slots_view environment.now.entries)) (expr_view expr.now)) }
+    ensures kind { IfOk result (λ k. kind_view k
+        ≡ kind_found (own_scope (slots_view environment.now.entries)) (expr_view expr.now)) }
+{
+    kind_of(alloc, expr, environment, &Taught::nothing(alloc))
+}
+
 fn condition_asked(alloc: Global, condition: &Expr, environment: &Slots) -> Result<(), KindFault>
     ensures { Gives (λ x. None) fault_found result
         (conditions_fault (own_scope (slots_view environment.now.entries))
         (expression (expr_view condition.now) no_expressions)) }
 {
-    let kind = kind_of(alloc, condition, environment)?;
+    let kind = own_kind(alloc, condition, environment)?;
     if kind.is_bool() {
         Ok(())
     } else {
@@ -352,7 +362,7 @@ fn value_asked(alloc: Global, value: &Expr, environment: &Slots) -> Result<Kind,
         (λ k. kind_view k ≡ kind_found (own_scope (slots_view environment.now.entries))
         (expr_view value.now)) }
 {
-    let kind = kind_of(alloc, value, environment)?;
+    let kind = own_kind(alloc, value, environment)?;
     if kind.is_any() {
         return Err(KindFault::Unfit(Unfit::WrongKind));
     }

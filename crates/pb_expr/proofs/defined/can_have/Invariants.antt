@@ -2,7 +2,7 @@ use Rattle.std.proofs.Common.{◌≡◌, drop}
 use Rattle.pb_language.specs.Narrow.{can_have}
 use Rattle.pb_value.specs.KindView.{kind_view}
 use Rattle.pb_expr.specs.ExprView.{names_of}
-use Rattle.pb_expr.proofs.taught.can_have.Given as goal
+use Rattle.pb_expr.proofs.defined.can_have.Given as goal
 
 abbrev pub invariant-loop-step : goal.invariant-loop-step
 invariant-loop-step l = can_have (names_of l.steps) (kind_view l.kind) ≡ can_have (names_of (drop l.step-index l.steps)) (kind_view l.here)

@@ -2,7 +2,7 @@ use Rattle.pb_language.specs.Narrow.{can_have}
 use Rattle.pb_value.proofs.KindLemmas.{kind_view-Any}
 use Rattle.pb_value.proofs.Views.{kind_view-Rec}
 use Rattle.pb_expr.proofs.NewCases.{any-below}
-use Rattle.pb_expr.proofs.taught.kind_below.Goals as goal
+use Rattle.pb_expr.proofs.defined.kind_below.Goals as goal
 
 pub returns-in-Rec : goal.returns-in-Rec
 returns-in-Rec c = λ ns. rw (c.in-Rec.is, kind_view-Rec c.in-Rec.slots) (rw (c.deref-in-Rec.ensures, c.deref.ensures) at (c.kind_among.ensures (can_have ns)))

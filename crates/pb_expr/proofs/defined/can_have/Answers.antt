@@ -4,7 +4,7 @@ use Rattle.pb_language.specs.Narrow.{can_have}
 use Rattle.pb_value.specs.KindView.{kind_view}
 use Rattle.pb_expr.specs.ExprView.{names_of}
 use Rattle.pb_expr.proofs.Turns.{drop-at}
-use Rattle.pb_expr.proofs.taught.can_have.Goals as goal
+use Rattle.pb_expr.proofs.defined.can_have.Goals as goal
 
 pub loop-step-preserved : goal.loop-step-preserved
 loop-step-preserved c =

@@ -39,7 +39,12 @@ fn path(alloc: Global) -> Result<Path, Fail> {
 }
 
 // The expression has that value where the variables are those.
-fn is_worth(alloc: Global, expr: &Expr, variables: &str, expected: &str) -> Result<(), Fail> {
+pub(crate) fn is_worth(
+    alloc: Global,
+    expr: &Expr,
+    variables: &str,
+    expected: &str,
+) -> Result<(), Fail> {
     let variables = match &read_json(alloc, variables.as_bytes())? {
         Value::Rec(fields) => fields.clone()?,
         _ => Err("no variables")?,

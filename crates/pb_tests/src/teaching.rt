@@ -1,8 +1,8 @@
 // What tests teach of the expressions behind them: their trees are made by hand.
-use pb_expr::eval::eval;
+use crate::forms::is_worth;
 use pb_expr::narrow::narrow;
 use pb_expr::{Comparison, Expr, KindFault, Path, Status, Taught, Unfit, kind_of};
-use pb_value::{Case, Fields, Kind, Shape, Slot, Slots, Value, put_slot, read_json};
+use pb_value::{Case, Kind, Shape, Slot, Slots, Value, put_slot};
 use std::alloc::Global;
 use std::sync::Arc;
 use std::test::Fail;
@@ -204,40 +204,25 @@ fn conditions_before(rt: HostRuntime) -> Result<(), Fail> {
     Ok(())
 }
 
-fn is_true(alloc: Global, expr: &Expr, variables: &str) -> Result<bool, Fail> {
-    let variables = match &read_json(alloc, variables.as_bytes())? {
-        Value::Rec(fields) => fields.clone()?,
-        _ => Err("no variables")?,
-    };
-    let fields: &Fields = &variables;
-    match eval(alloc, expr, fields)? {
-        Value::Bool(truth) => Ok(truth),
-        _ => Err("no truth value")?,
-    }
-}
-
 #[test]
 fn values_of_tests(rt: HostRuntime) -> Result<(), Fail> {
     let alloc = rt.alloc();
     let defined = is_defined(alloc, "a", "b")?;
-    assert!(rt; is_true(alloc, &defined, r#"{"a": {"b": null}}"#)?);
-    assert!(rt; !is_true(alloc, &defined, r#"{"a": {"c": 1}}"#)?);
-    assert!(rt; !is_true(alloc, &defined, r#"{"a": "b"}"#)?);
-    assert!(rt; !is_true(alloc, &defined, "{}")?);
+    is_worth(alloc, &defined, r#"{"a": {"b": null}}"#, "true")?;
+    is_worth(alloc, &defined, r#"{"a": {"c": 1}}"#, "false")?;
+    is_worth(alloc, &defined, r#"{"a": "b"}"#, "false")?;
+    is_worth(alloc, &defined, "{}", "false")?;
     let failed = has_failed(alloc)?;
-    assert!(rt;
-        is_true(
-            alloc,
-            &failed,
-            r#"{"out": {"changed": false, "failed": true}}"#
-        )?
-    );
-    assert!(rt;
-        !is_true(
-            alloc,
-            &failed,
-            r#"{"out": {"changed": true, "failed": false}}"#
-        )?
-    );
-    Ok(())
+    is_worth(
+        alloc,
+        &failed,
+        r#"{"out": {"changed": false, "failed": true}}"#,
+        "true",
+    )?;
+    is_worth(
+        alloc,
+        &failed,
+        r#"{"out": {"changed": true, "failed": false}}"#,
+        "false",
+    )
 }

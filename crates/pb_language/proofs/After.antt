@@ -39,7 +39,7 @@ well_named st d env w =
 
 -- scopes
 pub well_scope : (st : Setting) (laters : List Later) (place : ℕ) (own : Slots) → ((g : Name) → Well (recs (view_of g st.views))) → Well (recs own) → WellScope (scope_at st laters place own)
-well_scope st laters place own v w = record { own = w; views = v; table = v; learned = λ n e k h. absurd (cc); item_slots = (refl, tt) }
+well_scope st laters place own v w = record { own = w; table = v; own_slots = (refl, tt); views = λ g. (refl, tt); learned = λ n e k h. absurd (cc); item_slots = (refl, tt) }
 
 pub well_item_kind : (k : KindData) → Well k → Well (item_kind k)
 well_item_kind (lists k n) w = w
@@ -212,7 +212,7 @@ module _ (st : Setting) (v : (g : Name) → Well (recs (view_of g st.views))) (t
   well_own_item = well_item (start_scope st t env) t.loop (named_slots st t.depth env) well_start (well_named st t.depth env w)
 
   pub well_item_scope : WellScope (item_scope st t env)
-  well_item_scope = record { own = well_own_item; views = v; table = v; learned = well_start.learned; item_slots = well_start.item_slots }
+  well_item_scope = record { own = well_own_item; table = v; own_slots = well_start.own_slots; views = well_start.views; learned = well_start.learned; item_slots = well_start.item_slots }
 
   pub well_action : WellScope (action_scope st t env)
   well_action = well_narrow (conjunction t.conditions) (item_scope st t env) true well_item_scope

@@ -170,7 +170,7 @@ module _ (st su : Setting) (t : Task) (low high : Slots) (a : WellViews st.views
   sv = seen st su
 
   start_up : ScopeLe (start_scope st t low) (start_scope sv t high)
-  start_up = record { same = refl; own = named_up st t.depth low high l; views = s.views; table = s.views; hosts = s.hosts; learned = λ n e. tt; item_slots = λ x. tt; laters = s.laters t.place }
+  start_up = record { same = refl; own = named_up st t.depth low high l; table = s.views; hosts = s.hosts; own_slots = λ x. tt; views = λ g x. tt; learned = λ n e. tt; item_slots = λ x. tt; laters = s.laters t.place }
 
   loop_up : KnownLe (loop_kind (start_scope st t low) t.loop) (loop_kind (start_scope sv t high) t.loop)
   loop_up = loops_up (start_scope st t low) (start_scope sv t high) t.loop (well_start st a t low w) (well_start sv b t high v) start_up
@@ -179,9 +179,10 @@ module _ (st su : Setting) (t : Task) (low high : Slots) (a : WellViews st.views
   item_scopes_up = record {
     same = refl;
     own = with_item_up (loop_kind (start_scope st t low) t.loop) (loop_kind (start_scope sv t high) t.loop) (named_slots st t.depth low) (named_slots st t.depth high) loop_up (named_up st t.depth low high l);
-    views = s.views;
     table = s.views;
     hosts = s.hosts;
+    own_slots = λ x. tt;
+    views = λ g x. tt;
     learned = λ n e. tt;
     item_slots = λ x. tt;
     laters = s.laters t.place;
@@ -242,9 +243,10 @@ module _ (st su : Setting) (t : Task) (low high : Slots) (a : WellViews st.views
     same = refl;
     own = own_result_up t.register cs _ _ x
         (with_item_up (loop_kind (start_scope st t low) t.loop) (loop_kind (start_scope (seen st su) t high) t.loop) (named_slots st t.depth low) (named_slots st t.depth high) (loop_up st su t low high a b w v s l) (named_up st t.depth low high l));
-    views = s.views;
     table = s.views;
     hosts = s.hosts;
+    own_slots = λ x. tt;
+    views = λ g x. tt;
     learned = λ n e. tt;
     item_slots = λ x. tt;
     laters = λ g x. refl;

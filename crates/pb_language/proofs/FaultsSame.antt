@@ -4,17 +4,17 @@ use Rattle.pb_semantics.specs.Kind.{Spot, slot_at}
 use Rattle.pb_semantics.proofs.Bools.{untrue}
 use Rattle.pb_language.specs.Expression.{Name, Expression, literal, path, hostvars_alone, negation, conjunction, disjunction, comparison, membership, in_batch, defined, undefinable, path_status, value_status, path_or, value_or, length_of, joined_by, concatenation, list_of, record_of, Root, variable, alias, other, member, Expressions, no_expressions, expression, Parts, no_parts, part, Term, named_host, this_host, item_host, group_member}
 use Rattle.pb_language.specs.World.{member_of}
-use Rattle.pb_language.specs.Scope.{Scope, is_present, spot_kind, is_certain, hosts_of, other_spot, is_present_path}
+use Rattle.pb_language.specs.Scope.{Scope, is_present, spot_kind, is_certain, own_spot, hosts_of, other_spot, is_present_path}
 use Rattle.pb_language.specs.Kinds.{kind_of, root_spot, path_spot}
 use Rattle.pb_language.specs.Narrow.{narrow}
 use Rattle.pb_language.specs.Fit.{Fault, perhaps_undefined, perhaps_undefined_there, wrong_kind, unknown_name, first, asks, is_any, is_boolean, is_text, is_plain_kind, is_plain_list, steps_fault, hosts_fault, term_fault, active_fault, path_fault, fault, read_fault, tested_fault, chain_fault, are_booleans, parts_fault, are_plain, items_fault, fields_fault}
 use Rattle.pb_language.specs.Knows.{WellScope}
 use Rattle.pb_language.specs.Ordered.{PathLe, moved, ScopeLe}
 use Rattle.pb_language.specs.SameBelow.{SameKind}
-use Rattle.pb_language.proofs.WellKinds.{well_slot, well_path, kinds_are_well, well_root}
+use Rattle.pb_language.proofs.WellKinds.{well_own, well_path, kinds_are_well, well_root}
 use Rattle.pb_language.proofs.Known.{well_narrow}
 use Rattle.pb_language.proofs.Spots.{path_le, path_up}
-use Rattle.pb_language.proofs.KindsUp.{kinds_up, roots_up, others_up}
+use Rattle.pb_language.proofs.KindsUp.{own_up, kinds_up, roots_up, others_up}
 use Rattle.pb_language.proofs.NarrowUp.{narrow_up, resolved_same}
 use Rattle.pb_language.proofs.TestsSame.{any_same, boolean_same, text_same, plain_same, has_length_same, plain_list_same, holds_same, compare_same, find_first, find_second, result_same, steps_same, hosts_at_same}
 
@@ -28,8 +28,8 @@ certain_same : (s t : Spot) → PathLe s t → PathLe t s → is_certain s ≡ i
 certain_same s t l m = flags_same (is_certain s) (is_certain t) l.1 m.1
 
 -- what two scopes share
-own_certain : (c d : Scope) (n : Name) → ScopeLe c d → ScopeLe d c → is_certain (slot_at n c.own) ≡ is_certain (slot_at n d.own)
-own_certain c d n l m = certain_same (slot_at n c.own) (slot_at n d.own) (path_le (slot_at n c.own) (slot_at n d.own) (l.own.at n)) (path_le (slot_at n d.own) (slot_at n c.own) (m.own.at n))
+own_certain : (c d : Scope) (n : Name) → ScopeLe c d → ScopeLe d c → is_certain (own_spot c n) ≡ is_certain (own_spot d n)
+own_certain c d n l m = certain_same (own_spot c n) (own_spot d n) (path_le (own_spot c n) (own_spot d n) (own_up c d n l)) (path_le (own_spot d n) (own_spot c n) (own_up d c n m))
 
 term_moved : (c d : Scope) (t : Term) → ScopeLe c d → ScopeLe d c → term_fault c t ≡ term_fault (moved c d) t
 term_moved c d (named_host n) l m = refl
@@ -43,7 +43,7 @@ term_same c d t l m = term_moved c d t l m ∙ ap (λ z. term_fault z t) (sym l.
 hosts_moved : (c d : Scope) (t : Term) → ScopeLe c d → ScopeLe d c → hosts_fault (hosts_of c t) ≡ hosts_fault (hosts_of (moved c d) t)
 hosts_moved c d (named_host n) l m = refl
 hosts_moved c d this_host l m = refl
-hosts_moved c d item_host l m = hosts_at_same (slot_at (codes "item") c.own) (slot_at (codes "item") d.own) (l.own.at (codes "item")) (m.own.at (codes "item"))
+hosts_moved c d item_host l m = hosts_at_same (own_spot c (codes "item")) (own_spot d (codes "item")) (own_up c d (codes "item") l) (own_up d c (codes "item") m)
 hosts_moved c d (group_member g n) l m = refl
 
 hosts_same : (c d : Scope) (t : Term) → ScopeLe c d → ScopeLe d c → hosts_fault (hosts_of c t) ≡ hosts_fault (hosts_of d t)
@@ -54,9 +54,9 @@ active_same c d (named_host n) w v l m = refl
 active_same c d this_host w v l m = refl
 active_same c d item_host w v l m =
     let i = codes "item" in
-    let s = slot_at i c.own in
-    let t = slot_at i d.own in
-    ap (λ q. asks wrong_kind (not q)) (holds_same (spot_kind s) (spot_kind t) (well_slot i c.own w.own.1) (well_slot i d.own v.own.1) ((path_le s t (l.own.at i)).0, (path_le t s (m.own.at i)).0))
+    let s = own_spot c i in
+    let t = own_spot d i in
+    ap (λ q. asks wrong_kind (not q)) (holds_same (spot_kind s) (spot_kind t) (well_own c i w) (well_own d i v) ((path_le s t (own_up c d i l)).0, (path_le t s (own_up d c i m)).0))
 active_same c d (group_member g n) w v l m = refl
 
 present_same : (c d : Scope) (r : Root) (ns : List Name) → ScopeLe c d → is_present c r ns ≡ is_present d r ns

@@ -12,7 +12,7 @@ use Rattle.pb_semantics.proofs.Kept.{nothing_keeps_never}
 use Rattle.pb_language.specs.Expression.{Name, Comparison, equal, less, at_most, more, at_least, Status, Term, named_host, this_host, item_host, group_member, Expression, literal, path, hostvars_alone, negation, conjunction, disjunction, comparison, membership, in_batch, defined, undefinable, path_status, value_status, path_or, value_or, length_of, joined_by, concatenation, list_of, record_of, Root, variable, alias, other, member, Expressions, no_expressions, expression, Parts, no_parts, part}
 use Rattle.pb_language.specs.World.{World, variables_of, member_of}
 use Rattle.pb_language.specs.Evaluation.{undefined, no_field, wrong_sort, Outcome, value, stuck, Look, there, absent, failing, Named, host_named, no_host, not_a_host, then_go, or_stuck, value_below, is_value, found, readable, name_in, member_named, member_text, host_of, look_there, read, is_there, value_else, or_else, only_boolean, negated, and_then, or_then, holds_opaque, any_item_opaque, ordered, compared, found_in, is_text_among, member_among, is_active, is_truth, may_be_truth, has_statuses, status_name, status_of, counted, plain_text, with_text, joined_items, joined, put_item, put_part, given, eval, look, eval_all, eval_any, eval_text, eval_items, eval_parts}
-use Rattle.pb_language.specs.Scope.{Scope, is_present, spot_kind, is_certain, hosts_at, hosts_of, other_spot}
+use Rattle.pb_language.specs.Scope.{Scope, is_present, spot_kind, is_certain, own_spot, hosts_at, hosts_of, other_spot}
 use Rattle.pb_language.specs.Kinds.{path_spot, kind_of, root_spot, items_kind, parts_slots, count}
 use Rattle.pb_language.specs.Narrow.{narrow}
 use Rattle.pb_language.specs.Fit.{Fault, perhaps_undefined, perhaps_undefined_there, perhaps_missing, wrong_kind, unknown_name, first, asks, is_any, is_boolean, is_int, is_text, is_plain_kind, has_length, is_plain_list, can_compare, can_find, is_flag, may_be_flag, is_result, field_fault, steps_fault, hosts_fault, term_fault, active_fault, path_fault, fault, read_fault, tested_fault, chain_fault, are_booleans, parts_fault, are_plain, items_fault, fields_fault}
@@ -22,7 +22,7 @@ use Rattle.pb_language.proofs.WithSlot.{record_models}
 use Rattle.pb_language.proofs.WellKinds.{well_slot, well_path, well_kind, well_root}
 use Rattle.pb_language.proofs.Opaque.{nothing_opaque}
 use Rattle.pb_language.proofs.Paths.{kept_known, look_ok, kept_if, kept_read}
-use Rattle.pb_language.proofs.Values.{other_ok, present_there, kept_eval, root_ok, joined_items_kept, text_kept, items_kept, parts_kept, all_kept, any_kept}
+use Rattle.pb_language.proofs.Values.{own_ok, other_ok, present_there, kept_eval, root_ok, joined_items_kept, text_kept, items_kept, parts_kept, all_kept, any_kept}
 use Rattle.pb_language.proofs.Tests.{teaches}
 
 -- no fault
@@ -183,8 +183,8 @@ active_has : (w : World) (c : Scope) (t : Term) → Knows w c → term_fault c t
 active_has w c (named_host n) m h i = refl
 active_has w c this_host m h i = refl
 active_has w c item_host m h i =
-    let s = slot_at (codes "item") c.own in
-    item_has (field_value (codes "item") w.mine) s w.batch (m.own.at (codes "item")) (not_asked perhaps_undefined (is_certain s) h) (not_asked wrong_kind (not (holds_any (spot_kind s))) i)
+    let s = own_spot c (codes "item") in
+    item_has (field_value (codes "item") w.mine) s w.batch (own_ok w c (codes "item") m) (not_asked perhaps_undefined (is_certain s) h) (not_asked wrong_kind (not (holds_any (spot_kind s))) i)
 active_has w c (group_member g n) m h i =
     member_has (member_of g n w.groups) w.batch (rw (ap (λ gs. is_some (member_of g n gs)) m.groups) (not_asked unknown_name (is_some (member_of g n c.groups)) h))
 
@@ -387,7 +387,7 @@ member_host (Some g) = refl
 host_has : (w : World) (c : Scope) (t : Term) → Knows w c → hosts_fault (hosts_of c t) ≡ None → may_be_host (host_of w t) ≡ true
 host_has w c (named_host n) m h = refl
 host_has w c this_host m h = refl
-host_has w c item_host m h = item_host_has (field_value (codes "item") w.mine) (slot_at (codes "item") c.own) (m.own.at (codes "item")) h
+host_has w c item_host m h = item_host_has (field_value (codes "item") w.mine) (own_spot c (codes "item")) (own_ok w c (codes "item") m) h
 host_has w c (group_member g n) m h = member_host (member_of g n w.groups)
 
 there_found : (w : World) (x : Name) (n : Named) (s : Spot) → may_be_host n ≡ true → look_ok (look_there w x n) s ≡ true → is_certain s ≡ true → is_found (look_there w x n) ≡ true
@@ -490,7 +490,7 @@ module _ (w : World) where
     has_value (record_of ps) c m h = parts_have ps c m h
 
     root_has : (r : Root) (c : Scope) → Knows w c → read_fault c r ≡ None → is_found (look w r) ≡ true
-    root_has (variable n) c m h = certain_found (field_value n w.mine) (slot_at n c.own) (m.own.at n) (not_asked perhaps_undefined (is_certain (slot_at n c.own)) h)
+    root_has (variable n) c m h = certain_found (field_value n w.mine) (own_spot c n) (own_ok w c n m) (not_asked perhaps_undefined (is_certain (own_spot c n)) h)
     root_has (alias n e) c m h = alias_has w e c m (λ i. has_value e c m i) h
     root_has (other t x) c m h =
         let certain = asks perhaps_undefined_there (is_certain (other_spot c t x)) in

@@ -10,7 +10,7 @@ use Rattle.pb_semantics.proofs.Order.{own_below, le_own}
 use Rattle.pb_semantics.proofs.Through.{never_below}
 use Rattle.pb_language.specs.Expression.{Name, Expression, literal, path, hostvars_alone, path_or, value_or, list_of, record_of, Root, variable, alias, other, member, Expressions, no_expressions, expression, Parts, no_parts, part, Term, named_host, this_host, item_host, group_member}
 use Rattle.pb_language.specs.World.{member_of}
-use Rattle.pb_language.specs.Scope.{Scope, hosts_of_kind, hosts_at, only, is_present, spot_kind, is_certain, below_spot, unnamed, sure, view_of, later_of, is_later, learned_kind, host_spot, each_spot, spot_among, taught_spot, other_spot, with_slot}
+use Rattle.pb_language.specs.Scope.{Scope, hosts_of_kind, hosts_at, only, is_present, spot_kind, is_certain, below_spot, unnamed, sure, view_of, later_of, is_later, learned_kind, own_spot, view_spot, host_spot, each_spot, spot_among, taught_spot, other_spot, with_slot}
 use Rattle.pb_language.specs.Kinds.{known_kind, path_spot, member_spot, shown_spot, kind_of, root_spot, items_kind, parts_slots, count}
 use Rattle.pb_language.specs.Knows.{WellScope}
 use Rattle.pb_language.specs.Ordered.{SpotLe, SlotsLe, PathLe, TaughtLe, KnownLe, moved, ScopeLe}
@@ -37,6 +37,20 @@ sure_host true nowhere (spot b m) l = (refl, never_below m)
 sure_host true (spot a k) nowhere l = untrue l
 sure_host true (spot a k) (spot b m) l = (refl, l.1)
 sure_host false s t l = l
+
+-- what is known of variables, under what tests taught
+spots_over : (o p s t : Spot) → TaughtLe o p → SpotLe s t → SpotLe (taught_spot o s) (taught_spot p t)
+spots_over nowhere nowhere s t x y = y
+spots_over nowhere (spot b m) s t x y = untrue x
+spots_over (spot a k) nowhere s t x y = untrue x
+spots_over (spot a k) (spot b m) s t x y = x
+
+pub own_up : (c d : Scope) (x : Name) → ScopeLe c d → SpotLe (own_spot c x) (own_spot d x)
+own_up c d x l = spots_over (slot_at x c.own_slots) (slot_at x d.own_slots) (slot_at x c.own) (slot_at x d.own) (l.own_slots x) (l.own.at x)
+
+view_up : (c d : Scope) (x g : Name) → ScopeLe c d → SpotLe (view_spot c x g) (view_spot d x g)
+view_up c d x g l =
+    spots_over (slot_at x (view_of g c.views)) (slot_at x (view_of g d.views)) (slot_at x (view_of g c.table)) (slot_at x (view_of g d.table)) (l.views g x) ((l.table g).at x)
 
 -- two scopes, the second of which knows less of each variable of a host
 module _ (c e : Scope) (w : WellScope c) (v : WellScope e) (up : (on : Bool) (x g : Name) → PathLe (host_spot c on x g) (host_spot e on x g)) where
@@ -109,20 +123,19 @@ module _ (c d : Scope) (w : WellScope c) (v : WellScope (moved c d)) (l : ScopeL
   e = moved c d
 
   -- a host that has a name at its later places has it in both
-  pub later_host : (q : Bool) (x g : Name) (ss ts : Slots) → SlotsLe ss ts
-      → SpotLe (cond (q && is_later (later_of g c.laters) c.place x) (sure (slot_at x ss)) (slot_at x ss)) (cond (q && is_later (later_of g d.laters) c.place x) (sure (slot_at x ts)) (slot_at x ts))
-  later_host q x g ss ts h = rw (l.laters g x) (sure_host (q && is_later (later_of g d.laters) c.place x) (slot_at x ss) (slot_at x ts) (h.at x))
+  later_host : (q : Bool) (x g : Name) (s t : Spot) → SpotLe s t → SpotLe (cond (q && is_later (later_of g c.laters) c.place x) (sure s) s) (cond (q && is_later (later_of g d.laters) c.place x) (sure t) t)
+  later_host q x g s t h = rw (l.laters g x) (sure_host (q && is_later (later_of g d.laters) c.place x) s t h)
 
-  host_up : (on : Bool) (x g : Name) → PathLe (host_spot c on x g) (host_spot e on x g)
-  host_up on x g = path_le (host_spot c on x g) (host_spot e on x g) (later_host (on || is_among g c.active) x g (view_of g c.views) (view_of g d.views) (l.views g))
+  pub host_up : (on : Bool) (x g : Name) → PathLe (host_spot c on x g) (host_spot e on x g)
+  host_up on x g = path_le (host_spot c on x g) (host_spot e on x g) (later_host (on || is_among g c.active) x g (view_spot c x g) (view_spot d x g) (view_up c e x g l))
 
   table_up : (on : Bool) (x g : Name) → PathLe (host_spot (unnamed c) on x g) (host_spot (unnamed e) on x g)
-  table_up on x g = path_le (host_spot (unnamed c) on x g) (host_spot (unnamed e) on x g) (later_host (on || false) x g (view_of g c.table) (view_of g d.table) (l.table g))
+  table_up on x g = path_le (host_spot (unnamed c) on x g) (host_spot (unnamed e) on x g) (later_host (on || false) x g (slot_at x (view_of g c.table)) (slot_at x (view_of g d.table)) ((l.table g).at x))
 
   pub other_up : (t : Term) (x : Name) → PathLe (other_spot c t x) (other_spot e t x)
   other_up (named_host n) x = each_same c e w v host_up false x (n ∷ [])
   other_up this_host x = each_same c e w v host_up false x (c.this ∷ [])
-  other_up item_host x = item_up (unnamed c) (unnamed e) (well_unnamed c w) (well_unnamed e v) table_up c.item_active x (slot_at x c.item_slots) (slot_at x d.item_slots) (slot_at (codes "item") c.own) (slot_at (codes "item") d.own) (l.own.at (codes "item")) (l.item_slots x)
+  other_up item_host x = item_up (unnamed c) (unnamed e) (well_unnamed c w) (well_unnamed e v) table_up c.item_active x (slot_at x c.item_slots) (slot_at x d.item_slots) (own_spot c (codes "item")) (own_spot d (codes "item")) (own_up c e (codes "item") l) (l.item_slots x)
   other_up (group_member g n) x = only_up c e w v host_up false x (member_of g n c.groups)
 
   mutual
@@ -144,7 +157,7 @@ module _ (c d : Scope) (w : WellScope c) (v : WellScope (moved c d)) (l : ScopeL
     kind_up x = refl
 
     pub root_up : (r : Root) → PathLe (root_spot c r) (root_spot e r)
-    root_up (variable n) = path_le (slot_at n c.own) (slot_at n d.own) (l.own.at n)
+    root_up (variable n) = path_le (own_spot c n) (own_spot d n) (own_up c e n l)
     root_up (alias n x) = (alias_up (learned_kind n x c.learned) (learned_kind n x d.learned) (kind_of c x) (kind_of e x) (l.learned n x) (kind_up x), refl)
     root_up (other t x) = other_up t x
     root_up (member g n) = path_own (member_spot (member_of g n c.groups)) (well_member (member_of g n c.groups))
@@ -158,7 +171,7 @@ module _ (c d : Scope) (w : WellScope c) (v : WellScope (moved c d)) (l : ScopeL
     parts_up (part n x ps) = with_up n (kind_of c x) (kind_of e x) (parts_slots c ps) (parts_slots e ps) (kind_up x) (parts_up ps)
 
 pub well_moved : (c d : Scope) → WellScope d → WellScope (moved c d)
-well_moved c d v = record { own = v.own; views = v.views; table = v.table; learned = v.learned; item_slots = v.item_slots }
+well_moved c d v = record { own = v.own; table = v.table; own_slots = v.own_slots; views = v.views; learned = v.learned; item_slots = v.item_slots }
 
 pub moved_le : (c d : Scope) → ScopeLe c d → ScopeLe c (moved c d)
 moved_le c d l = subst (λ z. ScopeLe c z) l.same l

@@ -1,12 +1,12 @@
 -- Of what is known only the host's own variables count for a simple expression.
 use Rattle.std.proofs.Common.{◌≡◌, List, [], Bool, true, false, refl, ap}
-use Rattle.pb_semantics.specs.Kind.{lists, recs, slot_at}
+use Rattle.pb_semantics.specs.Kind.{lists, recs}
 use Rattle.pb_semantics.specs.Keeps.{is_among}
 use Rattle.pb_semantics.specs.Signature.{ParameterData}
 use Rattle.pb_semantics.proofs.Bools.{untrue, and-left, and-right, not-true}
 use Rattle.pb_language.specs.Expression.{Name, equal, Expression, literal, path, negation, conjunction, disjunction, comparison, membership, list_of, record_of, in_batch, defined, path_status, variable, Expressions, no_expressions, expression, Parts, no_parts, part}
 use Rattle.pb_language.specs.Simple.{shared_names, is_simple, are_simple, parts_simple}
-use Rattle.pb_language.specs.Scope.{Scope, spot_kind}
+use Rattle.pb_language.specs.Scope.{Scope, own_spot, spot_kind}
 use Rattle.pb_language.specs.Kinds.{count, path_spot, kind_of, items_kind, parts_slots}
 use Rattle.pb_language.specs.Narrow.{teaches, any_teaches}
 use Rattle.pb_language.specs.Fit.{fault, chain_fault, are_booleans, items_fault, fields_fault}
@@ -18,7 +18,7 @@ use Rattle.pb_language.proofs.Untaught.{narrow_untaught}
 pub record SameOwn (c d : Scope) : Type 0 where
   pub first_present : c.present ≡ []
   pub second_present : d.present ≡ []
-  pub own : (n : Name) → is_among n shared_names ≡ false → slot_at n c.own ≡ slot_at n d.own
+  pub own : (n : Name) → is_among n shared_names ≡ false → own_spot c n ≡ own_spot d n
 
 -- a simple test teaches nothing
 mutual

@@ -2,7 +2,7 @@
 use Rattle.std.proofs.Common.{◌≡◌, List, [], ◌∷◌, Bool, true, false, not, ◌&&◌, ◌||◌, cond, bytes_eq, Option, Some, None, ⊎_elim, refl, sym, ap, subst, ◌∙◌}
 use Rattle.pb_semantics.specs.Kind.{KindData, Slots, Spot, recs, no_slots, slot, nowhere, spot, slot_at, is_listed}
 use Rattle.pb_semantics.specs.Keeps.{is_among}
-use Rattle.pb_semantics.specs.Join.{join, join_slots}
+use Rattle.pb_semantics.specs.Join.{join}
 use Rattle.pb_semantics.specs.Well.{Well, are_once}
 use Rattle.pb_semantics.proofs.Bools.{untrue, and-left, and-right, or-left, or-right, or-cases, true-false}
 use Rattle.pb_semantics.proofs.Names.{same_name, own_name}
@@ -10,39 +10,33 @@ use Rattle.pb_semantics.proofs.JoinWell.{joins_well}
 use Rattle.pb_language.specs.Expression.{Name, Expression, negation, conjunction, disjunction, in_batch, defined, path_status, Root, variable, alias, other, member, Expressions, no_expressions, expression, Term, named_host, this_host, item_host, group_member}
 use Rattle.pb_language.specs.Same.{same_expression}
 use Rattle.pb_language.specs.World.{member_of}
-use Rattle.pb_language.specs.Scope.{Scope, View, Learned, nothing, taught, with_spot, view_of, put_view, learned_kind, host_spot, with_both_kinds, both_learned, both_names, with_both_spots, both_slots, both_views, both_scopes}
+use Rattle.pb_language.specs.Scope.{Scope, View, Learned, nothing, taught, with_taught, has_view, view_of, put_view, learned_kind, host_spot, with_both_kinds, both_learned, both_names, with_both_spots, both_slots, both_views, both_scopes}
 use Rattle.pb_language.specs.Narrow.{cases_with, answers, on_results, changed_spot, changed_at, there_spot, defined_at, teach_host, teach_member, teach, teach_present, active_member, teach_active, any_teaches, where_taught, narrow, narrow_each, narrow_some}
 use Rattle.pb_language.specs.Knows.{WellScope}
 use Rattle.pb_language.specs.Wells.{WellSpot}
-use Rattle.pb_language.specs.Ordered.{has_view}
 use Rattle.pb_language.proofs.Same.{equal_expression}
 use Rattle.pb_language.proofs.WithSlot.{at_with, well_with}
 use Rattle.pb_language.proofs.WellKinds.{well_slot}
 
 -- the views of hosts
-put_step : (p q r b : Bool) (g h : Name) (x : Name) (ss vs us u : Slots) → bytes_eq g x ≡ p → bytes_eq h x ≡ q → bytes_eq h g ≡ r → u ≡ cond (r && b) ss us
-    → cond p (cond q ss us) (cond q vs u) ≡ cond (r && (p || b)) ss (cond q vs us)
-put_step true true true b g h x ss vs us u e i j f = refl
-put_step true true false b g h x ss vs us u e i j f = true-false (bytes_eq h g) (rw (same_name h x i, same_name g x e) (own_name x)) j
-put_step true false true b g h x ss vs us u e i j f = true-false (bytes_eq h x) (rw (same_name h g j) e) i
-put_step true false false b g h x ss vs us u e i j f = refl
-put_step false true true b g h x ss vs us u e i j f = true-false (bytes_eq g x) (rw (← same_name h g j) i) e
-put_step false true false b g h x ss vs us u e i j f = refl
-put_step false false r b g h x ss vs us u e i j f = f
+put_step : (p q r : Bool) (g h : Name) (x : Name) (ss vs us u : Slots) → bytes_eq g x ≡ p → bytes_eq h x ≡ q → bytes_eq h g ≡ r → u ≡ cond r ss us → cond p (cond q ss us) (cond q vs u) ≡ cond r ss (cond q vs us)
+put_step true true true g h x ss vs us u e i j f = refl
+put_step true true false g h x ss vs us u e i j f = true-false (bytes_eq h g) (rw (same_name h x i, same_name g x e) (own_name x)) j
+put_step true false true g h x ss vs us u e i j f = true-false (bytes_eq h x) (rw (same_name h g j) e) i
+put_step true false false g h x ss vs us u e i j f = refl
+put_step false true true g h x ss vs us u e i j f = true-false (bytes_eq g x) (rw (← same_name h g j) i) e
+put_step false true false g h x ss vs us u e i j f = refl
+put_step false false r g h x ss vs us u e i j f = f
 
 view_cond : (p : Bool) (h : Name) (v : View) (ss : Slots) (vs us : List View) → view_of h (cond p (record { host = v.host; slots = ss } ∷ vs) (v ∷ us)) ≡ cond p (cond (bytes_eq h v.host) ss (view_of h vs)) (cond (bytes_eq h v.host) v.slots (view_of h us))
 view_cond true h v ss vs us = refl
 view_cond false h v ss vs us = refl
 
-never_view : (r : Bool) (ss : Slots) → no_slots ≡ cond (r && false) ss no_slots
-never_view true ss = refl
-never_view false ss = refl
-
-pub view_put : (g h : Name) (ss : Slots) (vs : List View) → view_of h (put_view g ss vs) ≡ cond (bytes_eq h g && has_view g vs) ss (view_of h vs)
-view_put g h ss [] = never_view (bytes_eq h g) ss
+pub view_put : (g h : Name) (ss : Slots) (vs : List View) → view_of h (put_view g ss vs) ≡ cond (bytes_eq h g) ss (view_of h vs)
+view_put g h ss [] = refl
 view_put g h ss (v ∷ vs) =
     view_cond (bytes_eq g v.host) h v ss vs (put_view g ss vs)
-    ∙ put_step (bytes_eq g v.host) (bytes_eq h v.host) (bytes_eq h g) (has_view g vs) g h v.host ss v.slots (view_of h vs) (view_of h (put_view g ss vs)) refl refl refl (view_put g h ss vs)
+    ∙ put_step (bytes_eq g v.host) (bytes_eq h v.host) (bytes_eq h g) g h v.host ss v.slots (view_of h vs) (view_of h (put_view g ss vs)) refl refl refl (view_put g h ss vs)
 
 either_slots : (q : Bool) (Q : Slots → Type 0) (ss ts : Slots) → (q ≡ true → Q ss) → Q ts → Q (cond q ss ts)
 either_slots true Q ss ts f x = f refl
@@ -51,92 +45,76 @@ either_slots false Q ss ts f x = x
 -- what holds of a view holds of it where another is put
 pub put_view_at : (Q : Slots → Type 0) (g h : Name) (ss : Slots) (vs : List View) → Q (view_of h vs) → (h ≡ g → Q ss) → Q (view_of h (put_view g ss vs))
 put_view_at Q g h ss vs x f =
-    subst Q (sym (view_put g h ss vs)) (either_slots (bytes_eq h g && has_view g vs) Q ss (view_of h vs) (λ e. f (same_name h g (and-left (bytes_eq h g) (has_view g vs) e))) x)
+    subst Q (sym (view_put g h ss vs)) (either_slots (bytes_eq h g) Q ss (view_of h vs) (λ e. f (same_name h g e)) x)
 
-has_put_step : (p : Bool) (g h : Name) (v : View) (ss : Slots) (vs us : List View) → has_view h us ≡ has_view h vs
-    → has_view h (cond p (record { host = v.host; slots = ss } ∷ vs) (v ∷ us)) ≡ bytes_eq h v.host || has_view h vs
-has_put_step true g h v ss vs us e = refl
-has_put_step false g h v ss vs us e = ap (λ b. bytes_eq h v.host || b) e
+view_both_step : (q : Bool) (g : Name) (v : View) (vs ws : List View) (us : Slots) → bytes_eq g v.host ≡ q → us ≡ both_slots (view_of g vs) (view_of g ws)
+    → cond q (both_slots v.slots (view_of v.host ws)) us ≡ both_slots (cond q v.slots (view_of g vs)) (view_of g ws)
+view_both_step true g v vs ws us e h = ap (λ n. both_slots v.slots (view_of n ws)) (sym (same_name g v.host e))
+view_both_step false g v vs ws us e h = h
 
-pub has_put : (g h : Name) (ss : Slots) (vs : List View) → has_view h (put_view g ss vs) ≡ has_view h vs
-has_put g h ss [] = refl
-has_put g h ss (v ∷ vs) = has_put_step (bytes_eq g v.host) g h v ss vs (put_view g ss vs) (has_put g h ss vs)
-
-pub has_both : (h : Name) (vs ws : List View) → has_view h (both_views vs ws) ≡ has_view h vs
-has_both h [] ws = refl
-has_both h (v ∷ vs) ws = ap (λ b. bytes_eq h v.host || b) (has_both h vs ws)
-
-pub no_view : (g : Name) (vs : List View) → has_view g vs ≡ false → view_of g vs ≡ no_slots
-no_view g [] h = refl
-no_view g (v ∷ vs) h = no_view_step (bytes_eq g v.host) (has_view g vs) v.slots (view_of g vs) h (no_view g vs) where
-  no_view_step : (q b : Bool) (ss ts : Slots) → q || b ≡ false → (b ≡ false → ts ≡ no_slots) → cond q ss ts ≡ no_slots
-  no_view_step true b ss ts h f = untrue (sym h)
-  no_view_step false b ss ts h f = f h
-
-both_view_step : (q : Bool) (Q : Slots → Type 0) (g : Name) (v : View) (vs ws : List View) (us : Slots) → bytes_eq g v.host ≡ q
-    → (q || has_view g vs ≡ true → Q (join_slots (cond q v.slots (view_of g vs)) (view_of g ws))) → (q || has_view g vs ≡ false → Q no_slots)
-    → ((has_view g vs ≡ true → Q (join_slots (view_of g vs) (view_of g ws))) → (has_view g vs ≡ false → Q no_slots) → Q us)
-    → Q (cond q (join_slots v.slots (view_of v.host ws)) us)
-both_view_step true Q g v vs ws us e x y later = rw (← same_name g v.host e) (x refl)
-both_view_step false Q g v vs ws us e x y later = later x y
-
-pub both_view_at : (Q : Slots → Type 0) (g : Name) (vs ws : List View) → (has_view g vs ≡ true → Q (join_slots (view_of g vs) (view_of g ws))) → (has_view g vs ≡ false → Q no_slots) → Q (view_of g (both_views vs ws))
-both_view_at Q g [] ws x y = y refl
-both_view_at Q g (v ∷ vs) ws x y = both_view_step (bytes_eq g v.host) Q g v vs ws (view_of g (both_views vs ws)) refl x y (λ z u. both_view_at Q g vs ws z u)
+pub view_both : (g : Name) (vs ws : List View) → view_of g (both_views vs ws) ≡ both_slots (view_of g vs) (view_of g ws)
+view_both g [] ws = refl
+view_both g (v ∷ vs) ws = view_both_step (bytes_eq g v.host) g v vs ws (view_of g (both_views vs ws)) refl (view_both g vs ws)
 
 -- what two scopes share
 pub record SameGround (c d : Scope) : Type 0 where
+  pub own : c.own ≡ d.own
   pub this : c.this ≡ d.this
   pub groups : c.groups ≡ d.groups
   pub laters : c.laters ≡ d.laters
   pub place : c.place ≡ d.place
-  pub views : (g : Name) → has_view g c.views ≡ has_view g d.views
   pub table : c.table ≡ d.table
 
 pub own_ground : (c : Scope) → SameGround c c
-own_ground c = record { this = refl; groups = refl; laters = refl; place = refl; views = λ g. refl; table = refl }
+own_ground c = record { own = refl; this = refl; groups = refl; laters = refl; place = refl; table = refl }
 
 pub turned_ground : (c d : Scope) → SameGround c d → SameGround d c
-turned_ground c d m = record { this = sym m.this; groups = sym m.groups; laters = sym m.laters; place = sym m.place; views = λ g. sym (m.views g); table = sym m.table }
+turned_ground c d m = record { own = sym m.own; this = sym m.this; groups = sym m.groups; laters = sym m.laters; place = sym m.place; table = sym m.table }
 
 pub ground_through : (c d e : Scope) → SameGround c d → SameGround d e → SameGround c e
-ground_through c d e m n = record { this = m.this ∙ n.this; groups = m.groups ∙ n.groups; laters = m.laters ∙ n.laters; place = m.place ∙ n.place; views = λ g. m.views g ∙ n.views g; table = m.table ∙ n.table }
+ground_through c d e m n = record { own = m.own ∙ n.own; this = m.this ∙ n.this; groups = m.groups ∙ n.groups; laters = m.laters ∙ n.laters; place = m.place ∙ n.place; table = m.table ∙ n.table }
 
 ground_both : (c d : Scope) → SameGround c (both_scopes c d)
-ground_both c d = record { this = refl; groups = refl; laters = refl; place = refl; views = λ g. sym (has_both g c.views d.views); table = refl }
+ground_both c d = record { own = refl; this = refl; groups = refl; laters = refl; place = refl; table = refl }
+
+-- of two scopes of which one is taken
+pub one_scope : (P : Scope → Type 0) (q : Bool) (c d : Scope) → P c → P d → P (cond q c d)
+one_scope P true c d x y = x
+one_scope P false c d x y = y
 
 ground_host : (c : Scope) (f : Spot → Spot) (x g : Name) → SameGround c (teach_host c f x g)
-ground_host c f x g = record { this = refl; groups = refl; laters = refl; place = refl; views = λ h. sym (has_put g h (with_spot x (f (host_spot c false x g)) (view_of g c.views)) c.views); table = refl }
+ground_host c f x g = one_scope (λ d. SameGround c d) (has_view g c.table) (record c { views = put_view g (with_taught x (f (host_spot c false x g)) (view_of g c.views)) c.views }) c
+    (record { own = refl; this = refl; groups = refl; laters = refl; place = refl; table = refl }) (own_ground c)
 
 ground_member : (c : Scope) (f : Spot → Spot) (x : Name) (o : Option Name) → SameGround c (teach_member c f x o)
 ground_member c f x None = own_ground c
 ground_member c f x (Some g) = ground_host c f x g
 
 ground_teach : (c : Scope) (f : Spot → Spot) (r : Root) → SameGround c (teach c f r)
-ground_teach c f (variable n) = record { this = refl; groups = refl; laters = refl; place = refl; views = λ g. refl; table = refl }
-ground_teach c f (alias n e) = record { this = refl; groups = refl; laters = refl; place = refl; views = λ g. refl; table = refl }
+ground_teach c f (variable n) = record { own = refl; this = refl; groups = refl; laters = refl; place = refl; table = refl }
+ground_teach c f (alias n e) = record { own = refl; this = refl; groups = refl; laters = refl; place = refl; table = refl }
 ground_teach c f (other (named_host g) x) = ground_host c f x g
 ground_teach c f (other this_host x) = ground_host c f x c.this
-ground_teach c f (other item_host x) = record { this = refl; groups = refl; laters = refl; place = refl; views = λ g. refl; table = refl }
+ground_teach c f (other item_host x) = record { own = refl; this = refl; groups = refl; laters = refl; place = refl; table = refl }
 ground_teach c f (other (group_member g n) x) = ground_member c f x (member_of g n c.groups)
 ground_teach c f (member g n) = own_ground c
 
 ground_present : (c : Scope) (r : Root) (ns : List Name) → SameGround c (teach_present c r ns)
 ground_present c r ns =
     let m = ground_teach c (there_spot (defined_at ns)) r in
-    record { this = m.this; groups = m.groups; laters = m.laters; place = m.place; views = m.views; table = m.table }
+    record { own = m.own; this = m.this; groups = m.groups; laters = m.laters; place = m.place; table = m.table }
 
 ground_active_member : (c : Scope) (o : Option Name) → SameGround c (active_member c o)
 ground_active_member c None = own_ground c
-ground_active_member c (Some g) = record { this = refl; groups = refl; laters = refl; place = refl; views = λ h. refl; table = refl }
+ground_active_member c (Some g) = record { own = refl; this = refl; groups = refl; laters = refl; place = refl; table = refl }
 
 ground_active : (c : Scope) (t : Term) → SameGround c (teach_active c t)
-ground_active c (named_host n) = record { this = refl; groups = refl; laters = refl; place = refl; views = λ g. refl; table = refl }
-ground_active c this_host = record { this = refl; groups = refl; laters = refl; place = refl; views = λ g. refl; table = refl }
-ground_active c item_host = record { this = refl; groups = refl; laters = refl; place = refl; views = λ g. refl; table = refl }
+ground_active c (named_host n) = record { own = refl; this = refl; groups = refl; laters = refl; place = refl; table = refl }
+ground_active c this_host = record { own = refl; this = refl; groups = refl; laters = refl; place = refl; table = refl }
+ground_active c item_host = record { own = refl; this = refl; groups = refl; laters = refl; place = refl; table = refl }
 ground_active c (group_member g n) = ground_active_member c (member_of g n c.groups)
 
--- of two scopes of which one is taken
+-- the same of what is known where nothing teaches
 pub either_scope : (P : Scope → Type 0) (q : Bool) (c d : Scope) → P c → P d → P (where_taught q c d)
 either_scope P true c d x y = x
 either_scope P false c d x y = y
@@ -253,9 +231,10 @@ both_second n (m ∷ ns) ms h = second_step (is_among m ms) n m ms (both_names n
 pub well_both : (c d : Scope) → WellScope c → WellScope d → WellScope (both_scopes c d)
 well_both c d w v =
     record {
-      own = joins_well (recs c.own) (recs d.own) w.own v.own;
-      views = λ g. both_view_at (λ ss. Well (recs ss)) g c.views d.views (λ h. joins_well (recs (view_of g c.views)) (recs (view_of g d.views)) (w.views g) (v.views g)) (λ h. (refl, tt));
+      own = w.own;
       table = w.table;
+      own_slots = well_both_slots c.own_slots d.own_slots w.own_slots v.own_slots;
+      views = λ g. rw (view_both g c.views d.views) (well_both_slots (view_of g c.views) (view_of g d.views) (w.views g) (v.views g));
       learned = λ n e k i.
           let both = both_learned_at n e c.learned d.learned k i in
           rw both.4 (joins_well both.0 both.1 (w.learned n e both.0 both.2) (v.learned n e both.1 both.3));

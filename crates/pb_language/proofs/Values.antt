@@ -13,7 +13,7 @@ use Rattle.pb_semantics.proofs.Names.{same_name, own_name}
 use Rattle.pb_language.specs.Expression.{Name, Comparison, equal, less, at_most, more, at_least, Status, Term, named_host, this_host, item_host, group_member, Expression, literal, path, hostvars_alone, negation, conjunction, disjunction, comparison, membership, in_batch, defined, undefinable, path_status, value_status, path_or, value_or, length_of, joined_by, concatenation, list_of, record_of, Root, variable, alias, other, member, Expressions, no_expressions, expression, Parts, no_parts, part}
 use Rattle.pb_language.specs.World.{World, variables_of, member_of}
 use Rattle.pb_language.specs.Evaluation.{Stuck, undefined, wrong_sort, Outcome, value, stuck, Look, there, absent, failing, host_named, then_go, or_stuck, found, readable, name_in, member_named, member_text, host_of, look_there, read, is_there, only_boolean, negated, and_then, or_then, holds_opaque, any_item_opaque, ordered, compared, found_in, is_text_among, member_among, is_active, has_statuses, status_name, status_of, counted, plain_text, with_text, joined_items, joined, put_item, put_part, given, eval, look, eval_all, eval_any, eval_text, eval_items, eval_parts}
-use Rattle.pb_language.specs.Scope.{Scope, with_slot, named_term, resolved, is_present, is_certain, below_spot, unnamed, sure, view_of, later_of, is_later, learned_kind, hosts_at, hosts_of, only, host_spot, each_spot, spot_among, taught_spot, other_spot}
+use Rattle.pb_language.specs.Scope.{Scope, with_slot, named_term, resolved, is_present, is_certain, below_spot, unnamed, sure, view_of, later_of, is_later, learned_kind, hosts_at, hosts_of, only, own_spot, view_spot, host_spot, each_spot, spot_among, taught_spot, other_spot}
 use Rattle.pb_language.specs.Kinds.{known_kind, known_items, known_slots, member_spot, kind_of, root_spot, items_kind, parts_slots, count}
 use Rattle.pb_language.specs.Knows.{WellScope, Knows, ValueKeepsKind}
 use Rattle.pb_language.proofs.WithSlot.{kept_written}
@@ -62,12 +62,22 @@ sure_ok true (Some d) nowhere f h = untrue h
 sure_ok true (Some d) (spot a k) f h = h
 sure_ok false o s f h = h
 
+taught_ok : (o : Option Data) (s t : Spot) → ((a : Bool) (k : KindData) → s ≡ spot a k → spot_ok o (spot a k) ≡ true) → spot_ok o t ≡ true → spot_ok o (taught_spot s t) ≡ true
+taught_ok o nowhere t f h = h
+taught_ok o (spot a k) t f h = f a k refl
+
+pub own_ok : (w : World) (c : Scope) (x : Name) → Knows w c → spot_ok (field_value x w.mine) (own_spot c x) ≡ true
+own_ok w c x m = taught_ok (field_value x w.mine) (slot_at x c.own_slots) (slot_at x c.own) (λ a k h. m.own_slots x a k h) (m.own.at x)
+
+view_ok : (w : World) (c : Scope) (x g : Name) → Knows w c → spot_ok (field_value x (variables_of g w.hosts)) (view_spot c x g) ≡ true
+view_ok w c x g m = taught_ok (field_value x (variables_of g w.hosts)) (slot_at x (view_of g c.views)) (slot_at x (view_of g c.table)) (λ a k h. m.views g x a k h) ((m.table g).at x)
+
 pub host_ok : (w : World) (c : Scope) (on : Bool) (x g : Name) → Knows w c → (on ≡ true → is_among g w.batch ≡ true) → spot_ok (field_value x (variables_of g w.hosts)) (host_spot c on x g) ≡ true
 host_ok w c on x g m f =
     let active = on || is_among g c.active in
     let later = is_later (later_of g c.laters) c.place x in
-    sure_ok (active && later) (field_value x (variables_of g w.hosts)) (slot_at x (view_of g c.views))
-    (λ e. m.later g (⊎_elim (λ y. f y) (λ z. m.active g z) (or-cases on (is_among g c.active) (and-left active later e))) x (and-right active later e)) ((m.views g).at x)
+    sure_ok (active && later) (field_value x (variables_of g w.hosts)) (view_spot c x g)
+    (λ e. m.later g (⊎_elim (λ y. f y) (λ z. m.active g z) (or-cases on (is_among g c.active) (and-left active later e))) x (and-right active later e)) (view_ok w c x g m)
 
 each_ok_step : (q : Bool) (g h : Name) (c : Scope) (on : Bool) (x : Name) (gs : List Name) (o : Option Data) → WellScope c → bytes_eq g h ≡ q → q || is_among g gs ≡ true
     → (is_among g gs ≡ true → spot_ok o (each_spot c on x gs) ≡ true) → spot_ok o (host_spot c on x g) ≡ true → spot_ok o (join_spot (host_spot c on x h) (each_spot c on x gs)) ≡ true
@@ -97,10 +107,6 @@ among_ok c on x g (spot a anything) None w i h = refl
 among_ok c on x g (spot a anything) (Some d) w i h = refl
 among_ok c on x g (spot a k) o w i h = untrue i
 
-taught_ok : (o : Option Data) (s t : Spot) → ((a : Bool) (k : KindData) → s ≡ spot a k → spot_ok o (spot a k) ≡ true) → spot_ok o t ≡ true → spot_ok o (taught_spot s t) ≡ true
-taught_ok o nowhere t f h = h
-taught_ok o (spot a k) t f h = f a k refl
-
 below_ok : (o : Option Data) (a : Bool) (s : Spot) → spot_ok o s ≡ true → spot_ok o (below_spot a s) ≡ true
 below_ok None a nowhere h = refl
 below_ok None a (spot b k) h = not-second a b h
@@ -120,8 +126,9 @@ knows_unnamed w c m = record {
   this = m.this;
   groups = m.groups;
   own = m.own;
-  views = m.table;
   table = m.table;
+  own_slots = m.own_slots;
+  views = λ g x a k h. absurd (cc);
   learned = m.learned;
   present = m.present;
   active = λ g h. untrue h;
@@ -132,13 +139,13 @@ knows_unnamed w c m = record {
 
 item_ok : (w : World) (c : Scope) (x : Name) (o : Option Data) → Knows w c → field_value (codes "item") w.mine ≡ o → look_ok (look_there w x (name_in o)) (other_spot c item_host x) ≡ true
 item_ok w c x None m e =
-    let s = slot_at (codes "item") c.own in
-    missing_below s (taught_spot (slot_at x c.item_slots) (spot_among (unnamed c) c.item_active x (hosts_of c item_host))) (rw e at (m.own.at (codes "item")))
+    let s = own_spot c (codes "item") in
+    missing_below s (taught_spot (slot_at x c.item_slots) (spot_among (unnamed c) c.item_active x (hosts_of c item_host))) (rw e at (own_ok w c (codes "item") m))
 item_ok w c x (Some (text g)) m e =
     let there = field_value x (variables_of g w.hosts) in
-    let among = among_ok (unnamed c) c.item_active x g (slot_at (codes "item") c.own) there (well_unnamed c m.well) (rw e at (m.own.at (codes "item"))) (host_ok w (unnamed c) c.item_active x g (knows_unnamed w c m) (λ y. m.item_active y g e)) in
+    let among = among_ok (unnamed c) c.item_active x g (own_spot c (codes "item")) there (well_unnamed c m.well) (rw e at (own_ok w c (codes "item") m)) (host_ok w (unnamed c) c.item_active x g (knows_unnamed w c m) (λ y. m.item_active y g e)) in
     let taught = taught_ok there (slot_at x c.item_slots) (spot_among (unnamed c) c.item_active x (hosts_of c item_host)) (λ a k i. m.item_slots g e x a k i) among in
-    found_ok there (other_spot c item_host x) (below_ok there (is_certain (slot_at (codes "item") c.own)) (taught_spot (slot_at x c.item_slots) (spot_among (unnamed c) c.item_active x (hosts_of c item_host))) taught)
+    found_ok there (other_spot c item_host x) (below_ok there (is_certain (own_spot c (codes "item"))) (taught_spot (slot_at x c.item_slots) (spot_among (unnamed c) c.item_active x (hosts_of c item_host))) taught)
 item_ok w c x (Some d) m e = refl
 
 pub other_ok : (w : World) (c : Scope) (t : Term) (x : Name) → Knows w c → look_ok (look_there w x (host_of w t)) (other_spot c t x) ≡ true
@@ -324,7 +331,7 @@ module _ (w : World) (c : Scope) (m : Knows w c) where
     kept_eval (record_of ps) = parts_kept ps
 
     pub root_ok : (r : Root) → look_ok (look w r) (root_spot c r) ≡ true
-    root_ok (variable n) = found_ok (field_value n w.mine) (slot_at n c.own) (m.own.at n)
+    root_ok (variable n) = found_ok (field_value n w.mine) (own_spot c n) (own_ok w c n m)
     root_ok (alias n e) = readable_ok (eval w e) (learned_kind n e c.learned) (kind_of c e) (λ d k i j. m.learned n e k d i j) (kept_eval e)
     root_ok (other t x) = other_ok w c t x m
     root_ok (member g n) = rw (ap (λ gs. member_of g n gs) m.groups) (group_ok (member_of g n c.groups))

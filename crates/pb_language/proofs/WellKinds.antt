@@ -13,7 +13,7 @@ use Rattle.pb_semantics.proofs.JoinLeast.{joins_least}
 use Rattle.pb_semantics.proofs.JoinWell.{joins_well}
 use Rattle.pb_language.specs.Expression.{Name, Expression, literal, path, path_or, value_or, list_of, record_of, Root, variable, alias, other, member, Expressions, no_expressions, expression, Parts, no_parts, part, Term, named_host, this_host, item_host, group_member}
 use Rattle.pb_language.specs.World.{member_of}
-use Rattle.pb_language.specs.Scope.{Scope, Hosts, these, any_host, no_hosts, nobody, is_present, is_certain, below_spot, unnamed, sure, view_of, later_of, is_later, learned_kind, hosts_of, host_spot, each_spot, spot_among, taught_spot, other_spot}
+use Rattle.pb_language.specs.Scope.{Scope, Hosts, these, any_host, no_hosts, nobody, is_present, is_certain, below_spot, unnamed, sure, view_of, later_of, is_later, learned_kind, own_spot, view_spot, hosts_of, host_spot, each_spot, spot_among, taught_spot, other_spot}
 use Rattle.pb_language.specs.Kinds.{known_kind, known_items, known_slots, step_spot, path_spot, member_spot, shown_spot, default_kind, kind_of, root_spot, items_kind, parts_slots}
 use Rattle.pb_language.specs.Narrow.{least_record, results_of}
 use Rattle.pb_language.specs.Knows.{WellScope}
@@ -120,9 +120,19 @@ well_sure true nowhere w = tt
 well_sure true (spot a k) w = w
 well_sure false s w = w
 
+well_taught : (s t : Spot) → WellSpot s → WellSpot t → WellSpot (taught_spot s t)
+well_taught nowhere t w v = v
+well_taught (spot a k) t w v = w
+
+pub well_own : (c : Scope) (x : Name) → WellScope c → WellSpot (own_spot c x)
+well_own c x w = well_taught (slot_at x c.own_slots) (slot_at x c.own) (well_slot x c.own_slots w.own_slots.1) (well_slot x c.own w.own.1)
+
+well_view : (c : Scope) (x g : Name) → WellScope c → WellSpot (view_spot c x g)
+well_view c x g w = well_taught (slot_at x (view_of g c.views)) (slot_at x (view_of g c.table)) (well_slot x (view_of g c.views) ((w.views g).1)) (well_slot x (view_of g c.table) ((w.table g).1))
+
 pub well_host : (c : Scope) (on : Bool) (x g : Name) → WellScope c → WellSpot (host_spot c on x g)
 well_host c on x g w =
-    well_sure ((on || is_among g c.active) && is_later (later_of g c.laters) c.place x) (slot_at x (view_of g c.views)) (well_slot x (view_of g c.views) ((w.views g).1))
+    well_sure ((on || is_among g c.active) && is_later (later_of g c.laters) c.place x) (view_spot c x g) (well_view c x g w)
 
 pub well_each_host : (c : Scope) (on : Bool) (x : Name) (gs : List Name) → WellScope c → WellSpot (each_spot c on x gs)
 well_each_host c on x [] w = tt
@@ -134,12 +144,8 @@ well_among c on x any_host w = tt
 well_among c on x no_hosts w = tt
 well_among c on x nobody w = tt
 
-well_taught : (s t : Spot) → WellSpot s → WellSpot t → WellSpot (taught_spot s t)
-well_taught nowhere t w v = v
-well_taught (spot a k) t w v = w
-
 pub well_unnamed : (c : Scope) → WellScope c → WellScope (unnamed c)
-well_unnamed c w = record { own = w.own; views = w.table; table = w.table; learned = w.learned; item_slots = w.item_slots }
+well_unnamed c w = record { own = w.own; table = w.table; own_slots = w.own_slots; views = λ g. (refl, tt); learned = w.learned; item_slots = w.item_slots }
 
 pub well_other : (c : Scope) (t : Term) (x : Name) → WellScope c → WellSpot (other_spot c t x)
 well_other c (named_host n) x w = well_among c false x (hosts_of c (named_host n)) w
@@ -147,7 +153,7 @@ well_other c this_host x w = well_among c false x (hosts_of c this_host) w
 well_other c item_host x w =
     let s = slot_at x c.item_slots in
     let t = spot_among (unnamed c) c.item_active x (hosts_of c item_host) in
-    well_below (is_certain (slot_at (codes "item") c.own)) (taught_spot s t) (well_taught s t (well_slot x c.item_slots w.item_slots.1) (well_among (unnamed c) c.item_active x (hosts_of c item_host) (well_unnamed c w)))
+    well_below (is_certain (own_spot c (codes "item"))) (taught_spot s t) (well_taught s t (well_slot x c.item_slots w.item_slots.1) (well_among (unnamed c) c.item_active x (hosts_of c item_host) (well_unnamed c w)))
 well_other c (group_member g n) x w = well_among c false x (hosts_of c (group_member g n)) w
 
 well_alias : (o : Option KindData) (m : KindData) → ((k : KindData) → o ≡ Some k → Well k) → Well m → Well (unwrap_or o m)
@@ -169,7 +175,7 @@ module _ (c : Scope) (w : WellScope c) where
     well_kind e = tt
 
     pub well_root : (r : Root) → WellSpot (root_spot c r)
-    well_root (variable n) = well_slot n c.own w.own.1
+    well_root (variable n) = well_own c n w
     well_root (alias n e) = well_alias (learned_kind n e c.learned) (kind_of c e) (w.learned n e) (well_kind e)
     well_root (other t x) = well_other c t x w
     well_root (member g n) = well_member (member_of g n c.groups)

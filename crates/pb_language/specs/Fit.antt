@@ -16,7 +16,7 @@ use Rattle.pb_language.specs.Expression.{Expressions, no_expressions, expression
 use Rattle.pb_language.specs.Expression.{part}
 use Rattle.pb_language.specs.World.{member_of}
 use Rattle.pb_language.specs.Scope.{Scope, Hosts, these, any_host, no_hosts, nobody, is_present}
-use Rattle.pb_language.specs.Scope.{spot_kind, is_certain, hosts_of, other_spot}
+use Rattle.pb_language.specs.Scope.{spot_kind, is_certain, own_spot, hosts_of, other_spot}
 use Rattle.pb_language.specs.Kinds.{kind_of, root_spot, path_spot}
 use Rattle.pb_language.specs.Narrow.{narrow}
 
@@ -132,7 +132,7 @@ hosts_fault nobody = None
 abbrev pub term_fault : Scope → Term → Option Fault
 term_fault c (named_host n) = None
 term_fault c this_host = None
-term_fault c item_host = asks perhaps_undefined (is_certain (slot_at (codes "item") c.own))
+term_fault c item_host = asks perhaps_undefined (is_certain (own_spot c (codes "item")))
 term_fault c (group_member g n) = asks unknown_name (is_some (member_of g n c.groups))
 
 -- an item that is asked for may not be opaque
@@ -140,7 +140,7 @@ abbrev pub active_fault : Scope → Term → Option Fault
 active_fault c (named_host n) = None
 active_fault c this_host = None
 active_fault c item_host =
-    asks wrong_kind (not (holds_any (spot_kind (slot_at (codes "item") c.own))))
+    asks wrong_kind (not (holds_any (spot_kind (own_spot c (codes "item")))))
 active_fault c (group_member g n) = None
 
 -- nothing is asked of what a test showed to be there, but what is asked under the test
@@ -184,7 +184,7 @@ abbrev mutual
 
   -- a value that is read
   pub read_fault : Scope → Root → Option Fault
-  read_fault c (variable n) = asks perhaps_undefined (is_certain (slot_at n c.own))
+  read_fault c (variable n) = asks perhaps_undefined (is_certain (own_spot c n))
   read_fault c (alias n e) = first (fault c e) (asks wrong_kind (not (is_any (kind_of c e))))
   read_fault c (other t x) = first (term_fault c t)
       (first (hosts_fault (hosts_of c t))

@@ -16,7 +16,7 @@ use Rattle.pb_language.specs.Expression.{Expressions, no_expressions, expression
 use Rattle.pb_language.specs.Expression.{part}
 use Rattle.pb_language.specs.World.{member_of}
 use Rattle.pb_language.specs.Scope.{Scope, learned_kind, is_present, spot_kind, sure, with_slot}
-use Rattle.pb_language.specs.Scope.{below_spot, other_spot}
+use Rattle.pb_language.specs.Scope.{below_spot, own_spot, other_spot}
 
 -- the kind of a value that is known
 abbrev mutual
@@ -97,7 +97,7 @@ abbrev mutual
 
   -- what is known of the value at a root; one of `vars` is always there
   pub root_spot : Scope → Root → Spot
-  root_spot c (variable n) = slot_at n c.own
+  root_spot c (variable n) = own_spot c n
   root_spot c (alias n e) = spot true (unwrap_or (learned_kind n e c.learned) (kind_of c e))
   root_spot c (other t x) = other_spot c t x
   root_spot c (member g n) = member_spot (member_of g n c.groups)

@@ -12,8 +12,9 @@ use Rattle.pb_language.specs.Expression.{negation, conjunction, disjunction, in_
 use Rattle.pb_language.specs.Expression.{path_status, Root, variable, alias, other, member}
 use Rattle.pb_language.specs.Expression.{Expressions, no_expressions, expression}
 use Rattle.pb_language.specs.World.{member_of}
-use Rattle.pb_language.specs.Scope.{Scope, resolved, spot_kind, is_certain, with_slot, with_spot}
-use Rattle.pb_language.specs.Scope.{taught, view_of, put_view, host_spot, other_spot, both_scopes}
+use Rattle.pb_language.specs.Scope.{Scope, resolved, spot_kind, with_spot, with_taught, taught}
+use Rattle.pb_language.specs.Scope.{has_view, view_of, put_view, own_spot, host_spot, other_spot}
+use Rattle.pb_language.specs.Scope.{both_scopes}
 use Rattle.pb_language.specs.Kinds.{root_spot}
 
 -- the least record above the cases
@@ -102,10 +103,11 @@ defined_at (n ∷ ns) (results cs r) =
     results_of (cases_stepped (can_have (n ∷ ns)) (with_step n (defined_at ns)) cs)
 defined_at (n ∷ ns) k = k
 
--- what is taught of the variable of a host
+-- what is taught of the variable of a host that is known
 abbrev pub teach_host : Scope → (Spot → Spot) → Name → Name → Scope
-teach_host c f x g = record c
-    { views = put_view g (with_spot x (f (host_spot c false x g)) (view_of g c.views)) c.views }
+teach_host c f x g = cond (has_view g c.table) (record c {
+  views = put_view g (with_taught x (f (host_spot c false x g)) (view_of g c.views)) c.views;
+}) c
 
 abbrev pub teach_member : Scope → (Spot → Spot) → Name → Option Name → Scope
 teach_member c f x None = c
@@ -113,16 +115,13 @@ teach_member c f x (Some g) = teach_host c f x g
 
 -- what is taught of the value at a root
 abbrev pub teach : Scope → (Spot → Spot) → Root → Scope
-teach c f (variable n) = record c { own = with_spot n (f (slot_at n c.own)) c.own }
+teach c f (variable n) = record c { own_slots = with_taught n (f (own_spot c n)) c.own_slots }
 teach c f (alias n e) =
     record c { learned = taught n e (spot_kind (f (root_spot c (alias n e)))) c.learned }
 teach c f (other (named_host g) x) = teach_host c f x g
 teach c f (other this_host x) = teach_host c f x c.this
-teach c f (other item_host x) = record c {
-  item_slots = with_slot x
-      (is_certain (f (other_spot c item_host x))) (spot_kind (f (other_spot c item_host x)))
-      c.item_slots;
-}
+teach c f (other item_host x) =
+    record c { item_slots = with_taught x (f (other_spot c item_host x)) c.item_slots }
 teach c f (other (group_member g n) x) = teach_member c f x (member_of g n c.groups)
 teach c f (member g n) = c
 

@@ -1,14 +1,12 @@
 -- Scopes, settings and environments in order: the second of two knows less of variables, and the
 -- same of all else; and what goes up with them (this project's own).
-use Rattle.std.specs.Prelude.{◌≡◌, ℕ, List, [], ◌∷◌, Bool, true, false, not, ◌||◌, Option, Some}
-use Rattle.std.specs.Prelude.{None}
-use Rattle.std.specs.Str.{bytes_eq}
+use Rattle.std.specs.Prelude.{◌≡◌, ℕ, Bool, true, false, not, ◌||◌, Option, Some, None}
 use Rattle.pb_semantics.specs.Kind.{KindData, Slots, Spot, recs, nowhere, spot, slot_at}
 use Rattle.pb_semantics.specs.Below.{below}
 use Rattle.pb_semantics.specs.Well.{Well}
 use Rattle.pb_language.specs.Expression.{Name, Expression}
-use Rattle.pb_language.specs.Scope.{Scope, View, spot_kind, is_certain, view_of, later_of, is_later}
-use Rattle.pb_language.specs.Scope.{learned_kind}
+use Rattle.pb_language.specs.Scope.{Scope, spot_kind, is_certain, view_of, has_view, later_of}
+use Rattle.pb_language.specs.Scope.{is_later, learned_kind}
 use Rattle.pb_language.specs.Kinds.{kind_of}
 use Rattle.pb_language.specs.Narrow.{narrow}
 use Rattle.pb_language.specs.Knows.{WellScope}
@@ -47,19 +45,16 @@ KnownLe None (Some m) = false ≡ true
 KnownLe (Some k) None = false ≡ true
 KnownLe (Some k) (Some m) = below k m ≡ true
 
-abbrev pub has_view : Name → List View → Bool
-has_view g [] = false
-has_view g (v ∷ vs) = bytes_eq g v.host || has_view g vs
-
 -- the first with what the second knows of variables and of later places
 abbrev pub moved : Scope → Scope → Scope
 moved c d = record c {
   own = d.own;
-  learned = d.learned;
-  views = d.views;
   table = d.table;
-  item_slots = d.item_slots;
   laters = d.laters;
+  own_slots = d.own_slots;
+  views = d.views;
+  learned = d.learned;
+  item_slots = d.item_slots;
 }
 
 -- the second scope knows less of variables, and the same of all else; of later places the two say
@@ -67,9 +62,11 @@ moved c d = record c {
 pub record ScopeLe (c d : Scope) : Type 0 where
   pub same : d ≡ moved c d
   pub own : SlotsLe c.own d.own
-  pub views : (g : Name) → SlotsLe (view_of g c.views) (view_of g d.views)
   pub table : (g : Name) → SlotsLe (view_of g c.table) (view_of g d.table)
-  pub hosts : (g : Name) → has_view g c.views ≡ has_view g d.views
+  pub hosts : (g : Name) → has_view g c.table ≡ has_view g d.table
+  pub own_slots : (x : Name) → TaughtLe (slot_at x c.own_slots) (slot_at x d.own_slots)
+  pub views : (g x : Name)
+      → TaughtLe (slot_at x (view_of g c.views)) (slot_at x (view_of g d.views))
   pub learned : (n : Name) (e : Expression)
       → KnownLe (learned_kind n e c.learned) (learned_kind n e d.learned)
   pub item_slots : (x : Name) → TaughtLe (slot_at x c.item_slots) (slot_at x d.item_slots)

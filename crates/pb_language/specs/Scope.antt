@@ -6,7 +6,7 @@ use Rattle.std.specs.Str.{bytes_eq}
 use Rattle.pb_semantics.specs.Kind.{KindData, Slots, Spot, never, texts, hosts, anything, no_slots}
 use Rattle.pb_semantics.specs.Kind.{slot, nowhere, spot, slot_at, put_slot}
 use Rattle.pb_semantics.specs.Keeps.{is_among}
-use Rattle.pb_semantics.specs.Join.{join, join_slots, join_spot}
+use Rattle.pb_semantics.specs.Join.{join, join_spot}
 use Rattle.pb_language.specs.Expression.{Name, Expression, Root, variable, alias, other, member}
 use Rattle.pb_language.specs.Expression.{Term, named_host, this_host, item_host, group_member}
 use Rattle.pb_language.specs.Same.{same_expression, same_root}
@@ -32,6 +32,10 @@ with_slot n a k ss = put_slot n a k (without_slot n ss)
 abbrev pub with_spot : Name → Spot → Slots → Slots
 with_spot n nowhere ss = ss
 with_spot n (spot a k) ss = with_slot n a k ss
+
+-- what tests taught of a name, in place of what they taught before
+abbrev pub with_taught : Name → Spot → Slots → Slots
+with_taught n s ss = with_slot n (is_certain s) (spot_kind s) ss
 
 -- a name that is certainly there
 abbrev pub sure : Spot → Spot
@@ -63,8 +67,13 @@ abbrev pub view_of : Name → List View → Slots
 view_of g [] = no_slots
 view_of g (v ∷ vs) = cond (bytes_eq g v.host) v.slots (view_of g vs)
 
+abbrev pub has_view : Name → List View → Bool
+has_view g [] = false
+has_view g (v ∷ vs) = bytes_eq g v.host || has_view g vs
+
+-- the views with this one in place of any other of that host
 abbrev pub put_view : Name → Slots → List View → List View
-put_view g ss [] = []
+put_view g ss [] = record { host = g; slots = ss } ∷ []
 put_view g ss (v ∷ vs) =
     cond (bytes_eq g v.host) (record { host = v.host; slots = ss } ∷ vs) (v ∷ put_view g ss vs)
 
@@ -103,23 +112,39 @@ is_present_path r ns (p ∷ ps) =
     (same_root r p.root && begins_with ns p.steps) || is_present_path r ns ps
 
 pub record Scope : Type 0 where
+  -- what is known before any test: of the host's own variables, and of those of each host
   pub own : Slots
   pub this : Name
+  pub table : List View
+  pub groups : List Group
+  -- what active hosts have from the place of the task on; nothing under `free`
+  pub laters : List Later
+  pub place : ℕ
+  -- what tests taught, which lies over that: of the host's own variables, and of those of hosts by
+  -- their names
+  pub own_slots : Slots
+  pub views : List View
   pub learned : Learned
   -- the paths that were tested to be there
   pub present : List Present
-  pub views : List View
-  -- the same before any test, which is what is known of the host that the item names
-  pub table : List View
   -- the hosts that are known to be active in the batch
   pub active : List Name
   -- what tests taught of the variables of the host that the item names, and that it is active
   pub item_slots : Slots
   pub item_active : Bool
-  pub groups : List Group
-  -- what active hosts have from the place of the task on; nothing under `free`
-  pub laters : List Later
-  pub place : ℕ
+
+-- what a test taught, else what is known
+abbrev pub taught_spot : Spot → Spot → Spot
+taught_spot nowhere s = s
+taught_spot (spot a k) s = spot a k
+
+-- what is known of a variable of the host's own
+abbrev pub own_spot : Scope → Name → Spot
+own_spot c x = taught_spot (slot_at x c.own_slots) (slot_at x c.own)
+
+-- and of a host by its name
+abbrev pub view_spot : Scope → Name → Name → Spot
+view_spot c x g = taught_spot (slot_at x (view_of g c.views)) (slot_at x (view_of g c.table))
 
 abbrev pub named_term : Term → Option Name → Term
 named_term t None = t
@@ -167,13 +192,13 @@ only (Some h) = these (h ∷ [])
 abbrev pub hosts_of : Scope → Term → Hosts
 hosts_of c (named_host n) = these (n ∷ [])
 hosts_of c this_host = these (c.this ∷ [])
-hosts_of c item_host = hosts_at (slot_at (codes "item") c.own)
+hosts_of c item_host = hosts_at (own_spot c (codes "item"))
 hosts_of c (group_member g n) = only (member_of g n c.groups)
 
 -- what is known of a variable of that host; the flag says that it is known to be active
 abbrev pub host_spot : Scope → Bool → Name → Name → Spot
 host_spot c on x g = cond ((on || is_among g c.active) && is_later (later_of g c.laters) c.place x)
-    (sure (slot_at x (view_of g c.views))) (slot_at x (view_of g c.views))
+    (sure (view_spot c x g)) (view_spot c x g)
 
 -- what is known of a variable of whichever of these hosts is meant
 abbrev pub each_spot : Scope → Bool → Name → List Name → Spot
@@ -186,25 +211,20 @@ spot_among c on x any_host = spot false anything
 spot_among c on x no_hosts = nowhere
 spot_among c on x nobody = nowhere
 
--- what a test taught, else what is known
-abbrev pub taught_spot : Spot → Spot → Spot
-taught_spot nowhere s = s
-taught_spot (spot a k) s = spot a k
-
 abbrev pub below_spot : Bool → Spot → Spot
 below_spot a nowhere = nowhere
 below_spot a (spot b k) = spot (a && b) k
 
 -- without what tests taught of hosts by their names
 abbrev pub unnamed : Scope → Scope
-unnamed c = record c { views = c.table; active = [] }
+unnamed c = record c { views = []; active = [] }
 
 -- a variable of the item's host is certain only where the item is; what a test taught of a host by
 -- its name isn't said of the item, whichever host that is
 abbrev pub other_spot : Scope → Term → Name → Spot
 other_spot c (named_host n) x = spot_among c false x (hosts_of c (named_host n))
 other_spot c this_host x = spot_among c false x (hosts_of c this_host)
-other_spot c item_host x = below_spot (is_certain (slot_at (codes "item") c.own))
+other_spot c item_host x = below_spot (is_certain (own_spot c (codes "item")))
     (taught_spot (slot_at x c.item_slots)
     (spot_among (unnamed c) c.item_active x (hosts_of c item_host)))
 other_spot c (group_member g n) x = spot_among c false x (hosts_of c (group_member g n))
@@ -238,14 +258,15 @@ both_slots (slot n a k ss) ts = with_both_spots n a k (slot_at n ts) (both_slots
 abbrev pub both_views : List View → List View → List View
 both_views [] ws = []
 both_views (v ∷ vs) ws =
-    record { host = v.host; slots = join_slots v.slots (view_of v.host ws) } ∷ both_views vs ws
+    record { host = v.host; slots = both_slots v.slots (view_of v.host ws) } ∷ both_views vs ws
 
+-- where one of the two ways was taken: what both teach
 abbrev pub both_scopes : Scope → Scope → Scope
 both_scopes c d = record c {
-  own = join_slots c.own d.own;
+  own_slots = both_slots c.own_slots d.own_slots;
+  views = both_views c.views d.views;
   learned = both_learned c.learned d.learned;
   present = both_present c.present d.present;
-  views = both_views c.views d.views;
   active = both_names c.active d.active;
   item_slots = both_slots c.item_slots d.item_slots;
   item_active = c.item_active && d.item_active;

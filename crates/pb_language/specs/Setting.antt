@@ -51,16 +51,17 @@ abbrev pub scope_at : Setting → List Later → ℕ → Slots → Scope
 scope_at st laters place own = record {
   own = own;
   this = st.this;
-  learned = nothing;
-  present = [];
-  views = st.views;
   table = st.views;
-  active = [];
-  item_slots = no_slots;
-  item_active = false;
   groups = st.groups;
   laters = laters;
   place = place;
+  own_slots = no_slots;
+  views = [];
+  learned = nothing;
+  present = [];
+  active = [];
+  item_slots = no_slots;
+  item_active = false;
 }
 
 abbrev pub start_scope : Setting → Task → Slots → Scope

@@ -42,8 +42,6 @@ pub mod PlainJudged
 pub mod PlainSteps
 pub mod PlainGives
 pub mod PlainEval
-pub mod PlainDerived
-pub mod PlainDerives
 pub mod Derived
 pub mod Derives
 pub mod Evaluated

@@ -21,11 +21,7 @@ pub use Rattle.pb_language.specs.Fit.{is_boolean, is_flag, is_int, is_plain_kind
 pub use Rattle.pb_language.specs.Fit.{is_result, is_status_record, is_text, items_fault}
 pub use Rattle.pb_language.specs.Fit.{may_be_flag, parts_fault, read_fault, steps_fault, wrong_kind}
 pub use Rattle.pb_language.specs.Give.{Answer, object, skip_fields}
-pub use Rattle.pb_language.specs.plain.Grammar.{Deeper, closed, conjunction_of, cut, cut_in, deeper}
-pub use Rattle.pb_language.specs.plain.Grammar.{disjunction_of, expression_of, has_opening, is_mark}
-pub use Rattle.pb_language.specs.plain.Grammar.{literal_before, literal_of, negation_of, operand_at}
-pub use Rattle.pb_language.specs.plain.Grammar.{operand_of, path_of, reading, related, relation_of}
-pub use Rattle.pb_language.specs.plain.Grammar.{steps_of, template_of}
+pub use Rattle.pb_language.specs.Grammar.{expression_of, is_mark, template_of}
 pub use Rattle.pb_language.specs.Judged.{judged}
 pub use Rattle.pb_language.specs.Judgement.{action_fault, arguments_fault, conditions_fault}
 pub use Rattle.pb_language.specs.Judgement.{parameter_kind}

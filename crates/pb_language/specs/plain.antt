@@ -5,5 +5,3 @@ pub mod Flow
 pub mod Tables
 pub mod Machine
 pub mod Gives
-pub mod Grammar
-pub mod Derivations

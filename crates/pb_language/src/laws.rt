@@ -15,8 +15,6 @@ ghost use Rattle.pb_language.specs.StartRules.{StuckStartMarks};
 ghost use Rattle.pb_language.specs.Theorem.{LatersHold, NeverStuck, Progress, ShortHistory};
 ghost use Rattle.pb_language.specs.Theorem.{WithinBudget};
 ghost use Rattle.pb_language.specs.Unwinding.{UnwindingWalks};
-ghost use Rattle.pb_language.specs.plain.Derivations.{DerivedArePlainTrees};
-ghost use Rattle.pb_language.specs.plain.Derivations.{PlainTreesAreDerived};
 
 /// An expression that is fit has a value in each world that knows the scope, and the value is of
 /// the expression's kind.
@@ -78,13 +76,6 @@ pub fn laters_hold()
 pub fn derivations_are_read()
     ensures derived { TreesAreDerived }
     ensures read { DerivedAreTrees }
-{}
-
-/// So it is of the texts without tests, filters, lists and steps in brackets, which the program
-/// reads so far.
-pub fn plain_derivations_are_read()
-    ensures derived { PlainTreesAreDerived }
-    ensures read { DerivedArePlainTrees }
 {}
 
 /// An expression has a value, or is stuck and why, exactly as the rules of the forms say.

@@ -1,0 +1,15 @@
+pub mod Scanned
+pub mod Meanings
+pub mod Numerals
+pub mod Steps
+pub mod Fewer
+pub mod Chains
+pub mod Sorts
+pub mod Operands
+pub mod Braces
+pub mod Refusals
+pub mod Relations
+pub mod Parts
+pub mod Hosts
+pub mod Named
+pub mod Exprs

@@ -1,0 +1,9 @@
+pub mod Place
+pub mod ExprView
+pub mod Letters
+pub mod Trees
+pub mod Signs
+pub mod Forms
+pub mod Lexed
+pub mod Reads
+pub mod Words

@@ -1,0 +1,3 @@
+-- The words of this crate that the contracts of others cite, from one place.
+pub use Rattle.pb_syntax.specs.ExprView.{comparison_view, expr_view, exprs_view, names_of}
+pub use Rattle.pb_syntax.specs.ExprView.{parts_view, root_view, status_view, term_view}

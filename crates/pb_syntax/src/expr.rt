@@ -1,0 +1,101 @@
+// The tree of an expression or a template.
+use pb_value::Value;
+use std::collections::BTreeMap;
+
+/// A host of a group, by its place there, from 0 on.
+#[derive(Drop)]
+pub struct Member {
+    pub group: String,
+    pub place: usize,
+}
+
+/// What names a host.
+#[derive(Drop)]
+pub enum Term {
+    /// Its name.
+    Named(String),
+    /// `inventory_hostname`, the host itself.
+    This,
+    /// `item`, the item of a loop.
+    Item,
+    /// `groups['g'][0]`
+    Member(Member),
+}
+
+/// Where the value stands that a path begins with.
+#[derive(Drop)]
+pub enum Root {
+    /// A variable of the host.
+    Variable(String),
+    /// `hostvars[host].x`, a variable of that host.
+    Other(Term, String),
+    /// `groups['g'][0]`, the name of a host of a group.
+    Member(Member),
+}
+
+/// Where a value stands, and the fields that are read below it.
+#[derive(Drop)]
+pub struct Path {
+    pub root: Root,
+    pub steps: Vec<String>,
+}
+
+/// How two values are compared; `a != b` is `not a == b`.
+#[derive(Clone, Copy, PartialEq, Eq, Debug)]
+pub enum Comparison {
+    Equal,
+    Less,
+    AtMost,
+    More,
+    AtLeast,
+}
+
+/// What a test asks of a result; `is succeeded` is `is not failed`.
+#[derive(Clone, Copy, PartialEq, Eq, Debug)]
+pub enum Status {
+    Failed,
+    Changed,
+    Skipped,
+}
+
+/// An expression, a template, or a list or record of these.
+#[derive(Drop)]
+pub enum Expr {
+    /// A value that is known before the run; copies of it share what lies inside.
+    Literal(Value),
+    Path(Path),
+    /// `hostvars`, or `hostvars[host]`, without a variable behind it, which is no value.
+    Hostvars(Option<Term>),
+    Not(Box<Expr>),
+    /// `a and b and ..`, from left to right, at least two.
+    And(Vec<Expr>),
+    /// `a or b or ..`, from left to right, at least two.
+    Or(Vec<Expr>),
+    Compare(Comparison, Box<Expr>, Box<Expr>),
+    /// `a in b`
+    In(Box<Expr>, Box<Expr>),
+    /// `host in ansible_play_batch`: the host is active in the batch.
+    InBatch(Term),
+    /// `path is defined`
+    Defined(Path),
+    /// `is defined` of what is no path, which is never fit.
+    Undefinable(Box<Expr>),
+    /// `path is failed` and the like.
+    PathStatus(Status, Path),
+    /// `is failed` and the like, of what is no path.
+    Status(Status, Box<Expr>),
+    /// `path | default(other)`
+    PathOr(Path, Box<Expr>),
+    /// `value | default(other)` of what is no path, whose value it is.
+    ValueOr(Box<Expr>, Box<Expr>),
+    /// `value | length`
+    Length(Box<Expr>),
+    /// `items | join(between)`
+    Join(Box<Expr>, Box<Expr>),
+    /// A text with templates in it, by its parts.
+    Concat(Vec<Expr>),
+    /// A list, be it written in an expression or with a template in a JSON list.
+    List(Vec<Expr>),
+    /// A JSON object in an argument, with a template somewhere in it.
+    Record(BTreeMap<String, Expr>),
+}

@@ -1,0 +1,22 @@
+// The tree of an expression or a template, and how it is read from its text.
+//
+//     let condition = parse_expr(alloc, "out.rc == 0 and not out.changed")?;
+//     let message = parse_template(alloc, "{{ out.stdout | default('nothing') }}")?;
+#![tactic(auto)]
+
+pub mod expr;
+pub mod fault;
+mod filter;
+mod items;
+mod lexer;
+mod literal;
+pub mod parse;
+mod path;
+mod relation;
+pub mod template;
+mod test;
+
+pub use expr::{Comparison, Expr, Member, Path, Root, Status, Term};
+pub use fault::ExprFault;
+pub use parse::parse_expr;
+pub use template::parse_template;

@@ -1,16 +1,16 @@
 -- The layers of values and of expressions.
-use Rattle.std.proofs.Common.{◌≡◌, Bool, Box, Vec, Global, string_bytes, rules}
+use Rattle.std.proofs.Common.{◌≡◌, Bool, Box, Vec, Global, rules}
 use Rattle.pb_semantics.specs.Data.{boolean, opaque}
-use Rattle.pb_language.specs.Expression.{literal, negation, conjunction, disjunction, comparison, membership, undefinable, value_status, path_or, value_or, length_of, joined_by, concatenation, list_of, variable}
+use Rattle.pb_language.specs.Expression.{literal, negation, conjunction, disjunction, comparison, membership, undefinable, path_status, value_status, path_or, value_or, length_of, joined_by, concatenation, list_of}
 use Rattle.pb_value.specs.View.{view}
 use Rattle.pb_value.specs.declared.value.Value as Value-of
 use Rattle.pb_value.specs.declared.value.Value.{Value, the_lemmas as value_lemmas}
-use Rattle.pb_expr.specs.ExprView.{expr_view, exprs_view, names_of, comparison_view, status_view}
-use Rattle.pb_expr.specs.declared.expr.Expr.{Expr, the_lemmas}
-use Rattle.pb_expr.specs.declared.expr.Expr as Expr-of
-use Rattle.pb_expr.specs.declared.expr.Comparison.{Comparison}
-use Rattle.pb_expr.specs.declared.expr.Path.{Path}
-use Rattle.pb_expr.specs.declared.expr.Status.{Status}
+use Rattle.pb_syntax.specs.ExprView.{expr_view, exprs_view, names_of, comparison_view, root_view, status_view}
+use Rattle.pb_syntax.specs.declared.expr.Expr.{Expr, the_lemmas}
+use Rattle.pb_syntax.specs.declared.expr.Expr as Expr-of
+use Rattle.pb_syntax.specs.declared.expr.Comparison.{Comparison}
+use Rattle.pb_syntax.specs.declared.expr.Path.{Path}
+use Rattle.pb_syntax.specs.declared.expr.Status.{Status}
 
 pub view-Bool : (b : Bool) → view (Value-of.Bool b) ≡ boolean b
 view-Bool b = search (rules, value_lemmas)
@@ -30,7 +30,7 @@ view-Undefinable b = search (rules, the_lemmas)
 pub view-Status : (s : Status) (b : Box Expr Global) → expr_view (Expr-of.Status s b) ≡ value_status (status_view s) (expr_view b.value)
 view-Status s b = search (rules, the_lemmas)
 
-pub view-PathOr : (p : Path) (b : Box Expr Global) → expr_view (Expr-of.PathOr p b) ≡ path_or (variable (string_bytes p.root)) (names_of p.steps.items) (expr_view b.value)
+pub view-PathOr : (p : Path) (b : Box Expr Global) → expr_view (Expr-of.PathOr p b) ≡ path_or (root_view p.root) (names_of p.steps.items) (expr_view b.value)
 view-PathOr p b = search (rules, the_lemmas)
 
 pub view-ValueOr : (a b : Box Expr Global) → expr_view (Expr-of.ValueOr a b) ≡ value_or (expr_view a.value) (expr_view b.value)
@@ -59,3 +59,6 @@ view-List v = search (rules, the_lemmas)
 
 pub view-Literal : (v : Value) → expr_view (Expr-of.Literal v) ≡ literal (view v)
 view-Literal v = search (rules, the_lemmas)
+
+pub view-PathStatus : (s : Status) (p : Path) → expr_view (Expr-of.PathStatus s p) ≡ path_status (status_view s) (root_view p.root) (names_of p.steps.items)
+view-PathStatus s p = search (rules, the_lemmas)

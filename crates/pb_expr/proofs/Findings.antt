@@ -1,5 +1,5 @@
 -- The fault and the kind of a form beside those of its operands.
-use Rattle.std.proofs.Common.{◌≡◌, ℕ, suc, ◌+◌, ◌<◌, List, [], ◌∷◌, ◌++◌, length, drop, get_or, String, Global, string_bytes, Bool, true, false, ◌&&◌, Option, Some, None, refl, sym, ap, ◌∙◌}
+use Rattle.std.proofs.Common.{◌≡◌, ℕ, suc, ◌+◌, ◌<◌, List, [], ◌∷◌, ◌++◌, length, drop, get_or, String, Global, string_bytes, Result, Bool, true, false, ◌&&◌, Option, Some, None, refl, sym, ap, ◌∙◌}
 use Rattle.pb_semantics.specs.Kind.{KindData, Slots, Spot, never, recs, nowhere, spot, slot_at}
 use Rattle.pb_semantics.specs.Join.{join}
 use Rattle.pb_language.specs.Expression.{Name, Expressions, expression}
@@ -9,10 +9,15 @@ use Rattle.pb_language.specs.Fit.{Fault, perhaps_missing, first, is_boolean, fie
 use Rattle.pb_language.specs.Narrow.{narrow}
 use Rattle.pb_value.specs.KindView.{kind_view}
 use Rattle.pb_value.specs.declared.kind.Kind.{Kind}
-use Rattle.pb_expr.specs.ExprView.{expr_view, exprs_view, names_of}
-use Rattle.pb_expr.specs.FitView.{LeadsTo, certain}
+use Rattle.pb_syntax.specs.ExprView.{expr_view, exprs_view, names_of}
+use Rattle.pb_expr.specs.FitView.{LeadsTo, certain, fault_found}
+use Rattle.pb_expr.specs.declared.fit.KindFault.{KindFault}
+use Rattle.pb_expr.specs.declared.fit.KindFault.TheVariants as faults
+use Rattle.pb_semantics.specs.Gives.{FaultGives, Gives}
+use Rattle.std.proofs.lemmas.Result.{err_from_is_err_and}
+use Rattle.std.specs.Result.{IsErrAnd}
 use Rattle.pb_value.specs.Growing.{joined_onto}
-use Rattle.pb_expr.specs.declared.expr.Expr.{Expr}
+use Rattle.pb_syntax.specs.declared.expr.Expr.{Expr}
 use Rattle.pb_expr.proofs.Turns.{drop-at}
 
 -- a chain knows at each operand what those before it taught
@@ -73,3 +78,31 @@ lost-below ns i n a k lt is lost =
 pub shown-kind : (s : Spot) (m : KindData) → spot_kind s ≡ default_kind (shown_spot true s) m
 shown-kind nowhere m = refl
 shown-kind (spot a k) m = refl
+
+-- the kind at the end of steps is the same, be the first certain or not
+below-either : (ns : List Name) (a b : Bool) (s : Spot) → spot_kind (path_spot ns (below_spot a s)) ≡ spot_kind (path_spot ns (below_spot b s))
+below-either ns a b nowhere = refl
+below-either [] a b (spot c k) = refl
+below-either (n ∷ ns) a b (spot c k) = below-either ns (a && c) (b && c) (step_spot n k)
+
+pub any-certainty : (ns : List Name) (a b : Bool) (k : KindData) → spot_kind (path_spot ns (spot a k)) ≡ spot_kind (path_spot ns (spot b k))
+any-certainty [] a b k = refl
+any-certainty (n ∷ ns) a b k = below-either ns a b (step_spot n k)
+
+pub and-true : (b : Bool) → b && true ≡ b
+and-true true = refl
+and-true false = refl
+
+-- a fault that ends a chain is that of the chain
+stopped : (e : KindFault) (f g : Option Fault) → FaultGives (fault_found e) f → FaultGives (fault_found e) (first f g)
+stopped (faults.Unfit u) f g h = ap (λ x. first x g) h
+stopped faults.NoMemory f g h = tt
+
+pub chain-stops : (r : Result Kind KindFault) (e : KindFault) (f x a y : Option Fault) → IsErrAnd r (λ d. d ≡ e) → FaultGives (fault_found e) f → y ≡ first f x → Gives (λ (k : Kind). None) fault_found r (first y a)
+chain-stops r e f x a y is h k =
+    let p = err_from_is_err_and r is in
+    rw (p.1, p.2, k) (stopped e (first f x) a (stopped e f x h))
+
+pub never-steps : (ns : List Name) → None ≡ steps_fault ns never
+never-steps [] = refl
+never-steps (n ∷ ns) = refl

@@ -8,9 +8,9 @@ use Rattle.pb_language.specs.World.{World}
 use Rattle.pb_language.specs.Evaluation.{Outcome, value, stuck, wrong_sort, then_go, plain_text, with_text, joined_items, eval, eval_text}
 use Rattle.pb_value.specs.View.{view, items_view}
 use Rattle.pb_value.specs.declared.value.Value.{Value}
-use Rattle.pb_expr.specs.ExprView.{expr_view, exprs_view}
+use Rattle.pb_syntax.specs.ExprView.{expr_view, exprs_view}
 use Rattle.pb_expr.specs.OwnWorld.{shown}
-use Rattle.pb_expr.specs.declared.expr.Expr.{Expr}
+use Rattle.pb_syntax.specs.declared.expr.Expr.{Expr}
 use Rattle.pb_expr.proofs.Turns.{drop-at}
 
 -- a text before the rest of it

@@ -10,8 +10,8 @@ use Rattle.pb_language.specs.Scope.{Scope, without_slot, with_slot}
 use Rattle.pb_language.specs.Kinds.{known_kind, known_slots, kind_of, parts_slots}
 use Rattle.pb_value.specs.View.{view, fields_view}
 use Rattle.pb_value.specs.declared.value.Value.{Value}
-use Rattle.pb_expr.specs.ExprView.{expr_view, parts_view}
-use Rattle.pb_expr.specs.declared.expr.Expr.{Expr}
+use Rattle.pb_syntax.specs.ExprView.{expr_view, parts_view}
+use Rattle.pb_syntax.specs.declared.expr.Expr.{Expr}
 use Rattle.pb_expr.proofs.Ascending.{Above, Ascending, above-middle}
 
 -- the slots of entries, each certain, of which the kind is known

@@ -4,15 +4,15 @@ use Rattle.std.proofs.Math.Seq.{drop-cons}
 use Rattle.std.proofs.lemmas.List.{drop_all}
 use Rattle.pb_semantics.specs.Data.{Data, Fields, count_of, boolean, list, rec, opaque, no_fields, field}
 use Rattle.pb_language.specs.Evaluates.{is_unreadable}
-use Rattle.pb_language.specs.Expression.{Name}
+use Rattle.pb_language.specs.Expression.{Name, Status}
 use Rattle.pb_language.specs.World.{World}
-use Rattle.pb_language.specs.Evaluation.{Outcome, field_count, value, stuck, no_field, or_stuck, then_go, given, value_else, or_else, found, read, value_below, eval, eval_all, eval_any, eval_items, eval_parts}
+use Rattle.pb_language.specs.Evaluation.{Outcome, Stuck, Look, there, absent, failing, is_there, is_value, status_of, field_count, value, stuck, no_field, or_stuck, then_go, given, value_else, or_else, found, read, value_below, eval, eval_all, eval_any, eval_items, eval_parts}
 use Rattle.pb_value.specs.Append.{append_fields}
 use Rattle.pb_value.specs.View.{view, items_view, fields_of, fields_view, truth}
 use Rattle.pb_value.specs.declared.value.Value.{Value}
-use Rattle.pb_expr.specs.ExprView.{expr_view, exprs_view, parts_view, names_of, field_in}
-use Rattle.pb_expr.specs.OwnWorld.{shown, value_read}
-use Rattle.pb_expr.specs.declared.expr.Expr.{Expr}
+use Rattle.pb_syntax.specs.ExprView.{expr_view, exprs_view, parts_view, names_of}
+use Rattle.pb_expr.specs.OwnWorld.{end_of, field_in, shown, value_read}
+use Rattle.pb_syntax.specs.declared.expr.Expr.{Expr}
 use Rattle.pb_expr.proofs.Outcomes.{and-true, and-false, and-spoilt, or-true, or-false, or-spoilt, after_items, items-spoilt, items-step, items-end, after_fields, fields-spoilt, fields-step}
 
 pub drop-at : {A : Type 0} → (xs : List A) (i : ℕ) (x : A) → i < length xs → x ≡ get_or xs i x → drop i xs ≡ x ∷ drop (i + 1) xs
@@ -104,8 +104,8 @@ below-nothing n ns d h = refl
 
 pub steps-turn : (ns : List (String Global)) (i : ℕ) (n : String Global) (d e : Data) → i < length ns → n ≡ get_or ns i n → Some e ≡ field_in (string_bytes n) d
     → value_below (names_of (drop i ns)) d ≡ value_below (names_of (drop (i + 1) ns)) e
-steps-turn ns i n d e lt is there =
-    ap (λ ms. value_below (names_of ms) d) (drop-at ns i n lt is) ∙ below-field (string_bytes n) (names_of (drop (i + 1) ns)) d e there
+steps-turn ns i n d e lt is found-field =
+    ap (λ ms. value_below (names_of ms) d) (drop-at ns i n lt is) ∙ below-field (string_bytes n) (names_of (drop (i + 1) ns)) d e found-field
 
 pub steps-lost : (ns : List (String Global)) (i : ℕ) (n : String Global) (d : Data) → i < length ns → n ≡ get_or ns i n → None ≡ field_in (string_bytes n) d
     → value_read (value_below (names_of (drop i ns)) d) ≡ None
@@ -115,37 +115,59 @@ steps-lost ns i n d lt is none =
 pub steps-done : (ns : List (String Global)) (i : ℕ) (d : Data) → length ns ≤ i → value_read (value_below (names_of (drop i ns)) d) ≡ Some d
 steps-done ns i d past = ap (λ ms. value_read (value_below (names_of ms) d)) (drop_all i ns past)
 
--- a value that is read, and one that isn't
-pub read-some : (o : Outcome) (d : Data) → Some d ≡ value_read o → d ≡ shown o
-read-some (value e) d h = cc
-read-some (stuck s) d h = cc
+-- what is at the end of a path, beside the path itself
+found-read : (o : Outcome) → shown (read [] (found (value_read o))) ≡ shown o
+found-read (value d) = refl
+found-read (stuck s) = refl
 
-pub read-none : (o : Outcome) → None ≡ value_read o → opaque ≡ shown o
-read-none (value e) h = cc
-read-none (stuck s) h = refl
+pub end-read : (ns : List Name) (l : Look) → shown (read [] (end_of ns l)) ≡ shown (read ns l)
+end-read ns (there d) = found-read (value_below ns d)
+end-read ns absent = refl
+end-read ns (failing s) = refl
 
--- a path, and what stands for it where nothing is there
+found-there : (o : Outcome) → is_there [] (found (value_read o)) ≡ value (boolean (is_value o))
+found-there (value d) = refl
+found-there (stuck s) = refl
+
+pub end-there : (ns : List Name) (l : Look) → is_there [] (end_of ns l) ≡ is_there ns l
+end-there ns (there d) = found-there (value_below ns d)
+end-there ns absent = refl
+end-there ns (failing s) = refl
+
+found-status : (s : Status) (o : Outcome) → shown (then_go (read [] (found (value_read o))) (status_of s)) ≡ shown (then_go o (status_of s))
+found-status s (value d) = refl
+found-status s (stuck t) = refl
+
+pub end-status : (s : Status) (ns : List Name) (l : Look) → shown (then_go (read [] (end_of ns l)) (status_of s)) ≡ shown (then_go (read ns l) (status_of s))
+end-status s ns (there d) = found-status s (value_below ns d)
+end-status s ns absent = refl
+end-status s ns (failing t) = refl
+
+found-or : (o p : Outcome) → or_else [] (found (value_read o)) p ≡ value_else o p
+found-or (value d) p = refl
+found-or (stuck s) p = refl
+
+end-or : (ns : List Name) (l : Look) (o : Outcome) → or_else [] (end_of ns l) o ≡ or_else ns l o
+end-or ns (there d) o = found-or (value_below ns d) o
+end-or ns absent o = refl
+end-or ns (failing s) o = refl
+
 given-shown : (o : Outcome) → shown (then_go o given) ≡ shown o
 given-shown (stuck s) = refl
 given-shown (value opaque) = refl
 given-shown (value d) = refl
 
--- where a path leads, of a value that is there
-else-some : (p o : Outcome) (d : Data) → Some d ≡ value_read p → d ≡ shown (value_else p o)
-else-some (value e) o d h = cc
-else-some (stuck s) o d h = cc
+-- a path, and what stands for it where nothing is there
+pub or-there : (ns : List Name) (l : Look) (o : Outcome) (d : Data) → there d ≡ end_of ns l → d ≡ shown (or_else ns l o)
+or-there ns l o d h = ap (λ k. shown (or_else [] k o)) h ∙ ap shown (end-or ns l o)
 
-else-none : (p o : Outcome) → None ≡ value_read p → shown o ≡ shown (value_else p o)
-else-none (value e) o h = cc
-else-none (stuck s) o h = refl
+pub or-absent : (ns : List Name) (l : Look) (o : Outcome) → absent ≡ end_of ns l → shown o ≡ shown (or_else ns l (then_go o given))
+or-absent ns l o h =
+    sym (given-shown o)
+    ∙ ap (λ k. shown (or_else [] k (then_go o given))) h ∙ ap shown (end-or ns l (then_go o given))
 
-pub or-some : (ns : List Name) (v : Option Data) (o : Outcome) (d : Data) → Some d ≡ value_read (read ns (found v)) → d ≡ shown (or_else ns (found v) o)
-or-some ns None o d h = cc
-or-some ns (Some e) o d h = else-some (value_below ns e) o d h
-
-pub or-none : (ns : List Name) (v : Option Data) (o : Outcome) → None ≡ value_read (read ns (found v)) → shown o ≡ shown (or_else ns (found v) (then_go o given))
-or-none ns None o h = sym (given-shown o)
-or-none ns (Some e) o h = sym (given-shown o) ∙ else-none (value_below ns e) (then_go o given) h
+pub or-failing : (ns : List Name) (l : Look) (o : Outcome) (s : Stuck) → failing s ≡ end_of ns l → opaque ≡ shown (or_else ns l o)
+or-failing ns l o s h = ap (λ k. shown (or_else [] k o)) h ∙ ap shown (end-or ns l o)
 
 -- how many items and fields there are
 pub items_count : (vs : List Value) → length vs ≡ count_of (items_view vs)

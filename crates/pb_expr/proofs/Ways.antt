@@ -1,11 +1,8 @@
 -- The ways to an answer of a chain, one after the other.
-use Rattle.std.proofs.Common.{◌≡◌, List, [], ◌∷◌, ◌++◌, Bool, not, String, Global, refl, sym, ap, ◌∙◌, append_assoc}
-use Rattle.std.specs.declared.collections.btree_map.BTreeMap.{BTreeMap}
-use Rattle.pb_language.specs.Expression.{Expression, Expressions, no_expressions, expression}
-use Rattle.pb_language.specs.Narrow.{narrow, narrow_some}
+use Rattle.std.proofs.Common.{◌≡◌, List, [], ◌∷◌, ◌++◌, length, Bool, not, refl, sym, ap, ◌∙◌, append_assoc, arith}
+use Rattle.pb_language.specs.Expression.{Name, Status, Expression, path_status, Root, Expressions, no_expressions, expression}
+use Rattle.pb_language.specs.Narrow.{answers, cases_with, changed_at, changed_spot, narrow, narrow_some, on_results, teach}
 use Rattle.pb_language.specs.Scope.{Scope, both_scopes}
-use Rattle.pb_value.specs.declared.kind.Kind.{Kind}
-use Rattle.pb_value.specs.declared.kind.Slot.{Slot}
 use Rattle.pb_expr.specs.TaughtView.{scope_view, scopes_view, taught_by}
 use Rattle.pb_expr.specs.declared.scope.Taught.{Taught}
 
@@ -36,22 +33,22 @@ pub met-last : (ds : List Scope) (d e : Scope) → met_by (ds ++ d ∷ []) e ≡
 met-last [] d e = refl
 met-last (f ∷ ds) d e = ap (both_scopes f) (met-last ds d e)
 
-scopes-last : (m : BTreeMap (String Global) (Slot Kind) Global) (ws : List Taught) (w : Taught) → scopes_view m (ws ++ w ∷ []) ≡ scopes_view m ws ++ scope_view m w ∷ []
+scopes-last : (m : Scope) (ws : List Taught) (w : Taught) → scopes_view m (ws ++ w ∷ []) ≡ scopes_view m ws ++ scope_view m w ∷ []
 scopes-last m [] w = refl
 scopes-last m (v ∷ ws) w = ap (λ ds. scope_view m v ∷ ds) (scopes-last m ws w)
 
 -- the last of the ways is taken, and met with all behind it
-pub last-taken : (m : BTreeMap (String Global) (Slot Kind) Global) (us ws : List Taught) (w : Taught) (c : Scope) → us ≡ ws ++ w ∷ [] → taught_by (scopes_view m us) c ≡ met_by (scopes_view m ws) (scope_view m w)
+pub last-taken : (m : Scope) (us ws : List Taught) (w : Taught) (c : Scope) → us ≡ ws ++ w ∷ [] → taught_by (scopes_view m us) c ≡ met_by (scopes_view m ws) (scope_view m w)
 last-taken m us ws w c is = ap (λ vs. taught_by (scopes_view m vs) c) is ∙ ap (λ ds. taught_by ds c) (scopes-last m ws w) ∙ taught-last (scopes_view m ws) (scope_view m w) c
 
-pub way-met : (m : BTreeMap (String Global) (Slot Kind) Global) (us ws : List Taught) (w all next : Taught) → us ≡ ws ++ w ∷ [] → scope_view m next ≡ both_scopes (scope_view m w) (scope_view m all)
+pub way-met : (m : Scope) (us ws : List Taught) (w all next : Taught) → us ≡ ws ++ w ∷ [] → scope_view m next ≡ both_scopes (scope_view m w) (scope_view m all)
     → met_by (scopes_view m us) (scope_view m all) ≡ met_by (scopes_view m ws) (scope_view m next)
 way-met m us ws w all next is met =
     ap (λ vs. met_by (scopes_view m vs) (scope_view m all)) is ∙ ap (λ ds. met_by ds (scope_view m all)) (scopes-last m ws w)
     ∙ met-last (scopes_view m ws) (scope_view m w) (scope_view m all) ∙ ap (met_by (scopes_view m ws)) (sym met)
 
 -- a way more
-pub ways-turn : (m : BTreeMap (String Global) (Slot Kind) Global) (us ws : List Taught) (way here next : Taught) (e : Expression) (es : Expressions) (b : Bool)
+pub ways-turn : (m : Scope) (us ws : List Taught) (way here next : Taught) (e : Expression) (es : Expressions) (b : Bool)
     → scope_view m way ≡ narrow (scope_view m here) e b → scope_view m next ≡ narrow (scope_view m here) e (not b) → ws ≡ us ++ way ∷ []
     → scopes_view m us ++ ways (scope_view m here) (expression e es) b ≡ scopes_view m ws ++ ways (scope_view m next) es b
 ways-turn m us ws way here next e es b is then pushed =
@@ -61,5 +58,13 @@ ways-turn m us ws way here next e es b is then pushed =
     ∙ ap (λ ds. ds ++ rest) (sym (scopes-last m us way) ∙ ap (scopes_view m) (sym pushed))
 
 -- where there is a way, what was known before them isn't asked
-pub same-last : (m : BTreeMap (String Global) (Slot Kind) Global) (us ws : List Taught) (way : Taught) (c d : Scope) → ws ≡ us ++ way ∷ [] → taught_by (scopes_view m ws) c ≡ taught_by (scopes_view m ws) d
+pub same-last : (m : Scope) (us ws : List Taught) (way : Taught) (c d : Scope) → ws ≡ us ++ way ∷ [] → taught_by (scopes_view m ws) c ≡ taught_by (scopes_view m ws) d
 same-last m us ws way c d pushed = last-taken m ws us way c pushed ∙ sym (last-taken m ws us way d pushed)
+
+pub no-entries : {A : Type 0} → (es : List A) → length es ≡ 0 → es ≡ []
+no-entries [] h = refl
+no-entries (e ∷ es) h = absurd (omega (arith, h))
+
+-- what a test of a status at the end of a path teaches
+pub status-narrowed : (c d : Scope) (e : Expression) (s : Status) (r : Root) (ns : List Name) (b : Bool) → e ≡ path_status s r ns → d ≡ teach c (changed_spot (changed_at ns (on_results (cases_with (answers s b))))) r → d ≡ narrow c e b
+status-narrowed c d e s r ns b is h = h ∙ ap (λ x. narrow c x b) (sym is)

@@ -1,12 +1,8 @@
-pub mod Place
-pub mod ExprView
-pub mod FitView
+pub mod OwnScope
 pub mod OwnWorld
+pub mod SpotFound
 pub mod TaughtView
-pub mod Letters
-pub mod Trees
-pub mod Signs
-pub mod Forms
-pub mod Lexed
-pub mod Reads
+pub mod ChangeView
+pub mod FitView
+pub mod Joined
 pub mod Words

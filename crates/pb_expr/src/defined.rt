@@ -6,7 +6,7 @@ ghost use Rattle.pb_semantics.specs.Words.{Cases, results, slot_at, spot};
 ghost use Rattle.pb_language.specs.Narrow.{can_have, cases_stepped, defined_at, may_step};
 ghost use Rattle.pb_language.specs.Narrow.{there_spot, with_step};
 ghost use Rattle.pb_value.specs.Words.{cases_view, kind_view, slots_view};
-ghost use Rattle.pb_expr.specs.ExprView.{names_of};
+ghost use Rattle.pb_syntax.specs.ExprView.{names_of};
 
 use crate::teach::{case_with, record_with, result_of};
 use pb_value::below::find;

@@ -1,20 +1,21 @@
 // The value of an expression.
-ghost use Rattle.std.specs.Prelude.{◌≡◌, IfOk, MatchOption, false, is_some, option_map};
-ghost use Rattle.std.specs.Prelude.{string_bytes, true};
+ghost use Rattle.std.specs.Prelude.{[], ◌≡◌, IfOk, MatchOption, false, is_some, true};
 ghost use Rattle.pb_semantics.specs.Words.{field_value, is_part, list};
-ghost use Rattle.pb_language.specs.Expression.{path_status};
+ghost use Rattle.pb_language.specs.Evaluation.{is_there as there_found, look, then_go};
+ghost use Rattle.pb_language.specs.Expression.{defined, path_status};
 ghost use Rattle.pb_language.specs.Words.{eval as outcome_of, eval_all, eval_any, eval_items};
-ghost use Rattle.pb_language.specs.Words.{eval_parts, eval_text, found, found_in, is_unreadable};
-ghost use Rattle.pb_language.specs.Words.{path_or, read, value_below, variable};
+ghost use Rattle.pb_language.specs.Words.{eval_parts, eval_text, found_in, is_unreadable, path_or};
+ghost use Rattle.pb_language.specs.Words.{read, status_of as status_found};
 ghost use Rattle.pb_value.specs.Words.{fields_view, items_view, view};
-ghost use Rattle.pb_expr.specs.ExprView.{expr_view, exprs_view, field_in, names_of, parts_view};
-ghost use Rattle.pb_expr.specs.ExprView.{status_view};
-ghost use Rattle.pb_expr.specs.OwnWorld.{shown, value_read};
+ghost use Rattle.pb_syntax.specs.ExprView.{expr_view, exprs_view, names_of, parts_view};
+ghost use Rattle.pb_syntax.specs.ExprView.{root_view, status_view};
+ghost use Rattle.pb_expr.specs.OwnWorld.{look_view, shown};
 
 use crate::equal::{has_item, holds_opaque, items_hold_opaque};
-use crate::expr::{Expr, Path, Status};
 use crate::filter::{append, comparison_of, is_plain, joined, length_of, negation_of, status_of};
+use crate::look::{Look, activity_of, look_at};
 use crate::vars::Vars;
+use pb_syntax::{Expr, Path, Status};
 use pb_value::{Fields, Value, field_of, put_field};
 use std::alloc::{AllocError, Global};
 use std::collections::BTreeMap;
@@ -30,7 +31,8 @@ pub fn eval<V: Vars>(alloc: Global, expr: &Expr, vars: &V) -> Result<Value, Allo
 {
     match expr {
         Expr::Literal(known) => known.clone(),
-        Expr::Path(path) => value_of_path(path, vars),
+        Expr::Path(path) => value_of_path(alloc, path, vars),
+        Expr::Hostvars(_) => Ok(Value::Opaque),
         Expr::Not(operand) => Ok(negation_of(eval(alloc, operand, vars)?)),
         Expr::And(operands) => all_of(alloc, operands, vars),
         Expr::Or(operands) => any_of(alloc, operands, vars),
@@ -42,9 +44,10 @@ pub fn eval<V: Vars>(alloc: Global, expr: &Expr, vars: &V) -> Result<Value, Allo
             let part = eval(alloc, part, vars)?;
             Ok(membership_of(pair_of(alloc, whole, vars, part)?))
         }
-        Expr::Defined(path) => Ok(Value::Bool(path_end(path, vars).is_some())),
+        Expr::InBatch(host) => Ok(activity_of(host, vars)),
+        Expr::Defined(path) => is_defined(alloc, path, vars),
         Expr::Undefinable(_) => Ok(Value::Opaque),
-        Expr::PathStatus(status, path) => Ok(status_at(*status, path, vars)),
+        Expr::PathStatus(status, path) => status_at(alloc, *status, path, vars),
         Expr::Status(status, of) => Ok(status_of(*status, &eval(alloc, of, vars)?)),
         Expr::PathOr(path, other) => value_or(alloc, path, other, vars),
         Expr::ValueOr(value, _) => eval(alloc, value, vars),
@@ -152,12 +155,13 @@ fn value_or<V: Vars>(
     vars: &V,
 ) -> Result<Value, AllocError>
     ensures { IfOk result (λ v. view v ≡ shown (outcome_of (V.world vars.now)
-        (path_or (variable (string_bytes path.now.root)) (names_of path.now.steps.items)
+        (path_or (root_view path.now.root) (names_of path.now.steps.items)
         (expr_view other.now)))) }
 {
-    match path_end(path, vars) {
-        Some(value) => value.clone(),
-        None => eval(alloc, other, vars),
+    match look_at(alloc, path, vars)? {
+        Look::There(value) => Ok(value),
+        Look::Absent => eval(alloc, other, vars),
+        Look::Failing => Ok(Value::Opaque),
     }
 }
 
@@ -178,55 +182,61 @@ fn text_of<V: Vars>(alloc: Global, parts: &[Expr], vars: &V) -> Result<Value, Al
     Value::of_text(alloc, text)
 }
 
-fn value_of_path<V: Vars>(path: &Path, vars: &V) -> Result<Value, AllocError>
-    ensures { IfOk result (λ v. view v
-        ≡ shown (read (names_of path.now.steps.items)
-        (found (field_value (string_bytes path.now.root) (V.world vars.now).mine)))) }
+fn value_of_path<V: Vars>(alloc: Global, path: &Path, vars: &V) -> Result<Value, AllocError>
+    ensures { IfOk result (λ v. view v ≡ shown (read (names_of path.now.steps.items)
+        (look (V.world vars.now) (root_view path.now.root)))) }
 {
-    match path_end(path, vars) {
-        Some(value) => value.clone(),
-        None => Ok(Value::Opaque),
+    Ok(value_there(look_at(alloc, path, vars)?))
+}
+
+fn value_there(end: Look) -> Value
+    ensures { view result ≡ shown (read [] (look_view end)) }
+{
+    match end {
+        Look::There(value) => value,
+        Look::Absent | Look::Failing => Value::Opaque,
+    }
+}
+
+// Whether a value stands at the end of the path.
+fn is_defined<V: Vars>(alloc: Global, path: &Path, vars: &V) -> Result<Value, AllocError>
+    ensures { IfOk result (λ v. view v ≡ shown (outcome_of (V.world vars.now)
+        (defined (root_view path.now.root) (names_of path.now.steps.items)))) }
+{
+    Ok(is_there(&look_at(alloc, path, vars)?))
+}
+
+fn is_there(end: &Look) -> Value
+    ensures { view result ≡ shown (there_found [] (look_view end.now)) }
+{
+    match end {
+        Look::There(_) => Value::Bool(true),
+        Look::Absent => Value::Bool(false),
+        Look::Failing => Value::Opaque,
     }
 }
 
 // What the test says of the value at the end of the path.
-fn status_at<V: Vars>(status: Status, path: &Path, vars: &V) -> Value
-    ensures { view result ≡ shown (outcome_of (V.world vars.now) (path_status (status_view status)
-        (variable (string_bytes path.now.root)) (names_of path.now.steps.items))) }
+fn status_at<V: Vars>(
+    alloc: Global,
+    status: Status,
+    path: &Path,
+    vars: &V,
+) -> Result<Value, AllocError>
+    ensures { IfOk result (λ v. view v ≡ shown (outcome_of (V.world vars.now)
+        (path_status (status_view status) (root_view path.now.root)
+        (names_of path.now.steps.items)))) }
 {
-    match path_end(path, vars) {
-        Some(value) => status_of(status, value),
-        None => Value::Opaque,
-    }
+    Ok(status_there(status, &look_at(alloc, path, vars)?))
 }
 
-// The value at the end of the path, where there is one.
-fn path_end<'v, V: Vars>(path: &Path, vars: &'v V) -> Option<&'v Value>
-    ensures { option_map (λ v. view v.now) result
-        ≡ value_read (read (names_of path.now.steps.items)
-        (found (field_value (string_bytes path.now.root) (V.world vars.now).mine))) }
+fn status_there(status: Status, end: &Look) -> Value
+    ensures { view result
+        ≡ shown (then_go (read [] (look_view end.now)) (status_found (status_view status))) }
 {
-    inner_value(vars.value(path.root.as_str())?, &path.steps)
-}
-
-// The value at the end of the steps, where there is one.
-fn inner_value<'v>(outer: &'v Value, steps: &[String]) -> Option<&'v Value>
-    ensures { option_map (λ v. view v.now) result
-        ≡ value_read (value_below (names_of steps.now) (view outer.now)) }
-{
-    let mut here = outer;
-    for step in steps {
-        here = field_inside(here, step.as_str())?;
-    }
-    Some(here)
-}
-
-fn field_inside<'v>(outer: &'v Value, name: &str) -> Option<&'v Value>
-    ensures { option_map (λ v. view v.now) result ≡ field_in name.now (view outer.now) }
-{
-    match outer {
-        Value::Rec(fields) => field_of(fields, name),
-        _ => None,
+    match end {
+        Look::There(value) => status_of(status, value),
+        Look::Absent | Look::Failing => Value::Opaque,
     }
 }
 

@@ -10,11 +10,11 @@ ghost use Rattle.pb_language.specs.Words.{joined as joined_values, joined_items,
 ghost use Rattle.pb_language.specs.Words.{may_be_truth as may_be_told, negated, status_name};
 ghost use Rattle.pb_language.specs.Words.{status_of as status_found};
 ghost use Rattle.pb_value.specs.Words.{fields_view, items_view, view};
-ghost use Rattle.pb_expr.specs.ExprView.{comparison_view, status_view};
+ghost use Rattle.pb_syntax.specs.ExprView.{comparison_view, status_view};
 ghost use Rattle.pb_expr.specs.OwnWorld.{shown};
 
 use crate::equal::{equal, holds_opaque};
-use crate::expr::{Comparison, Status};
+use pb_syntax::{Comparison, Status};
 use pb_value::render::render;
 use pb_value::{Fields, Value, field_of};
 use std::alloc::{AllocError, Global};

@@ -1,52 +1,41 @@
 // The kind of an expression in an environment, and why it has none.
 ghost use Rattle.std.specs.Prelude.{◌&&◌, ◌||◌, ◌∷◌, ◌≡◌, Bool, IfOk, List, MatchResult, None};
-ghost use Rattle.std.specs.Prelude.{OnOk, Some, not, option_map, string_bytes, true, ℕ};
-ghost use Rattle.pb_semantics.specs.Words.{Cases, Gives, any_case_holds, any_slot_holds, booleans};
-ghost use Rattle.pb_semantics.specs.Words.{count_of, holds_any as any_in, lists, put_slot, recs};
+ghost use Rattle.std.specs.Prelude.{Some, not, option_map, true, ℕ};
+ghost use Rattle.pb_semantics.specs.Words.{Cases, Gives, booleans, lists, recs};
 ghost use Rattle.pb_semantics.specs.Words.{results, slot_at as spot_at, spot, texts};
 ghost use Rattle.pb_semantics.specs.Kind.{ints};
 ghost use Rattle.pb_language.specs.Expression.{path as path_of};
+ghost use Rattle.pb_language.specs.Fit.{active_fault, term_fault, tested_fault};
 ghost use Rattle.pb_language.specs.Words.{are_booleans, are_plain, asks, can_compare, can_find};
 ghost use Rattle.pb_language.specs.Words.{chain_fault, count, equal, fault, fields_fault, first};
 ghost use Rattle.pb_language.specs.Words.{has_length as can_be_counted, is_any as is_anything};
 ghost use Rattle.pb_language.specs.Words.{is_boolean, is_plain_list as is_plain_list_kind};
 ghost use Rattle.pb_language.specs.Words.{is_result as is_result_kind, is_text as is_textual};
 ghost use Rattle.pb_language.specs.Words.{items_fault, items_kind, kind_of as kind_found};
-ghost use Rattle.pb_language.specs.Words.{known_items, known_kind, known_slots, parts_fault};
-ghost use Rattle.pb_language.specs.Words.{parts_slots, path_or, path_spot, read_fault, root_spot};
-ghost use Rattle.pb_language.specs.Words.{spot_kind, steps_fault, variable, wrong_kind};
-ghost use Rattle.pb_value.specs.Words.{cases_view, fields_view, items_view, kind_view, slots_view};
-ghost use Rattle.pb_value.specs.Words.{view};
-ghost use Rattle.pb_expr.specs.ExprView.{comparison_view, expr_view, exprs_view, names_of};
-ghost use Rattle.pb_expr.specs.ExprView.{parts_view};
+ghost use Rattle.pb_language.specs.Words.{parts_fault, parts_slots, path_or, path_spot, root_spot};
+ghost use Rattle.pb_language.specs.Words.{spot_kind, steps_fault, wrong_kind};
+ghost use Rattle.pb_value.specs.Words.{kind_view, slots_view};
+ghost use Rattle.pb_syntax.specs.ExprView.{comparison_view, expr_view, exprs_view, names_of};
+ghost use Rattle.pb_syntax.specs.ExprView.{parts_view, root_view, term_view};
 ghost use Rattle.pb_expr.specs.FitView.{LeadsTo, certain, fault_found, fault_view};
-ghost use Rattle.pb_expr.specs.TaughtView.{scope_view};
+ghost use Rattle.pb_expr.specs.TaughtView.{scope_view, slot_given};
 
-use crate::expr::{Comparison, Expr, Path};
 use crate::kinds::{
-    has_length, is_int, is_plain, is_plain_list, is_result, is_text, kind_at_end, kind_or,
+    has_length, holds_any, is_int, is_plain, is_plain_list, is_result, is_text, kind_at_end,
+    kind_or,
 };
+use crate::known::Known;
+use crate::literal::{literal_kind, put_certain};
 use crate::narrow::narrow;
-use crate::scope::{Taught, is_present, slot_of};
+use crate::roots::root_slot;
+use crate::scope::{Taught, is_present};
+use crate::unfit::{Unfit, active_unfit, read_unfit, term_unfit, tested_unfit};
+use pb_syntax::{Comparison, Expr, Path, Root, Term};
 use pb_value::below::find;
-use pb_value::{Case, Fields, Kind, Slot, Slots, Value, join_all, put_slot};
+use pb_value::{Kind, Slot, Slots, join_all};
 use std::alloc::{AllocError, AllocFailed, Global};
 use std::collections::BTreeMap;
 use thiserror::Error;
-
-/// Why an expression isn't fit.
-#[derive(Clone, Copy, PartialEq, Eq, Debug, Error)]
-pub enum Unfit {
-    /// A name that may hold nothing.
-    #[error("a name that may hold nothing")]
-    Undefined,
-    /// A field that may be missing.
-    #[error("a field that may be missing")]
-    MissingField,
-    /// An operand of another kind than its form asks.
-    #[error("an operand of another kind than its form asks")]
-    WrongKind,
-}
 
 /// Why an expression has no kind.
 #[derive(Debug, Drop, Error)]
@@ -82,20 +71,21 @@ impl<T: Drop> From<AllocFailed<T>> for KindFault {
 /// The kind of a fit expression by what is known of variables and what tests have taught, or else
 /// the first fault from left to right, operands before the form round them.
 #[cycle(kind_of)]
-pub fn kind_of(
+pub fn kind_of<K: Known>(
     alloc: Global,
     expr: &Expr,
-    known: &Slots,
+    known: &K,
     taught: &Taught,
 ) -> Result<Kind, KindFault>
     ensures fault { Gives (λ k. None) fault_found result
-        (fault (scope_view known.now taught.now) (expr_view expr.now)) }
+        (fault (scope_view (K.scope known.now) taught.now) (expr_view expr.now)) }
     ensures kind { IfOk result (λ k. kind_view k
-        ≡ kind_found (scope_view known.now taught.now) (expr_view expr.now)) }
+        ≡ kind_found (scope_view (K.scope known.now) taught.now) (expr_view expr.now)) }
 {
     match expr {
         Expr::Literal(known) => Ok(literal_kind(alloc, known)?),
-        Expr::Path(path) => path_kind(path, known, taught),
+        Expr::Path(path) => path_kind(alloc, path, known, taught),
+        Expr::Hostvars(_) => Err(KindFault::Unfit(Unfit::WrongKind)),
         Expr::Not(operand) => negation_kind(kind_of(alloc, operand, known, taught)?),
         Expr::And(operands) => chain_kind(alloc, operands, true, known, taught),
         Expr::Or(operands) => chain_kind(alloc, operands, false, known, taught),
@@ -107,9 +97,10 @@ pub fn kind_of(
             let part = kind_of(alloc, part, known, taught)?;
             membership_kind(pair_of(alloc, whole, known, taught, part)?)
         }
-        Expr::Defined(_) => Ok(Kind::Bool),
+        Expr::InBatch(term) => in_batch_kind(known, taught, term),
+        Expr::Defined(path) => defined_kind(known, taught, &path.root),
         Expr::Undefinable(of) => no_kind(kind_of(alloc, of, known, taught)?),
-        Expr::PathStatus(_, path) => status_kind(path_kind(path, known, taught)?),
+        Expr::PathStatus(_, path) => status_kind(path_kind(alloc, path, known, taught)?),
         Expr::Status(_, of) => status_kind(kind_of(alloc, of, known, taught)?),
         Expr::PathOr(path, other) => path_or_kind(alloc, path, other, known, taught),
         Expr::ValueOr(value, other) => {
@@ -129,18 +120,18 @@ pub fn kind_of(
 
 // The left operand's kind, and the right one's.
 #[cycle(kind_of)]
-fn pair_of(
+fn pair_of<K: Known>(
     alloc: Global,
     right: &Expr,
-    known: &Slots,
+    known: &K,
     taught: &Taught,
     left: Kind,
 ) -> Result<(Kind, Kind), KindFault>
     ensures fault { Gives (λ k. None) fault_found result
-        (fault (scope_view known.now taught.now) (expr_view right.now)) }
+        (fault (scope_view (K.scope known.now) taught.now) (expr_view right.now)) }
     ensures left { IfOk result (λ k. k.0 ≡ left) }
     ensures kind { IfOk result (λ k. kind_view k.1
-        ≡ kind_found (scope_view known.now taught.now) (expr_view right.now)) }
+        ≡ kind_found (scope_view (K.scope known.now) taught.now) (expr_view right.now)) }
 {
     let right = kind_of(alloc, right, known, taught)?;
     Ok((left, right))
@@ -148,17 +139,17 @@ fn pair_of(
 
 // The kind of a chain in which each operand is asked where those before it had that answer.
 #[cycle(kind_of)]
-fn chain_kind(
+fn chain_kind<K: Known>(
     alloc: Global,
     operands: &[Expr],
     answer: bool,
-    known: &Slots,
+    known: &K,
     taught: &Taught,
 ) -> Result<Kind, KindFault>
     ensures fault { Gives (λ k. None) fault_found result (first
-        (chain_fault (scope_view known.now taught.now) (exprs_view operands.now) answer)
-        (asks wrong_kind
-        (are_booleans (scope_view known.now taught.now) (exprs_view operands.now) answer))) }
+        (chain_fault (scope_view (K.scope known.now) taught.now) (exprs_view operands.now) answer)
+        (asks wrong_kind (are_booleans (scope_view (K.scope known.now) taught.now)
+        (exprs_view operands.now) answer))) }
     ensures kind { IfOk result (λ k. kind_view k ≡ booleans) }
 {
     let mut here = taught.copy(alloc)?;
@@ -172,16 +163,16 @@ fn chain_kind(
 }
 
 #[cycle(kind_of)]
-fn list_kind(
+fn list_kind<K: Known>(
     alloc: Global,
     items: &[Expr],
-    known: &Slots,
+    known: &K,
     taught: &Taught,
 ) -> Result<Kind, KindFault>
     ensures fault { Gives (λ k. None) fault_found result
-        (items_fault (scope_view known.now taught.now) (exprs_view items.now)) }
+        (items_fault (scope_view (K.scope known.now) taught.now) (exprs_view items.now)) }
     ensures kind { IfOk result (λ k. kind_view k
-        ≡ lists (items_kind (scope_view known.now taught.now) (exprs_view items.now))
+        ≡ lists (items_kind (scope_view (K.scope known.now) taught.now) (exprs_view items.now))
         (count (exprs_view items.now))) }
 {
     let mut kinds = Vec::new(alloc);
@@ -194,37 +185,37 @@ fn list_kind(
 }
 
 #[cycle(kind_of)]
-fn record_kind(
+fn record_kind<K: Known>(
     alloc: Global,
     fields: &BTreeMap<String, Expr>,
-    known: &Slots,
+    known: &K,
     taught: &Taught,
 ) -> Result<Kind, KindFault>
     ensures fault { Gives (λ k. None) fault_found result
-        (fields_fault (scope_view known.now taught.now) (parts_view fields.now.entries)) }
+        (fields_fault (scope_view (K.scope known.now) taught.now) (parts_view fields.now.entries)) }
     ensures kind { IfOk result (λ k. kind_view k
-        ≡ recs (parts_slots (scope_view known.now taught.now)
+        ≡ recs (parts_slots (scope_view (K.scope known.now) taught.now)
         (parts_view fields.now.entries))) }
 {
     let mut kinds = BTreeMap::new(alloc);
     for (name, field) in fields.iter() {
         let kind = part_kind(alloc, field, known, taught)?;
-        put(&mut kinds, name, kind)?;
+        put_certain(&mut kinds, name, kind)?;
     }
     Ok(Kind::of_slots(alloc, kinds)?)
 }
 
 #[cycle(kind_of)]
-fn text_kind(
+fn text_kind<K: Known>(
     alloc: Global,
     parts: &[Expr],
-    known: &Slots,
+    known: &K,
     taught: &Taught,
 ) -> Result<Kind, KindFault>
     ensures fault { Gives (λ k. None) fault_found result (first
-        (parts_fault (scope_view known.now taught.now) (exprs_view parts.now))
+        (parts_fault (scope_view (K.scope known.now) taught.now) (exprs_view parts.now))
         (asks wrong_kind
-        (are_plain (scope_view known.now taught.now) (exprs_view parts.now)))) }
+        (are_plain (scope_view (K.scope known.now) taught.now) (exprs_view parts.now)))) }
     ensures kind { IfOk result (λ k. kind_view k ≡ texts) }
 {
     let mut are_plain = true;
@@ -237,36 +228,46 @@ fn text_kind(
 
 // The kind at the end of the path, or of the other where there may be none.
 #[cycle(kind_of)]
-fn path_or_kind(
+fn path_or_kind<K: Known>(
     alloc: Global,
     path: &Path,
     other: &Expr,
-    known: &Slots,
+    known: &K,
     taught: &Taught,
 ) -> Result<Kind, KindFault>
     ensures fault { Gives (λ k. None) fault_found result
-        (fault (scope_view known.now taught.now)
-        (path_or (variable (string_bytes path.now.root)) (names_of path.now.steps.items)
+        (fault (scope_view (K.scope known.now) taught.now)
+        (path_or (root_view path.now.root) (names_of path.now.steps.items)
         (expr_view other.now))) }
     ensures kind { IfOk result (λ k. kind_view k
-        ≡ kind_found (scope_view known.now taught.now)
-        (path_or (variable (string_bytes path.now.root)) (names_of path.now.steps.items)
+        ≡ kind_found (scope_view (K.scope known.now) taught.now)
+        (path_or (root_view path.now.root) (names_of path.now.steps.items)
         (expr_view other.now))) }
 {
+    if let Some(unfit) = tested_unfit(known, taught, &path.root) {
+        return Err(KindFault::Unfit(unfit));
+    }
     let other = part_kind(alloc, other, known, taught)?;
-    Ok(kind_or(alloc, path, other, known, taught)?)
+    let slot = root_slot(alloc, &path.root, known, taught)?;
+    let is_shown = is_present(known, taught, path);
+    Ok(kind_or(alloc, &slot, &path.steps, is_shown, other)?)
 }
 
 // The kind of an item or a field, which isn't `Any`.
 #[cycle(kind_of)]
-fn part_kind(alloc: Global, expr: &Expr, known: &Slots, taught: &Taught) -> Result<Kind, KindFault>
+fn part_kind<K: Known>(
+    alloc: Global,
+    expr: &Expr,
+    known: &K,
+    taught: &Taught,
+) -> Result<Kind, KindFault>
     ensures fault { Gives (λ k. None) fault_found result (first
-        (fault (scope_view known.now taught.now) (expr_view expr.now))
+        (fault (scope_view (K.scope known.now) taught.now) (expr_view expr.now))
         (asks wrong_kind
-        (not (is_anything (kind_found (scope_view known.now taught.now)
+        (not (is_anything (kind_found (scope_view (K.scope known.now) taught.now)
         (expr_view expr.now)))))) }
     ensures kind { IfOk result (λ k. kind_view k
-        ≡ kind_found (scope_view known.now taught.now) (expr_view expr.now)) }
+        ≡ kind_found (scope_view (K.scope known.now) taught.now) (expr_view expr.now)) }
 {
     let kind = kind_of(alloc, expr, known, taught)?;
     not_any(kind)
@@ -283,59 +284,69 @@ fn not_any(kind: Kind) -> Result<Kind, KindFault>
     Ok(kind)
 }
 
-fn put(kinds: &mut Slots, name: &String, kind: Kind) -> Result<(), AllocError>
-    ensures { OnOk result (slots_view kinds.new.entries
-        ≡ put_slot (string_bytes name.now) true (kind_view kind) (slots_view kinds.old.entries)) }
+fn defined_kind<K: Known>(known: &K, taught: &Taught, root: &Root) -> Result<Kind, KindFault>
+    ensures fault { Gives (λ k. None) fault_found result
+        (tested_fault (scope_view (K.scope known.now) taught.now) (root_view root.now)) }
+    ensures kind { IfOk result (λ k. kind_view k ≡ booleans) }
 {
-    put_slot(kinds, name.clone()?, Slot::always(kind))
-}
-
-// The kind at the end of a path, of which nothing is asked where a test showed that it is there.
-fn path_kind(path: &Path, known: &Slots, taught: &Taught) -> Result<Kind, KindFault>
-    ensures fault { let c = scope_view known.now taught.now in
-        let root = variable (string_bytes path.now.root) in
-        Gives (λ k. None) fault_found result
-        (fault c (path_of root (names_of path.now.steps.items))) }
-    ensures kind { let root = root_spot (scope_view known.now taught.now)
-        (variable (string_bytes path.now.root)) in
-        IfOk result (λ k. kind_view k
-        ≡ spot_kind (path_spot (names_of path.now.steps.items) root)) }
-{
-    if is_present(taught, path) {
-        Ok(kind_at_end(path, known, taught)?)
-    } else {
-        read_kind(path, known, taught)
+    match tested_unfit(known, taught, root) {
+        Some(unfit) => Err(KindFault::Unfit(unfit)),
+        None => Ok(Kind::Bool),
     }
 }
 
-// The kind at the end of a path that is read.
-fn read_kind(path: &Path, known: &Slots, taught: &Taught) -> Result<Kind, KindFault>
-    ensures fault { let c = scope_view known.now taught.now in
-        let root = variable (string_bytes path.now.root) in
-        let kind = spot_kind (root_spot c root) in
+fn in_batch_kind<K: Known>(known: &K, taught: &Taught, term: &Term) -> Result<Kind, KindFault>
+    ensures fault { let c = scope_view (K.scope known.now) taught.now in
         Gives (λ k. None) fault_found result
-        (first (read_fault c root) (steps_fault (names_of path.now.steps.items) kind)) }
-    ensures kind { let root = root_spot (scope_view known.now taught.now)
-        (variable (string_bytes path.now.root)) in
-        IfOk result (λ k. kind_view k
-        ≡ spot_kind (path_spot (names_of path.now.steps.items) root)) }
+        (first (term_fault c (term_view term.now)) (active_fault c (term_view term.now))) }
+    ensures kind { IfOk result (λ k. kind_view k ≡ booleans) }
 {
-    match certain_root(known, taught, path.root.as_str()) {
-        Some(kind) => inner_kind(kind, &path.steps),
-        None => Err(KindFault::Unfit(Unfit::Undefined)),
+    if let Some(unfit) = term_unfit(known, taught, term) {
+        return Err(KindFault::Unfit(unfit));
+    }
+    match active_unfit(known, taught, term) {
+        Some(unfit) => Err(KindFault::Unfit(unfit)),
+        None => Ok(Kind::Bool),
     }
 }
 
-// The kind of a variable that is certainly there.
-fn certain_root<'k>(known: &'k Slots, taught: &'k Taught, name: &str) -> Option<&'k Kind>
-    ensures { option_map (λ k. kind_view k.now) result
-        ≡ certain (spot_at name.now (scope_view known.now taught.now).own) }
+// The kind at the end of a path, of which little is asked where a test showed that it is there.
+fn path_kind<K: Known>(
+    alloc: Global,
+    path: &Path,
+    known: &K,
+    taught: &Taught,
+) -> Result<Kind, KindFault>
+    ensures fault { Gives (λ k. None) fault_found result
+        (fault (scope_view (K.scope known.now) taught.now)
+        (path_of (root_view path.now.root) (names_of path.now.steps.items))) }
+    ensures kind { IfOk result (λ k. kind_view k
+        ≡ spot_kind (path_spot (names_of path.now.steps.items)
+        (root_spot (scope_view (K.scope known.now) taught.now) (root_view path.now.root)))) }
 {
-    let slot = slot_of(known, taught, name)?;
-    if slot.presence.is_always() {
-        Some(&slot.kind)
-    } else {
-        None
+    let slot = root_slot(alloc, &path.root, known, taught)?;
+    if is_present(known, taught, path) {
+        if let Some(unfit) = tested_unfit(known, taught, &path.root) {
+            return Err(KindFault::Unfit(unfit));
+        }
+        return Ok(kind_at_end(&slot, &path.steps)?);
+    }
+    if let Some(unfit) = read_unfit(known, taught, &path.root, &slot) {
+        return Err(KindFault::Unfit(unfit));
+    }
+    kind_below(&slot, &path.steps)
+}
+
+// The kind at the end of the steps below a slot, each of them asked for.
+fn kind_below(slot: &Option<Slot<Kind>>, steps: &[String]) -> Result<Kind, KindFault>
+    ensures fault { Gives (λ k. None) fault_found result
+        (steps_fault (names_of steps.now) (spot_kind (slot_given slot.now))) }
+    ensures kind { IfOk result (λ k. kind_view k
+        ≡ spot_kind (path_spot (names_of steps.now) (slot_given slot.now))) }
+{
+    match slot {
+        Some(slot) => inner_kind(&slot.kind, steps),
+        None => Ok(Kind::Never),
     }
 }
 
@@ -525,85 +536,4 @@ fn joined_kind(operands: (Kind, Kind)) -> Result<Kind, KindFault>
         is_plain_list(&operands.0) && is_text(&operands.1),
         Kind::Text,
     )
-}
-
-// Whether the kind is `Any` or holds it at any depth.
-#[cycle(holds_any)]
-fn holds_any(kind: &Kind) -> bool
-    ensures { result ≡ any_in (kind_view kind.now) }
-{
-    match kind {
-        Kind::Any => true,
-        Kind::List(item, _) => holds_any(item),
-        Kind::Rec(slots) => slots_hold_any(slots),
-        Kind::Result(cases, _) => cases_hold_any(cases),
-        _ => false,
-    }
-}
-
-#[cycle(holds_any)]
-fn slots_hold_any(slots: &Slots) -> bool
-    ensures { result ≡ any_slot_holds (slots_view slots.now.entries) }
-{
-    for (_, slot) in slots.iter() {
-        if holds_any(&slot.kind) {
-            return true;
-        }
-    }
-    false
-}
-
-#[cycle(holds_any)]
-fn cases_hold_any(cases: &[Case<Kind>]) -> bool
-    ensures { result ≡ any_case_holds (cases_view cases.now) }
-{
-    for case in cases {
-        if holds_any(&case.fields) {
-            return true;
-        }
-    }
-    false
-}
-
-// The kind of a value that is known.
-#[cycle(literal_kind)]
-fn literal_kind(alloc: Global, known: &Value) -> Result<Kind, AllocError>
-    ensures { IfOk result (λ k. kind_view k ≡ known_kind (view known.now)) }
-{
-    match known {
-        Value::Null => Ok(Kind::Null),
-        Value::Bool(_) => Ok(Kind::Bool),
-        Value::Int(_) => Ok(Kind::Int),
-        Value::Text(_) => Ok(Kind::Text),
-        Value::List(items) => literal_items(alloc, items),
-        Value::Rec(fields) => literal_fields(alloc, fields),
-        Value::Opaque => Ok(Kind::Any),
-    }
-}
-
-#[cycle(literal_kind)]
-fn literal_items(alloc: Global, items: &[Value]) -> Result<Kind, AllocError>
-    ensures { IfOk result (λ k. kind_view k
-        ≡ lists (known_items (items_view items.now))
-        (count_of (items_view items.now))) }
-{
-    let mut kinds = Vec::new(alloc);
-    for item in items {
-        let kind = literal_kind(alloc, item)?;
-        kinds.push(kind)?;
-    }
-    let joined = join_all(alloc, &kinds)?;
-    Kind::of_item(alloc, joined, items.len())
-}
-
-#[cycle(literal_kind)]
-fn literal_fields(alloc: Global, fields: &Fields) -> Result<Kind, AllocError>
-    ensures { IfOk result (λ k. kind_view k ≡ recs (known_slots (fields_view fields.now.entries))) }
-{
-    let mut kinds = BTreeMap::new(alloc);
-    for (name, field) in fields.iter() {
-        let kind = literal_kind(alloc, field)?;
-        put(&mut kinds, name, kind)?;
-    }
-    Kind::of_slots(alloc, kinds)
 }

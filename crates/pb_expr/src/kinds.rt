@@ -1,24 +1,22 @@
 // Which kinds the operands of a form may have, and what is known at the end of a path.
-ghost use Rattle.std.specs.Prelude.{◌≡◌, IfOk, string_bytes};
-ghost use Rattle.pb_semantics.specs.Words.{recs, slot_at};
+ghost use Rattle.std.specs.Prelude.{◌≡◌, IfOk};
+ghost use Rattle.pb_semantics.specs.Words.{any_case_holds, any_slot_holds, holds_any as any_in};
+ghost use Rattle.pb_semantics.specs.Words.{recs, slot_at, spot};
 ghost use Rattle.pb_language.specs.Words.{default_kind, has_length as can_be_counted};
 ghost use Rattle.pb_language.specs.Words.{is_flag as is_flag_spot, is_int as is_number};
 ghost use Rattle.pb_language.specs.Words.{is_plain_kind, is_plain_list as is_plain_list_kind};
 ghost use Rattle.pb_language.specs.Words.{is_result as is_result_kind, is_status_record};
 ghost use Rattle.pb_language.specs.Words.{is_text as is_textual, may_be_flag as may_be_flag_spot};
+ghost use Rattle.pb_language.specs.Words.{path_spot, spot_kind, step_spot};
 ghost use Rattle.pb_language.specs.Kinds.{shown_spot};
-ghost use Rattle.pb_language.specs.Scope.{is_present as is_shown};
-ghost use Rattle.pb_language.specs.Words.{path_spot, root_spot, spot_kind, step_spot, variable};
-ghost use Rattle.pb_value.specs.Words.{kind_view, slots_view};
-ghost use Rattle.pb_expr.specs.ExprView.{names_of};
-ghost use Rattle.pb_expr.specs.FitView.{spot_found};
-ghost use Rattle.pb_expr.specs.TaughtView.{scope_view};
+ghost use Rattle.pb_value.specs.Words.{cases_view, is_always, kind_view, slots_view};
+ghost use Rattle.pb_syntax.specs.ExprView.{names_of};
+ghost use Rattle.pb_expr.specs.SpotFound.{spot_found};
+ghost use Rattle.pb_expr.specs.TaughtView.{slot_given};
 
-use crate::expr::Path;
-use crate::scope::{Taught, is_present, slot_of};
 use pb_value::below::find;
 use pb_value::join::join;
-use pb_value::{Kind, Slots};
+use pb_value::{Case, Kind, Slot, Slots};
 use std::alloc::{AllocError, Global};
 
 pub(crate) fn is_int(kind: &Kind) -> bool
@@ -39,7 +37,7 @@ pub(crate) fn is_text(kind: &Kind) -> bool
     }
 }
 
-/// A text, a whole number or a truth value.
+// A text, a whole number or a truth value.
 pub(crate) fn is_plain(kind: &Kind) -> bool
     ensures { result ≡ is_plain_kind (kind_view kind.now) }
 {
@@ -49,7 +47,7 @@ pub(crate) fn is_plain(kind: &Kind) -> bool
     }
 }
 
-/// A list of such.
+// A list of such.
 pub(crate) fn is_plain_list(kind: &Kind) -> bool
     ensures { result ≡ is_plain_list_kind (kind_view kind.now) }
 {
@@ -69,7 +67,7 @@ pub(crate) fn has_length(kind: &Kind) -> bool
     }
 }
 
-/// A result, or a record that can be asked like one.
+// A result, or a record that can be asked like one.
 pub(crate) fn is_result(kind: &Kind) -> bool
     ensures { result ≡ is_result_kind (kind_view kind.now) }
 {
@@ -113,26 +111,19 @@ fn may_be_flag(slots: &Slots, name: &str) -> bool
     }
 }
 
-// What is known at the end of the path, and whether it is certainly there.
-fn spot_at_end<'k>(path: &Path, known: &'k Slots, taught: &'k Taught) -> Option<(bool, &'k Kind)>
-    ensures { spot_found result ≡ path_spot (names_of path.now.steps.items)
-        (slot_at (string_bytes path.now.root) (scope_view known.now taught.now).own) }
+// What is known at the end of the steps below a slot, and whether it is certainly there.
+fn spot_at_end<'k>(slot: &'k Slot<Kind>, steps: &[String]) -> Option<(bool, &'k Kind)>
+    ensures { spot_found result ≡ path_spot (names_of steps.now)
+        (spot (is_always slot.now.presence) (kind_view slot.now.kind)) }
 {
-    let (mut is_certain, mut here) = spot_of(known, taught, path.root.as_str())?;
-    for step in &path.steps {
+    let mut is_certain = slot.presence.is_always();
+    let mut here = &slot.kind;
+    for step in steps {
         let (is_there, inner) = spot_below(here, step.as_str())?;
         is_certain = is_certain & is_there;
         here = inner;
     }
     Some((is_certain, here))
-}
-
-// What is known of a variable.
-fn spot_of<'k>(known: &'k Slots, taught: &'k Taught, name: &str) -> Option<(bool, &'k Kind)>
-    ensures { spot_found result ≡ slot_at name.now (scope_view known.now taught.now).own }
-{
-    let slot = slot_of(known, taught, name)?;
-    Some((slot.presence.is_always(), &slot.kind))
 }
 
 // What is known of a field of a value of that kind.
@@ -159,56 +150,95 @@ fn spot_in<'k>(slots: &'k Slots, name: &str) -> Option<(bool, &'k Kind)>
     Some((slot.presence.is_always(), &slot.kind))
 }
 
-/// The kind at the end of the path, `Never` where nothing can stand there.
-pub(crate) fn kind_at_end(path: &Path, known: &Slots, taught: &Taught) -> Result<Kind, AllocError>
-    ensures { IfOk result (λ k. kind_view k ≡ spot_kind
-        (path_spot (names_of path.now.steps.items)
-        (slot_at (string_bytes path.now.root) (scope_view known.now taught.now).own))) }
+// The kind at the end of the steps, `Never` where nothing can stand there.
+pub(crate) fn kind_at_end(slot: &Option<Slot<Kind>>, steps: &[String]) -> Result<Kind, AllocError>
+    ensures { IfOk result (λ k. kind_view k
+        ≡ spot_kind (path_spot (names_of steps.now) (slot_given slot.now))) }
 {
-    match spot_at_end(path, known, taught) {
+    match slot {
         None => Ok(Kind::Never),
-        Some((_, kind)) => kind.clone(),
+        Some(slot) => match spot_at_end(slot, steps) {
+            None => Ok(Kind::Never),
+            Some((_, kind)) => kind.clone(),
+        },
     }
 }
 
-/// The kind at the end of the path where something certainly stands there, or a test showed that it
-/// does, the other where nothing can, else the least kind above both.
+// The kind at the end of the steps where something certainly stands there, or a test showed that it
+// does, the other where nothing can, else the least kind above both.
 pub(crate) fn kind_or(
     alloc: Global,
-    path: &Path,
+    slot: &Option<Slot<Kind>>,
+    steps: &[String],
+    is_shown: bool,
     other: Kind,
-    known: &Slots,
-    taught: &Taught,
-) -> Result<Kind, AllocError>
-    ensures { let c = scope_view known.now taught.now in
-        let root = variable (string_bytes path.now.root) in
-        let names = names_of path.now.steps.items in
-        IfOk result (λ k. kind_view k ≡ default_kind
-        (shown_spot (is_shown c root names) (path_spot names (root_spot c root)))
-        (kind_view other)) }
-{
-    if is_present(taught, path) {
-        return kind_at_end(path, known, taught);
-    }
-    kind_there_or(alloc, path, other, known, taught)
-}
-
-// The same where no test showed it.
-fn kind_there_or(
-    alloc: Global,
-    path: &Path,
-    other: Kind,
-    known: &Slots,
-    taught: &Taught,
 ) -> Result<Kind, AllocError>
     ensures { IfOk result (λ k. kind_view k ≡ default_kind
-        (path_spot (names_of path.now.steps.items)
-        (slot_at (string_bytes path.now.root) (scope_view known.now taught.now).own))
+        (shown_spot is_shown (path_spot (names_of steps.now) (slot_given slot.now)))
         (kind_view other)) }
 {
-    match spot_at_end(path, known, taught) {
+    if is_shown {
+        return kind_at_end(slot, steps);
+    }
+    match slot {
+        None => Ok(other),
+        Some(slot) => kind_there_or(alloc, slot, steps, other),
+    }
+}
+
+// The same below a slot, where no test showed it.
+fn kind_there_or(
+    alloc: Global,
+    slot: &Slot<Kind>,
+    steps: &[String],
+    other: Kind,
+) -> Result<Kind, AllocError>
+    ensures { IfOk result (λ k. kind_view k ≡ default_kind
+        (path_spot (names_of steps.now)
+        (spot (is_always slot.now.presence) (kind_view slot.now.kind)))
+        (kind_view other)) }
+{
+    match spot_at_end(slot, steps) {
         None => Ok(other),
         Some((true, kind)) => kind.clone(),
         Some((false, kind)) => join(alloc, kind, &other),
     }
+}
+
+// Whether the kind is `Any` or holds it at any depth.
+#[cycle(holds_any)]
+pub(crate) fn holds_any(kind: &Kind) -> bool
+    ensures { result ≡ any_in (kind_view kind.now) }
+{
+    match kind {
+        Kind::Any => true,
+        Kind::List(item, _) => holds_any(item),
+        Kind::Rec(slots) => slots_hold_any(slots),
+        Kind::Result(cases, _) => cases_hold_any(cases),
+        _ => false,
+    }
+}
+
+#[cycle(holds_any)]
+fn slots_hold_any(slots: &Slots) -> bool
+    ensures { result ≡ any_slot_holds (slots_view slots.now.entries) }
+{
+    for (_, slot) in slots.iter() {
+        if holds_any(&slot.kind) {
+            return true;
+        }
+    }
+    false
+}
+
+#[cycle(holds_any)]
+fn cases_hold_any(cases: &[Case<Kind>]) -> bool
+    ensures { result ≡ any_case_holds (cases_view cases.now) }
+{
+    for case in cases {
+        if holds_any(&case.fields) {
+            return true;
+        }
+    }
+    false
 }

@@ -11,24 +11,30 @@
 //     let value = eval(alloc, &condition, &vars)?; // where it is fit
 #![tactic(auto)]
 
+mod both;
+pub mod change;
 pub mod defined;
 pub mod equal;
 pub mod eval;
-pub mod expr;
-pub mod fault;
 mod filter;
 pub mod fit;
 mod kinds;
-mod lexer;
+pub mod known;
+mod literal;
+mod look;
 pub mod narrow;
-pub mod parse;
+mod roots;
 pub mod scope;
 pub mod teach;
+pub mod unfit;
 pub mod vars;
+mod views;
 
-pub use expr::{Comparison, Expr, Path, Status};
-pub use fault::ExprFault;
-pub use fit::{KindFault, Unfit, kind_of};
-pub use parse::{parse_expr, parse_template};
+pub use fit::{KindFault, kind_of};
+pub use known::Known;
+pub use pb_syntax::{
+    Comparison, Expr, ExprFault, Member, Path, Root, Status, Term, parse_expr, parse_template,
+};
 pub use scope::Taught;
+pub use unfit::Unfit;
 pub use vars::Vars;

@@ -1,23 +1,18 @@
 // What the answer of a test teaches of what is known.
-ghost use Rattle.std.specs.Prelude.{◌≡◌, IfOk, OnOk, string_bytes, true};
-ghost use Rattle.std.specs.BTreeMap.{IsOrdered};
-ghost use Rattle.std.specs.String.{string_cmp};
-ghost use Rattle.pb_semantics.specs.Words.{slot_at, spot};
-ghost use Rattle.pb_language.specs.Expression.{variable};
+ghost use Rattle.std.specs.Prelude.{◌∷◌, ◌≡◌, IfOk, string_bytes};
 ghost use Rattle.pb_language.specs.Narrow.{answers, any_teaches, cases_with, changed_at};
-ghost use Rattle.pb_language.specs.Narrow.{changed_spot, defined_at, narrow, narrow_each};
-ghost use Rattle.pb_language.specs.Narrow.{narrow_some, on_results, teach, teach_present, teaches};
-ghost use Rattle.pb_language.specs.Narrow.{there_spot, where_taught};
-ghost use Rattle.pb_value.specs.Words.{kind_view, slots_view};
-ghost use Rattle.pb_expr.specs.ExprView.{expr_view, exprs_view, names_of, status_view};
-ghost use Rattle.pb_expr.specs.TaughtView.{present_view, scope_view, scopes_view, slot_given};
-ghost use Rattle.pb_expr.specs.TaughtView.{taught_by};
+ghost use Rattle.pb_language.specs.Narrow.{changed_spot, narrow, narrow_each, narrow_some};
+ghost use Rattle.pb_language.specs.Narrow.{on_results, teach, teach_active, teach_present};
+ghost use Rattle.pb_language.specs.Narrow.{teaches, where_taught};
+ghost use Rattle.pb_language.specs.Scope.{Scope, resolved, resolved_term};
+ghost use Rattle.pb_syntax.specs.ExprView.{expr_view, exprs_view, names_of, root_view};
+ghost use Rattle.pb_syntax.specs.ExprView.{status_view, term_view};
+ghost use Rattle.pb_expr.specs.TaughtView.{scope_view, scopes_view, taught_by};
 
-use crate::defined::defined_at;
-use crate::expr::{Expr, Path, Status};
-use crate::scope::{Taught, both, slot_of};
-use crate::teach::answered_at;
-use pb_value::{Kind, Slot, Slots, put_slot};
+use crate::change::{Change, teach};
+use crate::known::Known;
+use crate::scope::{Taught, both, names_copied};
+use pb_syntax::{Expr, Member, Path, Root, Status, Term};
 use std::alloc::{AllocError, Global};
 use std::sync::Arc;
 
@@ -30,15 +25,15 @@ use std::sync::Arc;
 ///
 /// Want of memory.
 #[cycle(narrow)]
-pub fn narrow(
+pub fn narrow<K: Known>(
     alloc: Global,
     expr: &Expr,
     answer: bool,
-    known: &Slots,
+    known: &K,
     taught: Taught,
 ) -> Result<Taught, AllocError>
-    ensures { IfOk result (λ t. scope_view known.now t
-        ≡ narrow (scope_view known.now taught) (expr_view expr.now) answer) }
+    ensures { IfOk result (λ t. scope_view (K.scope known.now) t
+        ≡ narrow (scope_view (K.scope known.now) taught) (expr_view expr.now) answer) }
 {
     match expr {
         Expr::Not(operand) => narrow(alloc, operand, !answer, known, taught),
@@ -46,8 +41,12 @@ pub fn narrow(
         Expr::And(operands) => narrow_any(alloc, operands, answer, known, taught),
         Expr::Or(operands) if answer => narrow_any(alloc, operands, answer, known, taught),
         Expr::Or(operands) => narrow_each(alloc, operands, answer, known, taught),
+        Expr::InBatch(term) if answer => show_active(alloc, term, known, taught),
         Expr::Defined(path) if answer => show(alloc, path, known, taught),
-        Expr::PathStatus(status, path) => keep(alloc, *status, answer, path, known, taught),
+        Expr::PathStatus(status, path) => {
+            show_status(alloc, *status, answer, path, known, taught)
+        }
+        Expr::InBatch(_) | Expr::Hostvars(_) => Ok(taught),
         Expr::Literal(_) | Expr::Path(_) | Expr::Compare(_, _, _) | Expr::In(_, _) => Ok(taught),
         Expr::Defined(_) | Expr::Undefinable(_) | Expr::Status(_, _) => Ok(taught),
         Expr::PathOr(_, _) | Expr::ValueOr(_, _) | Expr::Length(_) => Ok(taught),
@@ -57,15 +56,15 @@ pub fn narrow(
 
 // Each operand had that answer.
 #[cycle(narrow)]
-fn narrow_each(
+fn narrow_each<K: Known>(
     alloc: Global,
     operands: &[Expr],
     answer: bool,
-    known: &Slots,
+    known: &K,
     taught: Taught,
 ) -> Result<Taught, AllocError>
-    ensures { IfOk result (λ t. scope_view known.now t
-        ≡ narrow_each (scope_view known.now taught) (exprs_view operands.now) answer) }
+    ensures { IfOk result (λ t. scope_view (K.scope known.now) t
+        ≡ narrow_each (scope_view (K.scope known.now) taught) (exprs_view operands.now) answer) }
 {
     let mut here = taught;
     for operand in operands {
@@ -76,17 +75,17 @@ fn narrow_each(
 
 // Some operand had that answer; where none teaches anything nothing is looked at.
 #[cycle(narrow)]
-fn narrow_any(
+fn narrow_any<K: Known>(
     alloc: Global,
     operands: &[Expr],
     answer: bool,
-    known: &Slots,
+    known: &K,
     taught: Taught,
 ) -> Result<Taught, AllocError>
-    ensures { IfOk result (λ t. scope_view known.now t
+    ensures { IfOk result (λ t. scope_view (K.scope known.now) t
         ≡ where_taught (any_teaches (exprs_view operands.now))
-        (narrow_some (scope_view known.now taught) (exprs_view operands.now) answer)
-        (scope_view known.now taught)) }
+        (narrow_some (scope_view (K.scope known.now) taught) (exprs_view operands.now) answer)
+        (scope_view (K.scope known.now) taught)) }
 {
     if any_teaches(operands) {
         narrow_some(alloc, operands, answer, known, taught)
@@ -97,15 +96,15 @@ fn narrow_any(
 
 // One of the operands had that answer, and those before it hadn't.
 #[cycle(narrow)]
-fn narrow_some(
+fn narrow_some<K: Known>(
     alloc: Global,
     operands: &[Expr],
     answer: bool,
-    known: &Slots,
+    known: &K,
     taught: Taught,
 ) -> Result<Taught, AllocError>
-    ensures { IfOk result (λ t. scope_view known.now t
-        ≡ narrow_some (scope_view known.now taught) (exprs_view operands.now) answer) }
+    ensures { IfOk result (λ t. scope_view (K.scope known.now) t
+        ≡ narrow_some (scope_view (K.scope known.now) taught) (exprs_view operands.now) answer) }
 {
     let mut ways = Vec::new(alloc);
     let mut here = taught;
@@ -115,18 +114,13 @@ fn narrow_some(
         ways.push(way)?;
         here = narrow(alloc, operand, !answer, known, here)?;
     }
-    taught_by_all(alloc, known, ways, here)
+    taught_by_all(alloc, ways, here)
 }
 
 // What all ways teach; where there is no way, what was taught before.
-fn taught_by_all(
-    alloc: Global,
-    known: &Slots,
-    ways: Vec<Taught>,
-    before: Taught,
-) -> Result<Taught, AllocError>
-    ensures { IfOk result (λ t. scope_view known.now t
-        ≡ taught_by (scopes_view known.now ways.items) (scope_view known.now before)) }
+fn taught_by_all(alloc: Global, ways: Vec<Taught>, before: Taught) -> Result<Taught, AllocError>
+    ensures { IfOk result (λ t. (c : Scope) → scope_view c t
+        ≡ taught_by (scopes_view c ways.items) (scope_view c before)) }
 {
     let mut ways = ways;
     let Some(last) = ways.pop() else {
@@ -134,7 +128,7 @@ fn taught_by_all(
     };
     let mut all = last;
     while let Some(way) = ways.pop() {
-        all = both(alloc, known, &way, &all)?;
+        all = both(alloc, &way, &all)?;
     }
     Ok(all)
 }
@@ -147,7 +141,8 @@ fn teaches(expr: &Expr) -> bool
     match expr {
         Expr::Not(operand) => teaches(operand),
         Expr::And(operands) | Expr::Or(operands) => any_teaches(operands),
-        Expr::Defined(_) | Expr::PathStatus(_, _) => true,
+        Expr::InBatch(_) | Expr::Defined(_) | Expr::PathStatus(_, _) => true,
+        Expr::Hostvars(_) => false,
         Expr::Literal(_) | Expr::Path(_) | Expr::Compare(_, _, _) | Expr::In(_, _) => false,
         Expr::Undefinable(_) | Expr::Status(_, _) | Expr::PathOr(_, _) => false,
         Expr::ValueOr(_, _) | Expr::Length(_) | Expr::Join(_, _) => false,
@@ -167,100 +162,123 @@ fn any_teaches(operands: &[Expr]) -> bool
     false
 }
 
-// The path was tested to be there.
-fn show(alloc: Global, path: &Path, known: &Slots, taught: Taught) -> Result<Taught, AllocError>
-    ensures { IfOk result (λ t. scope_view known.now t ≡ teach_present (scope_view known.now taught)
-        (variable (string_bytes path.now.root)) (names_of path.now.steps.items)) }
+// The test of that status at the end of the path had that answer.
+fn show_status<K: Known>(
+    alloc: Global,
+    status: Status,
+    answer: bool,
+    path: &Path,
+    known: &K,
+    taught: Taught,
+) -> Result<Taught, AllocError>
+    ensures { let k = K.scope known.now in
+        IfOk result (λ t. scope_view k t ≡ teach (scope_view k taught)
+        (changed_spot (changed_at (names_of path.now.steps.items)
+        (on_results (cases_with (answers (status_view status) answer)))))
+        (root_view path.now.root)) }
 {
-    let kind = kind_there(alloc, path, known, &taught)?;
-    let shown = Arc::new(alloc, path_copied(alloc, path)?)?;
-    let mut taught = taught;
-    put_slot(&mut taught.slots, path.root.clone()?, Slot::always(kind))?;
+    teach(alloc, Change::Answered(status, answer), path, known, taught)
+}
+
+// The path was tested to be there.
+fn show<K: Known>(
+    alloc: Global,
+    path: &Path,
+    known: &K,
+    taught: Taught,
+) -> Result<Taught, AllocError>
+    ensures { let k = K.scope known.now in
+        IfOk result (λ t. scope_view k t ≡ teach_present (scope_view k taught)
+        (root_view path.now.root) (names_of path.now.steps.items)) }
+{
+    let shown = Arc::new(alloc, shown_path(alloc, path, known)?)?;
+    let mut taught = teach(alloc, Change::There, path, known, taught)?;
     taught.paths.insert(0, shown)?;
     Ok(taught)
 }
 
-// The kind of the variable in which each step of the path is there.
-fn kind_there(
-    alloc: Global,
-    path: &Path,
-    known: &Slots,
-    taught: &Taught,
-) -> Result<Kind, AllocError>
-    ensures there { IfOk result (λ k. spot true (kind_view k)
-        ≡ there_spot (defined_at (names_of path.now.steps.items))
-        (slot_at (string_bytes path.now.root)
-        (scope_view known.now taught.now).own)) }
-    ensures ordered { IsOrdered string_cmp known.now }
+// The path, with its host by its name where that is known.
+fn shown_path<K: Known>(alloc: Global, path: &Path, known: &K) -> Result<Path, AllocError>
+    ensures root { IfOk result (λ p. root_view p.root
+        ≡ resolved (K.scope known.now) (root_view path.now.root)) }
+    ensures steps { IfOk result
+        (λ p. names_of p.steps.items ≡ names_of path.now.steps.items) }
 {
-    match slot_of(known, taught, path.root.as_str()) {
-        Some(slot) => defined_at(alloc, &slot.kind, &path.steps),
-        None => Ok(Kind::Never),
-    }
-}
-
-fn path_copied(alloc: Global, path: &Path) -> Result<Path, AllocError>
-    ensures { IfOk result (λ p. present_view p ≡ present_view path.now) }
-{
-    let root = path.root.clone()?;
+    let root = shown_root(alloc, &path.root, known)?;
     let steps = names_copied(alloc, &path.steps)?;
     Ok(Path { root, steps })
 }
 
-fn names_copied(alloc: Global, names: &[String]) -> Result<Vec<String>, AllocError>
-    ensures { IfOk result (λ ns. names_of ns.items ≡ names_of names.now) }
+fn shown_root<K: Known>(alloc: Global, root: &Root, known: &K) -> Result<Root, AllocError>
+    ensures { IfOk result
+        (λ r. root_view r ≡ resolved (K.scope known.now) (root_view root.now)) }
 {
-    let mut all = Vec::new(alloc);
-    for name in names {
-        let copy = name.clone()?;
-        all.push(copy)?;
+    match root {
+        Root::Variable(name) => Ok(Root::Variable(name.clone()?)),
+        Root::Other(term, name) => {
+            let host = shown_term(alloc, term, known)?;
+            Ok(Root::Other(host, name.clone()?))
+        }
+        Root::Member(member) => Ok(Root::Member(member_copied(member)?)),
     }
-    Ok(all)
 }
 
-// The test of that status at the end of the path had that answer.
-fn keep(
+fn shown_term<K: Known>(alloc: Global, term: &Term, known: &K) -> Result<Term, AllocError>
+    ensures { IfOk result
+        (λ t. term_view t ≡ resolved_term (K.scope known.now) (term_view term.now)) }
+{
+    match term {
+        Term::Named(name) => Ok(Term::Named(name.clone()?)),
+        Term::This => Ok(Term::Named(String::from_str(alloc, known.this())?)),
+        Term::Item => Ok(Term::Item),
+        Term::Member(member) => match known.member(member.group.as_str(), member.place) {
+            Some(host) => Ok(Term::Named(String::from_str(alloc, host)?)),
+            None => Ok(Term::Member(member_copied(member)?)),
+        },
+    }
+}
+
+fn member_copied(member: &Member) -> Result<Member, AllocError>
+    ensures group { IfOk result
+        (λ m. string_bytes m.group ≡ string_bytes member.now.group) }
+    ensures place { IfOk result (λ m. m.place ≡ member.now.place) }
+{
+    let group = member.group.clone()?;
+    let place = member.place;
+    Ok(Member { group, place })
+}
+
+// The host was tested to be active in the batch.
+fn show_active<K: Known>(
     alloc: Global,
-    status: Status,
-    answer: bool,
-    path: &Path,
-    known: &Slots,
+    term: &Term,
+    known: &K,
     taught: Taught,
 ) -> Result<Taught, AllocError>
-    ensures { IfOk result (λ t. scope_view known.now t ≡ teach (scope_view known.now taught)
-        (changed_spot (changed_at (names_of path.now.steps.items)
-        (on_results (cases_with (answers (status_view status) answer)))))
-        (variable (string_bytes path.now.root))) }
+    ensures { let k = K.scope known.now in
+        IfOk result (λ t. scope_view k t
+        ≡ teach_active (scope_view k taught) (term_view term.now)) }
 {
-    let Some(slot) = slot_kept(alloc, status, answer, path, known, &taught)? else {
-        return Ok(taught);
-    };
-    let mut taught = taught;
-    put_slot(&mut taught.slots, path.root.clone()?, slot)?;
-    Ok(taught)
+    match term {
+        Term::Named(host) => add_active(alloc, host.as_str(), taught),
+        Term::This => add_active(alloc, known.this(), taught),
+        Term::Item => {
+            let mut taught = taught;
+            taught.item_active = true;
+            Ok(taught)
+        }
+        Term::Member(member) => match known.member(member.group.as_str(), member.place) {
+            Some(host) => add_active(alloc, host, taught),
+            None => Ok(taught),
+        },
+    }
 }
 
-// What is known of the variable, with the cases alone that may give that answer.
-fn slot_kept(
-    alloc: Global,
-    status: Status,
-    answer: bool,
-    path: &Path,
-    known: &Slots,
-    taught: &Taught,
-) -> Result<Option<Slot<Kind>>, AllocError>
-    ensures kept { IfOk result (λ s. slot_given s ≡ changed_spot
-        (changed_at (names_of path.now.steps.items)
-        (on_results (cases_with (answers (status_view status) answer))))
-        (slot_at (string_bytes path.now.root)
-        (scope_view known.now taught.now).own)) }
-    ensures ordered { IsOrdered string_cmp known.now }
+fn add_active(alloc: Global, host: &str, taught: Taught) -> Result<Taught, AllocError>
+    ensures { IfOk result (λ t. (c : Scope) → scope_view c t
+        ≡ record (scope_view c taught) { active = host.now ∷ (scope_view c taught).active }) }
 {
-    match slot_of(known, taught, path.root.as_str()) {
-        Some(slot) => Ok(Some(Slot {
-            presence: slot.presence,
-            kind: answered_at(alloc, &slot.kind, &path.steps, status, answer)?,
-        })),
-        None => Ok(None),
-    }
+    let mut taught = taught;
+    taught.active.insert(0, String::from_str(alloc, host)?)?;
+    Ok(taught)
 }

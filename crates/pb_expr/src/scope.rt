@@ -1,42 +1,58 @@
-// What is known of variables where an expression is asked for: before any test, and by tests.
-ghost use Rattle.std.specs.Prelude.{[], ◌≡◌, IfOk, OnOk, string_bytes};
+// What tests have taught of what is known where an expression is asked for.
+ghost use Rattle.std.specs.Prelude.{◌&&◌, ◌≡◌, IfOk, OnOk, nat_eq, string_bytes};
 ghost use Rattle.std.specs.BTreeMap.{IsOrdered};
+ghost use Rattle.std.specs.Str.{bytes_eq};
 ghost use Rattle.std.specs.String.{string_cmp};
-ghost use Rattle.pb_semantics.specs.Words.{put_slot, slot_at};
-ghost use Rattle.pb_semantics.specs.Kind.{Slots as SlotsData};
-ghost use Rattle.pb_language.specs.Expression.{variable};
-ghost use Rattle.pb_language.specs.Scope.{begins_with, both_present, both_scopes, is_present_path};
-ghost use Rattle.pb_language.specs.Scope.{with_slot};
+ghost use Rattle.pb_semantics.specs.Keeps.{is_among};
+ghost use Rattle.pb_semantics.specs.Words.{put_slot};
+ghost use Rattle.pb_language.specs.Expression.{group_member, named_host};
+ghost use Rattle.pb_language.specs.Same.{same_root, same_term};
+ghost use Rattle.pb_language.specs.Scope.{Scope, begins_with, both_names, both_present};
+ghost use Rattle.pb_language.specs.Scope.{both_scopes, is_present as is_shown, is_present_path};
+ghost use Rattle.pb_language.specs.Scope.{own_spot, resolved, resolved_term};
 ghost use Rattle.pb_value.specs.Words.{is_always, kind_view, slots_view, spot_view};
-ghost use Rattle.pb_expr.specs.ExprView.{names_of};
-ghost use Rattle.pb_expr.specs.FitView.{own_scope};
-ghost use Rattle.pb_expr.specs.TaughtView.{over, presents_view, scope_of, scope_view};
+ghost use Rattle.pb_syntax.specs.ExprView.{names_of, root_view, term_view};
+ghost use Rattle.pb_expr.specs.TaughtView.{presents_view, scope_view, untaught};
 
-use crate::expr::Path;
-use pb_value::below::{find, has_field};
-use pb_value::join::join_slots;
+use crate::both::{both_slots, both_views, views_copied};
+use crate::known::Known;
+use indexmap::IndexMap;
+use pb_syntax::{Member, Path, Root, Term};
+use pb_value::below::find;
 use pb_value::{Kind, Slot, Slots, put_slot};
 use std::alloc::{AllocError, Global};
 use std::collections::BTreeMap;
 use std::sync::Arc;
 
-/// What tests have taught.
+/// What tests have taught, which lies over what was known before them.
 #[derive(Drop)]
 pub struct Taught {
-    /// What stands in place of what was known of variables.
+    /// Of variables of the host's own.
     pub slots: Slots,
+    /// Of variables of hosts by their names.
+    pub views: IndexMap<String, Slots>,
     /// The paths that were tested to be there, the last one first.
     pub paths: Vec<Arc<Path>>,
+    /// The hosts that are known to be active in the batch, the last one first.
+    pub active: Vec<String>,
+    /// Of variables of the host that the item of a loop names.
+    pub item_slots: Slots,
+    /// Whether that host is known to be active in the batch.
+    pub item_active: bool,
 }
 
 impl Taught {
     /// Where no test has been made.
     pub fn nothing(alloc: Global) -> Taught
-        ensures { (ss : SlotsData) → scope_of ss result ≡ own_scope ss }
+        ensures { (c : Scope) → scope_view c result ≡ untaught c }
     {
         Taught {
             slots: BTreeMap::new(alloc),
+            views: IndexMap::new(alloc),
             paths: Vec::new(alloc),
+            active: Vec::new(alloc),
+            item_slots: BTreeMap::new(alloc),
+            item_active: false,
         }
     }
 
@@ -46,20 +62,20 @@ impl Taught {
     ///
     /// Want of memory.
     pub fn copy(&self, alloc: Global) -> Result<Taught, AllocError>
-        ensures { IfOk result (λ t. (ss : SlotsData) → scope_of ss t ≡ scope_of ss self.now) }
+        ensures { IfOk result (λ t. (c : Scope) → scope_view c t ≡ scope_view c self.now) }
     {
         Ok(Taught {
             slots: slots_copied(alloc, &self.slots)?,
+            views: views_copied(alloc, &self.views)?,
             paths: paths_copied(alloc, &self.paths)?,
+            active: names_copied(alloc, &self.active)?,
+            item_slots: slots_copied(alloc, &self.item_slots)?,
+            item_active: self.item_active,
         })
     }
 }
 
-/// A copy of slots that shares what lies inside.
-///
-/// # Errors
-///
-/// Want of memory.
+// A copy of slots that shares what lies inside.
 pub(crate) fn slots_copied(alloc: Global, slots: &Slots) -> Result<Slots, AllocError>
     ensures copied { IfOk result (λ s. slots_view s.entries ≡ slots_view slots.now.entries) }
     ensures ordered { IsOrdered string_cmp slots.now }
@@ -75,11 +91,18 @@ fn put_copy(slots: &mut Slots, name: &String, slot: &Slot<Kind>) -> Result<(), A
     ensures { OnOk result (slots_view slots.new.entries ≡ put_slot (string_bytes name.now)
         (is_always slot.now.presence) (kind_view slot.now.kind) (slots_view slots.old.entries)) }
 {
-    let copy = Slot {
+    put_slot(slots, name.clone()?, slot_copied(slot)?)
+}
+
+// A copy of a slot that shares what lies inside.
+pub(crate) fn slot_copied(slot: &Slot<Kind>) -> Result<Slot<Kind>, AllocError>
+    ensures presence { IfOk result (λ s. s.presence ≡ slot.now.presence) }
+    ensures kind { IfOk result (λ s. kind_view s.kind ≡ kind_view slot.now.kind) }
+{
+    Ok(Slot {
         presence: slot.presence,
         kind: slot.kind.clone()?,
-    };
-    put_slot(slots, name.clone()?, copy)
+    })
 }
 
 fn paths_copied(alloc: Global, paths: &[Arc<Path>]) -> Result<Vec<Arc<Path>>, AllocError>
@@ -92,43 +115,136 @@ fn paths_copied(alloc: Global, paths: &[Arc<Path>]) -> Result<Vec<Arc<Path>>, Al
     Ok(all)
 }
 
-/// What is known of a variable; names stand in their order.
-pub(crate) fn slot_of<'s>(
-    known: &'s Slots,
+pub(crate) fn names_copied(alloc: Global, names: &[String]) -> Result<Vec<String>, AllocError>
+    ensures { IfOk result (λ ns. names_of ns.items ≡ names_of names.now) }
+{
+    let mut all = Vec::new(alloc);
+    for name in names {
+        let copy = name.clone()?;
+        all.push(copy)?;
+    }
+    Ok(all)
+}
+
+// What is known of a variable of the host's own.
+pub(crate) fn own_slot<'s, K: Known>(
+    known: &'s K,
     taught: &'s Taught,
     name: &str,
 ) -> Option<&'s Slot<Kind>>
-    ensures spot { spot_view result
-        ≡ slot_at name.now (scope_view known.now taught.now).own }
-    ensures ordered { IsOrdered string_cmp known.now }
+    ensures { spot_view result ≡ own_spot (scope_view (K.scope known.now) taught.now) name.now }
 {
-    if known.len() == 0 {
-        return find(&taught.slots, name);
-    }
     match find(&taught.slots, name) {
         Some(slot) => Some(slot),
-        None => find(known, name),
+        None => known.own(name),
     }
 }
 
-/// Whether a test showed that the path is there.
-pub(crate) fn is_present(taught: &Taught, path: &Path) -> bool
-    ensures { (ss : SlotsData) → result ≡ is_present_path (variable (string_bytes path.now.root))
-        (names_of path.now.steps.items) (scope_of ss taught.now).present }
+// Whether a test showed that the path is there.
+pub(crate) fn is_present<K: Known>(known: &K, taught: &Taught, path: &Path) -> bool
+    ensures { result ≡ is_shown (scope_view (K.scope known.now) taught.now)
+        (root_view path.now.root) (names_of path.now.steps.items) }
 {
-    shows(&taught.paths, path)
-}
-
-fn shows(paths: &[Arc<Path>], path: &Path) -> bool
-    ensures { result ≡ is_present_path (variable (string_bytes path.now.root))
-        (names_of path.now.steps.items) (presents_view paths.now) }
-{
-    for shown in paths {
-        if path.root == shown.root && begins(&path.steps, &shown.steps) {
+    for shown in &taught.paths {
+        if is_root(known, &path.root, &shown.root) && begins(&path.steps, &shown.steps) {
             return true;
         }
     }
     false
+}
+
+// Whether the root, with its host by its name where that is known, is the other.
+fn is_root<K: Known>(known: &K, root: &Root, shown: &Root) -> bool
+    ensures { result
+        ≡ same_root (resolved (K.scope known.now) (root_view root.now)) (root_view shown.now) }
+{
+    match (root, shown) {
+        (Root::Variable(name), Root::Variable(other)) => name == other,
+        (Root::Other(term, name), Root::Other(host, other)) => {
+            is_term(known, term, host) && name == other
+        }
+        (Root::Member(member), Root::Member(other)) => is_member(member, other),
+        (Root::Variable(_), _) | (Root::Other(_, _), _) | (Root::Member(_), _) => false,
+    }
+}
+
+// Whether the term, by its host's name where that is known, is the other.
+fn is_term<K: Known>(known: &K, term: &Term, shown: &Term) -> bool
+    ensures { result ≡ same_term (resolved_term (K.scope known.now) (term_view term.now))
+        (term_view shown.now) }
+{
+    match term {
+        Term::Named(name) => is_named(shown, name.as_str()),
+        Term::This => is_named(shown, known.this()),
+        Term::Item => matches!(shown, Term::Item),
+        Term::Member(member) => match known.member(member.group.as_str(), member.place) {
+            Some(name) => is_named(shown, name),
+            None => is_place(shown, member),
+        },
+    }
+}
+
+fn is_named(term: &Term, name: &str) -> bool
+    ensures { result ≡ same_term (named_host name.now) (term_view term.now) }
+{
+    match term {
+        Term::Named(other) => other.as_str() == name,
+        Term::This | Term::Item | Term::Member(_) => false,
+    }
+}
+
+fn is_place(term: &Term, member: &Member) -> bool
+    ensures { result ≡ same_term
+        (group_member (string_bytes member.now.group) member.now.place) (term_view term.now) }
+{
+    match term {
+        Term::Member(other) => is_member(member, other),
+        Term::Named(_) | Term::This | Term::Item => false,
+    }
+}
+
+fn is_member(one: &Member, other: &Member) -> bool
+    ensures { result ≡ bytes_eq (string_bytes one.now.group) (string_bytes other.now.group)
+        && nat_eq one.now.place other.now.place }
+{
+    one.group == other.group && one.place == other.place
+}
+
+// Whether the paths show that the path is there.
+fn shows(paths: &[Arc<Path>], path: &Path) -> bool
+    ensures { result ≡ is_present_path (root_view path.now.root) (names_of path.now.steps.items)
+        (presents_view paths.now) }
+{
+    for shown in paths {
+        if is_same_root(&path.root, &shown.root) && begins(&path.steps, &shown.steps) {
+            return true;
+        }
+    }
+    false
+}
+
+fn is_same_root(one: &Root, other: &Root) -> bool
+    ensures { result ≡ same_root (root_view one.now) (root_view other.now) }
+{
+    match (one, other) {
+        (Root::Variable(name), Root::Variable(other)) => name == other,
+        (Root::Other(term, name), Root::Other(host, other)) => {
+            is_same_term(term, host) && name == other
+        }
+        (Root::Member(member), Root::Member(other)) => is_member(member, other),
+        (Root::Variable(_), _) | (Root::Other(_, _), _) | (Root::Member(_), _) => false,
+    }
+}
+
+fn is_same_term(one: &Term, other: &Term) -> bool
+    ensures { result ≡ same_term (term_view one.now) (term_view other.now) }
+{
+    match one {
+        Term::Named(name) => is_named(other, name.as_str()),
+        Term::This => matches!(other, Term::This),
+        Term::Item => matches!(other, Term::Item),
+        Term::Member(member) => is_place(other, member),
+    }
 }
 
 fn begins(few: &[String], many: &[String]) -> bool
@@ -143,40 +259,19 @@ fn begins(few: &[String], many: &[String]) -> bool
     }
 }
 
-/// What both ways of two teach, of which one was taken: of each name the least kind above both, and
-/// the paths that both showed to be there. It takes time for each name that is known.
-///
-/// # Errors
-///
-/// Want of memory.
-pub(crate) fn both(
-    alloc: Global,
-    known: &Slots,
-    one: &Taught,
-    other: &Taught,
-) -> Result<Taught, AllocError>
-    ensures { IfOk result (λ t. scope_view known.now t
-        ≡ both_scopes (scope_view known.now one.now) (scope_view known.now other.now)) }
+// What both ways of two teach, of which one was taken.
+pub(crate) fn both(alloc: Global, one: &Taught, other: &Taught) -> Result<Taught, AllocError>
+    ensures { IfOk result (λ t. (c : Scope) →
+        scope_view c t ≡ both_scopes (scope_view c one.now) (scope_view c other.now)) }
 {
-    let first = whole(alloc, known, &one.slots)?;
-    let second = whole(alloc, known, &other.slots)?;
     Ok(Taught {
-        slots: join_slots(alloc, &first, &second)?,
+        slots: both_slots(alloc, &one.slots, &other.slots)?,
+        views: both_views(alloc, &one.views, &other.views)?,
         paths: both_paths(alloc, &one.paths, &other.paths)?,
+        active: both_names(alloc, &one.active, &other.active)?,
+        item_slots: both_slots(alloc, &one.item_slots, &other.item_slots)?,
+        item_active: one.item_active & other.item_active,
     })
-}
-
-// What is known of all names; they stand in their order.
-fn whole(alloc: Global, known: &Slots, taught: &Slots) -> Result<Slots, AllocError>
-    ensures whole { IfOk result (λ s. slots_view s.entries
-        ≡ over (slots_view taught.now.entries) (slots_view known.now.entries)) }
-    ensures ordered { IsOrdered string_cmp known.now }
-{
-    let mut all = slots_copied(alloc, known)?;
-    for (name, slot) in taught.iter() {
-        put_copy(&mut all, name, slot)?;
-    }
-    Ok(all)
 }
 
 fn both_paths(
@@ -194,4 +289,29 @@ fn both_paths(
         }
     }
     Ok(all)
+}
+
+fn both_names(alloc: Global, few: &[String], many: &[String]) -> Result<Vec<String>, AllocError>
+    ensures { IfOk result (λ ns. names_of ns.items
+        ≡ both_names (names_of few.now) (names_of many.now)) }
+{
+    let mut all = Vec::new(alloc);
+    for name in few {
+        if has_name(many, name.as_str()) {
+            all.push(name.clone()?)?;
+        }
+    }
+    Ok(all)
+}
+
+// Whether the name is among the names.
+pub(crate) fn has_name(names: &[String], name: &str) -> bool
+    ensures { result ≡ is_among name.now (names_of names.now) }
+{
+    for other in names {
+        if name == other.as_str() {
+            return true;
+        }
+    }
+    false
 }

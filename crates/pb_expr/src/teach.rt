@@ -7,10 +7,10 @@ ghost use Rattle.pb_language.specs.Narrow.{has_slot, least_record, on_results, w
 ghost use Rattle.pb_language.specs.Scope.{with_slot};
 ghost use Rattle.pb_language.specs.Words.{results_of};
 ghost use Rattle.pb_value.specs.Words.{cases_view, is_always, kind_view, shape_view, slots_view};
-ghost use Rattle.pb_expr.specs.ExprView.{names_of, status_view};
+ghost use Rattle.pb_syntax.specs.ExprView.{names_of, status_view};
 
-use crate::expr::Status;
 use crate::scope::slots_copied;
+use pb_syntax::Status;
 use pb_value::below::{find, has_field};
 use pb_value::{Case, Kind, Shape, Slot, Slots, join_all, put_slot};
 use std::alloc::{AllocError, Global};

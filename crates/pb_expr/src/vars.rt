@@ -1,27 +1,67 @@
-// What the names in an expression hold.
+// The world that an expression is evaluated in.
 ghost use Rattle.std.specs.Prelude.{◌≡◌, option_map};
+ghost use Rattle.pb_semantics.specs.Keeps.{is_among};
 ghost use Rattle.pb_semantics.specs.Words.{field_value};
 ghost use Rattle.pb_language.specs.Words.{World};
+ghost use Rattle.pb_language.specs.World.{member_of, variables_of};
 ghost use Rattle.pb_value.specs.Words.{fields_view, view};
 ghost use Rattle.pb_expr.specs.OwnWorld.{own_world};
 
 use pb_value::{Fields, Value};
 
-/// What the names in an expression hold.
+/// The world that an expression is evaluated in: what the names of the host hold, and what the host
+/// knows of the other hosts, of the batch and of the groups.
 pub trait Vars {
     /// The world that an expression is evaluated in.
     ghost world: { Self → World };
 
-    /// The value at the name; none where nothing stands there.
+    /// The value at a name of the host's own; none where nothing stands there.
     fn value(&self, name: &str) -> Option<&Value>
         ensures { option_map (λ v. view v.now) result
             ≡ field_value name.now (world self.now).mine };
+
+    /// The host's name, which is `inventory_hostname`.
+    fn this(&self) -> &str
+        ensures { result.now ≡ (world self.now).this };
+
+    /// The value of a variable of the host of that name; none where there is no such host, or it
+    /// has no such variable.
+    fn other(&self, host: &str, name: &str) -> Option<&Value>
+        ensures { option_map (λ v. view v.now) result
+            ≡ field_value name.now (variables_of host.now (world self.now).hosts) };
+
+    /// Whether the host of that name is active in the batch.
+    fn is_active(&self, host: &str) -> bool
+        ensures { result ≡ is_among host.now (world self.now).batch };
+
+    /// The name of the host at that place of the group, from 0 on; none where there is no such
+    /// group, or it has no such place.
+    fn member(&self, group: &str, place: usize) -> Option<&str>
+        ensures { option_map (λ s. s.now) result
+            ≡ member_of group.now place (world self.now).groups };
 }
 
+/// The variables of a host alone: its name is the empty one, and it knows of no other host.
 impl Vars for Fields {
     ghost world = { λ m. own_world (fields_view m.entries) };
 
     fn value(&self, name: &str) -> Option<&Value> {
         self.get(name)
+    }
+
+    fn this(&self) -> &str {
+        ""
+    }
+
+    fn other(&self, _host: &str, _name: &str) -> Option<&Value> {
+        None
+    }
+
+    fn is_active(&self, _host: &str) -> bool {
+        false
+    }
+
+    fn member(&self, _group: &str, _place: usize) -> Option<&str> {
+        None
     }
 }

@@ -8,7 +8,7 @@ use Rattle.pb_value.specs.declared.kind.Case.{Case}
 use Rattle.pb_value.specs.declared.kind.Kind.{Kind}
 use Rattle.pb_value.proofs.JoinLemmas.{append_none}
 use Rattle.pb_value.proofs.Views.{kind_view-Rec}
-use Rattle.pb_expr.specs.ExprView.{names_of}
+use Rattle.pb_syntax.specs.ExprView.{names_of}
 use Rattle.pb_expr.proofs.NewCases.{stepped-turn, stepped-out, stepped-record}
 use Rattle.pb_expr.proofs.defined.+defined_at.Goals as goal
 use Rattle.pb_expr.proofs.defined.+defined_at.Goals.{cases_defined-then-can_have_below+in_ok-fields+in_ok-defined+in_ok-push, cases_defined-else-can_have_below}

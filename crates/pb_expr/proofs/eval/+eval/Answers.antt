@@ -8,9 +8,9 @@ use Rattle.pb_language.specs.Evaluation.{eval, eval_items, eval_parts, eval_text
 use Rattle.pb_value.specs.View.{view, items_view, fields_view, fields_of}
 use Rattle.pb_value.proofs.Fields.{put_last}
 use Rattle.pb_value.specs.Append.{append_fields}
-use Rattle.pb_expr.specs.ExprView.{comparison_view, expr_view, exprs_view, parts_view}
+use Rattle.pb_syntax.specs.ExprView.{comparison_view, expr_view, exprs_view, parts_view}
 use Rattle.pb_expr.specs.OwnWorld.{shown}
-use Rattle.pb_expr.specs.declared.expr.Expr.{Expr}
+use Rattle.pb_syntax.specs.declared.expr.Expr.{Expr}
 use Rattle.pb_expr.proofs.Outcomes.{compared-by, joined-by, found-by, after_items, after_fields, fields-end}
 use Rattle.pb_expr.proofs.Exprs.{view-Bool, view-Opaque, view-And, view-Or, view-Compare, view-Join, view-In, view-List}
 use Rattle.pb_expr.proofs.Turns.{all-turn, all-stops, all-spoilt, all-done, any-turn, any-stops, any-spoilt, any-done, list-turn, list-spoilt, list-done, record-turn, record-spoilt, fields-last}

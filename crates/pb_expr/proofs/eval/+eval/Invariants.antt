@@ -1,9 +1,9 @@
 use Rattle.std.proofs.Common.{◌≡◌, ◌++◌, List, map, drop, String, Global, string_bytes}
 use Rattle.pb_language.specs.Evaluation.{eval, eval_all, eval_any, eval_items, eval_parts, eval_text}
 use Rattle.pb_value.specs.View.{items_view, fields_view, fields_of}
-use Rattle.pb_expr.specs.ExprView.{expr_view, exprs_view, parts_view}
+use Rattle.pb_syntax.specs.ExprView.{expr_view, exprs_view, parts_view}
 use Rattle.pb_expr.specs.OwnWorld.{shown}
-use Rattle.pb_expr.specs.declared.expr.Expr.{Expr}
+use Rattle.pb_syntax.specs.declared.expr.Expr.{Expr}
 use Rattle.pb_expr.proofs.Outcomes.{after_items, after_fields}
 use Rattle.pb_expr.proofs.MadeTexts.{after_text}
 use Rattle.pb_expr.proofs.eval.+eval.Given as goal

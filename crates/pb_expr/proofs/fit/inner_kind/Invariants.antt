@@ -1,6 +1,6 @@
 use Rattle.std.proofs.Common.{drop}
 use Rattle.pb_value.specs.KindView.{kind_view}
-use Rattle.pb_expr.specs.ExprView.{names_of}
+use Rattle.pb_syntax.specs.ExprView.{names_of}
 use Rattle.pb_expr.specs.FitView.{LeadsTo}
 use Rattle.pb_expr.proofs.fit.inner_kind.Given as goal
 

@@ -1,22 +1,30 @@
-use Rattle.std.proofs.Common.{◌∷◌, true, string_bytes, ap, ◌∙◌}
-use Rattle.pb_semantics.specs.Kind.{put_slot}
-use Rattle.pb_value.specs.KindView.{is_always, kind_view, slots_view}
-use Rattle.pb_value.proofs.GrowLemmas.{ascend_slots}
-use Rattle.pb_expr.specs.ExprView.{names_of}
-use Rattle.pb_expr.specs.TaughtView.{present_view, presents_view}
-use Rattle.pb_expr.proofs.Overlaid.{present-taught}
+use Rattle.std.proofs.Common.{List, ◌∷◌, sym, ap, ◌∙◌}
+use Rattle.pb_language.specs.Expression.{Name, Root}
+use Rattle.pb_language.specs.Narrow.{defined_at, there_spot}
+use Rattle.pb_language.specs.Scope.{Present, Scope, resolved}
+use Rattle.pb_syntax.specs.ExprView.{names_of, root_view}
+use Rattle.pb_expr.specs.TaughtView.{present_view, presents_view, scope_view}
+use Rattle.pb_expr.proofs.Untold.{present-kept, resolved-taught}
 use Rattle.pb_expr.proofs.narrow.show.Goals as goal
 
+abbrev shown_at : Root → List Name → Present
+shown_at q ns = record { root = q; steps = ns }
+
+abbrev with_present : List Present → Scope → Scope
+with_present ps c = record c { present = ps }
+
 pub returns : goal.returns
-returns c =
-    let n = string_bytes c.args.path.now.root in
-    let ts = slots_view c.args.taught.slots.entries in
-    let ps = presents_view c.args.taught.paths.items in
-    let slot = c.always.result in
-    present-taught n (names_of c.args.path.now.steps.items) (kind_view c.in_ok-kind.kind) ts (slots_view c.args.known.now.entries)
-    (slots_view c.put_slot.new.slots.entries) ps (presents_view c.insert.new.self.items)
-    (ascend_slots c.args.known.now.entries c.in_ok-kind.ensures.ordered)
-    (c.in_ok-put_slot.ensures ∙ ap (λ m. put_slot m (is_always slot.presence) (kind_view slot.kind) ts) c.in_ok-clone.ensures.cases
-    ∙ ap (λ p. put_slot n (is_always p) (kind_view slot.kind) ts) c.always.ensures.presence ∙ ap (λ j. put_slot n true (kind_view j) ts) c.always.ensures.kind)
-    c.in_ok-kind.ensures.there
-    (ap presents_view c.in_ok-insert.ensures.items ∙ ap (λ p. p ∷ ps) (ap present_view c.in_ok-shown.ensures.ok ∙ c.in_ok-path_copied.ensures))
+returns g c =
+    let k = g.K.Known.scope c.args.known.now in
+    let d = scope_view k c.args.taught in
+    let r = root_view c.args.path.now.root in
+    let names = names_of c.args.path.now.steps.items in
+    let t = c.in_ok-taught.taught in
+    let made = c.in_ok-shown_path.field-0 in
+    let shown = shown_at (resolved d r) names in
+    let new = ap present_view c.in_ok-shown.ensures.ok
+    ∙ ap (λ q. shown_at q (names_of made.steps.items)) (c.in_ok-shown_path.ensures.root ∙ sym (resolved-taught k c.args.taught r))
+    ∙ ap (shown_at (resolved d r)) c.in_ok-shown_path.ensures.steps in
+    let paths = ap presents_view c.in_ok-insert.ensures.items ∙ ap (λ p. p ∷ presents_view t.paths.items) new
+    ∙ ap (λ ps. shown ∷ ps) (ap (λ z. z.present) c.in_ok-taught.ensures ∙ present-kept d (there_spot (defined_at names)) r) in
+    ap (λ ps. with_present ps (scope_view k t)) paths ∙ ap (with_present (shown ∷ d.present)) c.in_ok-taught.ensures

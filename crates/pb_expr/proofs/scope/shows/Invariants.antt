@@ -1,11 +1,10 @@
-use Rattle.std.proofs.Common.{◌≡◌, drop, string_bytes}
-use Rattle.pb_language.specs.Expression.{variable}
+use Rattle.std.proofs.Common.{◌≡◌, drop}
 use Rattle.pb_language.specs.Scope.{is_present_path}
-use Rattle.pb_expr.specs.ExprView.{names_of}
+use Rattle.pb_syntax.specs.ExprView.{names_of, root_view}
 use Rattle.pb_expr.specs.TaughtView.{presents_view}
 use Rattle.pb_expr.proofs.scope.shows.Given as goal
 
 abbrev pub invariant-loop-shown : goal.invariant-loop-shown
 invariant-loop-shown l =
-    let shown = is_present_path (variable (string_bytes l.path.root)) (names_of l.path.steps.items) in
+    let shown = is_present_path (root_view l.path.root) (names_of l.path.steps.items) in
     shown (presents_view l.paths) ≡ shown (presents_view (drop l.shown-index l.paths))

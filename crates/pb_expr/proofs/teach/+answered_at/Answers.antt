@@ -6,7 +6,7 @@ use Rattle.pb_language.specs.Narrow.{answers, cases_changed, cases_with, changed
 use Rattle.pb_value.specs.KindView.{cases_view, is_always, kind_view, slots_view}
 use Rattle.pb_value.proofs.JoinLemmas.{append_none}
 use Rattle.pb_value.proofs.Views.{kind_view-Rec}
-use Rattle.pb_expr.specs.ExprView.{names_of, status_view}
+use Rattle.pb_syntax.specs.ExprView.{names_of, status_view}
 use Rattle.pb_expr.proofs.NewCases.{changed-turn, changed-record, same-record}
 use Rattle.pb_expr.proofs.teach.+answered_at.Goals as goal
 

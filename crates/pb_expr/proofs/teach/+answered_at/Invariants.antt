@@ -2,7 +2,7 @@ use Rattle.std.proofs.Common.{◌≡◌, ◌+◌, ◌*◌, drop, length, string_
 use Rattle.pb_semantics.specs.Join.{append_cases}
 use Rattle.pb_language.specs.Narrow.{answers, cases_changed, cases_with, changed_at, on_results, with_change}
 use Rattle.pb_value.specs.KindView.{cases_view}
-use Rattle.pb_expr.specs.ExprView.{names_of, status_view}
+use Rattle.pb_syntax.specs.ExprView.{names_of, status_view}
 use Rattle.pb_expr.proofs.teach.+answered_at.Given as goal
 
 abbrev pub decreases-answered_at : goal.decreases-answered_at

@@ -5,7 +5,7 @@ use Rattle.pb_value.specs.KindView.{cases_view}
 use Rattle.pb_value.specs.declared.kind.Case.{Case}
 use Rattle.pb_value.specs.declared.kind.Kind.{Kind}
 use Rattle.pb_value.proofs.JoinLemmas.{append_none}
-use Rattle.pb_expr.specs.ExprView.{status_view}
+use Rattle.pb_syntax.specs.ExprView.{status_view}
 use Rattle.pb_expr.proofs.Answered.{kept-turn, left-turn}
 use Rattle.pb_expr.proofs.teach.cases_answered.Goals as goal
 use Rattle.pb_expr.proofs.teach.cases_answered.Goals.{then-may_answer+in_ok-copy+in_ok-push, else-may_answer}

@@ -1,0 +1,147 @@
+// What a test changes of what is known of the value at a root.
+ghost use Rattle.std.specs.Prelude.{◌≡◌, IfOk, string_bytes};
+ghost use Rattle.pb_language.specs.Expression.{item_host, other, variable};
+ghost use Rattle.pb_language.specs.Narrow.{teach, teach_host};
+ghost use Rattle.pb_language.specs.Scope.{is_certain, spot_kind};
+ghost use Rattle.pb_value.specs.Words.{is_always, kind_view};
+ghost use Rattle.pb_syntax.specs.ExprView.{names_of, root_view};
+ghost use Rattle.pb_expr.specs.ChangeView.{change_view};
+ghost use Rattle.pb_expr.specs.TaughtView.{scope_view, slot_given};
+
+use crate::defined::defined_at;
+use crate::known::Known;
+use crate::roots::item_slot;
+use crate::scope::{Taught, own_slot};
+use crate::teach::answered_at;
+use crate::views::{copied, host_slot, place_slot, teach_host};
+use pb_syntax::{Path, Root, Status, Term};
+use pb_value::{Kind, Slot};
+use std::alloc::{AllocError, Global};
+
+/// What a test showed of the value at the end of a path.
+#[derive(Clone, Copy)]
+pub enum Change {
+    /// Each step of the path is there.
+    There,
+    /// The test of that status had that answer.
+    Answered(Status, bool),
+}
+
+// What is taught of the value at the root of the path.
+pub(crate) fn teach<K: Known>(
+    alloc: Global,
+    change: Change,
+    path: &Path,
+    known: &K,
+    taught: Taught,
+) -> Result<Taught, AllocError>
+    ensures { let k = K.scope known.now in
+        IfOk result (λ t. scope_view k t ≡ teach (scope_view k taught)
+        (change_view change (names_of path.now.steps.items)) (root_view path.now.root)) }
+{
+    match &path.root {
+        Root::Variable(name) => teach_own(alloc, change, path, name, known, taught),
+        Root::Other(term, name) => match term {
+            Term::Named(host) => teach_there(
+                alloc,
+                change,
+                path,
+                host.as_str(),
+                name,
+                known,
+                taught,
+            ),
+            Term::This => teach_there(alloc, change, path, known.this(), name, known, taught),
+            Term::Item => teach_item(alloc, change, path, name, known, taught),
+            Term::Member(member) => match known.member(member.group.as_str(), member.place) {
+                Some(host) => teach_there(alloc, change, path, host, name, known, taught),
+                None => Ok(taught),
+            },
+        },
+        Root::Member(_) => Ok(taught),
+    }
+}
+
+fn teach_own<K: Known>(
+    alloc: Global,
+    change: Change,
+    path: &Path,
+    name: &String,
+    known: &K,
+    taught: Taught,
+) -> Result<Taught, AllocError>
+    ensures { let k = K.scope known.now in
+        IfOk result (λ t. scope_view k t ≡ teach (scope_view k taught)
+        (change_view change (names_of path.now.steps.items)) (variable (string_bytes name.now))) }
+{
+    let slot = copied(own_slot(known, &taught, name.as_str()))?;
+    let slot = changed(alloc, change, &path.steps, slot)?;
+    let mut taught = taught;
+    place_slot(&mut taught.slots, name.clone()?, slot)?;
+    Ok(taught)
+}
+
+fn teach_item<K: Known>(
+    alloc: Global,
+    change: Change,
+    path: &Path,
+    name: &String,
+    known: &K,
+    taught: Taught,
+) -> Result<Taught, AllocError>
+    ensures { let k = K.scope known.now in
+        IfOk result (λ t. scope_view k t ≡ teach (scope_view k taught)
+        (change_view change (names_of path.now.steps.items))
+        (other item_host (string_bytes name.now))) }
+{
+    let slot = item_slot(alloc, name.as_str(), known, &taught)?;
+    let slot = changed(alloc, change, &path.steps, slot)?;
+    let mut taught = taught;
+    place_slot(&mut taught.item_slots, name.clone()?, slot)?;
+    Ok(taught)
+}
+
+fn teach_there<K: Known>(
+    alloc: Global,
+    change: Change,
+    path: &Path,
+    host: &str,
+    name: &String,
+    known: &K,
+    taught: Taught,
+) -> Result<Taught, AllocError>
+    ensures { let k = K.scope known.now in
+        IfOk result (λ t. scope_view k t ≡ teach_host (scope_view k taught)
+        (change_view change (names_of path.now.steps.items)) (string_bytes name.now) host.now) }
+{
+    let slot = host_slot(known, &taught, false, name.as_str(), host)?;
+    let slot = changed(alloc, change, &path.steps, slot)?;
+    teach_host(alloc, known, taught, host, name.as_str(), slot)
+}
+
+// What is known once that changed; of what isn't known it is that there is nothing.
+fn changed(
+    alloc: Global,
+    change: Change,
+    steps: &[String],
+    slot: Option<Slot<Kind>>,
+) -> Result<Slot<Kind>, AllocError>
+    ensures certain { IfOk result (λ s. is_always s.presence
+        ≡ is_certain (change_view change (names_of steps.now) (slot_given slot))) }
+    ensures kind { IfOk result (λ s. kind_view s.kind
+        ≡ spot_kind (change_view change (names_of steps.now) (slot_given slot))) }
+{
+    match change {
+        Change::There => match slot {
+            Some(slot) => Ok(Slot::always(defined_at(alloc, &slot.kind, steps)?)),
+            None => Ok(Slot::always(Kind::Never)),
+        },
+        Change::Answered(status, answer) => match slot {
+            Some(slot) => Ok(Slot {
+                presence: slot.presence,
+                kind: answered_at(alloc, &slot.kind, steps, status, answer)?,
+            }),
+            None => Ok(Slot::maybe(Kind::Never)),
+        },
+    }
+}

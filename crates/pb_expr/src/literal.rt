@@ -1,0 +1,60 @@
+// The kind of a value that is known.
+ghost use Rattle.std.specs.Prelude.{◌≡◌, IfOk, OnOk, string_bytes, true};
+ghost use Rattle.pb_semantics.specs.Words.{count_of, lists, put_slot, recs};
+ghost use Rattle.pb_language.specs.Words.{known_items, known_kind, known_slots};
+ghost use Rattle.pb_value.specs.Words.{fields_view, items_view, kind_view, slots_view, view};
+
+use pb_value::{Fields, Kind, Slot, Slots, Value, join_all, put_slot};
+use std::alloc::{AllocError, Global};
+use std::collections::BTreeMap;
+
+// The kind of a value that is known.
+#[cycle(literal_kind)]
+pub(crate) fn literal_kind(alloc: Global, known: &Value) -> Result<Kind, AllocError>
+    ensures { IfOk result (λ k. kind_view k ≡ known_kind (view known.now)) }
+{
+    match known {
+        Value::Null => Ok(Kind::Null),
+        Value::Bool(_) => Ok(Kind::Bool),
+        Value::Int(_) => Ok(Kind::Int),
+        Value::Text(_) => Ok(Kind::Text),
+        Value::List(items) => literal_items(alloc, items),
+        Value::Rec(fields) => literal_fields(alloc, fields),
+        Value::Opaque => Ok(Kind::Any),
+    }
+}
+
+#[cycle(literal_kind)]
+fn literal_items(alloc: Global, items: &[Value]) -> Result<Kind, AllocError>
+    ensures { IfOk result (λ k. kind_view k
+        ≡ lists (known_items (items_view items.now))
+        (count_of (items_view items.now))) }
+{
+    let mut kinds = Vec::new(alloc);
+    for item in items {
+        let kind = literal_kind(alloc, item)?;
+        kinds.push(kind)?;
+    }
+    let joined = join_all(alloc, &kinds)?;
+    Kind::of_item(alloc, joined, items.len())
+}
+
+#[cycle(literal_kind)]
+fn literal_fields(alloc: Global, fields: &Fields) -> Result<Kind, AllocError>
+    ensures { IfOk result (λ k. kind_view k ≡ recs (known_slots (fields_view fields.now.entries))) }
+{
+    let mut kinds = BTreeMap::new(alloc);
+    for (name, field) in fields.iter() {
+        let kind = literal_kind(alloc, field)?;
+        put_certain(&mut kinds, name, kind)?;
+    }
+    Kind::of_slots(alloc, kinds)
+}
+
+// The field certainly has that kind.
+pub(crate) fn put_certain(kinds: &mut Slots, name: &String, kind: Kind) -> Result<(), AllocError>
+    ensures { OnOk result (slots_view kinds.new.entries
+        ≡ put_slot (string_bytes name.now) true (kind_view kind) (slots_view kinds.old.entries)) }
+{
+    put_slot(kinds, name.clone()?, Slot::always(kind))
+}

@@ -1,0 +1,153 @@
+// Why an expression isn't fit, and what is asked of the value at a root.
+ghost use Rattle.std.specs.Prelude.{◌≡◌, option_map};
+ghost use Rattle.pb_language.specs.Fit.{active_fault, hosts_fault, read_fault, term_fault};
+ghost use Rattle.pb_language.specs.Expression.{item_host};
+ghost use Rattle.pb_language.specs.Fit.{asks, tested_fault};
+ghost use Rattle.pb_language.specs.Kinds.{root_spot};
+ghost use Rattle.pb_language.specs.Scope.{hosts_of, is_certain};
+ghost use Rattle.pb_syntax.specs.ExprView.{root_view, term_view};
+ghost use Rattle.pb_expr.specs.FitView.{fault_view};
+ghost use Rattle.pb_expr.specs.TaughtView.{scope_view, slot_given};
+
+use crate::kinds::holds_any;
+use crate::known::Known;
+use crate::roots::has_item;
+use crate::scope::{Taught, own_slot};
+use pb_syntax::{Root, Term};
+use pb_value::{Kind, Slot};
+use thiserror::Error;
+
+/// Why an expression isn't fit.
+#[derive(Clone, Copy, PartialEq, Eq, Debug, Error)]
+pub enum Unfit {
+    /// A name that may hold nothing.
+    #[error("a name that may hold nothing")]
+    Undefined,
+    /// A variable of another host that may hold nothing.
+    #[error("a variable of another host that may hold nothing")]
+    UndefinedThere,
+    /// A field that may be missing.
+    #[error("a field that may be missing")]
+    MissingField,
+    /// An operand of another kind than its form asks.
+    #[error("an operand of another kind than its form asks")]
+    WrongKind,
+    /// A place of a group at which no host stands.
+    #[error("a place of a group at which no host stands")]
+    UnknownName,
+}
+
+// That the fault is there, where what is asked isn't so.
+fn asked_of(is_so: bool, unfit: Unfit) -> Option<Unfit>
+    ensures { option_map fault_view result ≡ asks (fault_view unfit) is_so }
+{
+    if is_so { None } else { Some(unfit) }
+}
+
+// What a value that is read is asked for; the slot is that of the root.
+pub(crate) fn read_unfit<K: Known>(
+    known: &K,
+    taught: &Taught,
+    root: &Root,
+    slot: &Option<Slot<Kind>>,
+) -> Option<Unfit>
+    requires { slot_given slot.now
+        ≡ root_spot (scope_view (K.scope known.now) taught.now) (root_view root.now) }
+    ensures { option_map fault_view result
+        ≡ read_fault (scope_view (K.scope known.now) taught.now) (root_view root.now) }
+{
+    match root {
+        Root::Variable(_) => asked_of(is_sure(slot), Unfit::Undefined),
+        Root::Other(term, _) => {
+            if let Some(unfit) = term_unfit(known, taught, term) {
+                return Some(unfit);
+            }
+            if let Some(unfit) = hosts_unfit(known, taught, term) {
+                return Some(unfit);
+            }
+            asked_of(is_sure(slot), Unfit::UndefinedThere)
+        }
+        Root::Member(member) => asked_of(
+            known.member(member.group.as_str(), member.place).is_some(),
+            Unfit::UnknownName,
+        ),
+    }
+}
+
+fn is_sure(slot: &Option<Slot<Kind>>) -> bool
+    ensures { result ≡ is_certain (slot_given slot.now) }
+{
+    match slot {
+        Some(slot) => slot.presence.is_always(),
+        None => false,
+    }
+}
+
+// What a value that is tested is asked for.
+pub(crate) fn tested_unfit<K: Known>(known: &K, taught: &Taught, root: &Root) -> Option<Unfit>
+    ensures { option_map fault_view result
+        ≡ tested_fault (scope_view (K.scope known.now) taught.now) (root_view root.now) }
+{
+    match root {
+        Root::Other(term, _) => hosts_unfit(known, taught, term),
+        Root::Variable(_) | Root::Member(_) => None,
+    }
+}
+
+// What a term is asked for: a certain item, or a host at that place of the group.
+pub(crate) fn term_unfit<K: Known>(known: &K, taught: &Taught, term: &Term) -> Option<Unfit>
+    ensures { option_map fault_view result
+        ≡ term_fault (scope_view (K.scope known.now) taught.now) (term_view term.now) }
+{
+    match term {
+        Term::Named(_) | Term::This => None,
+        Term::Item => asked_of(has_item(known, taught), Unfit::Undefined),
+        Term::Member(member) => asked_of(
+            known.member(member.group.as_str(), member.place).is_some(),
+            Unfit::UnknownName,
+        ),
+    }
+}
+
+// What a term that is looked for in the batch is asked for: an item may not be opaque.
+pub(crate) fn active_unfit<K: Known>(known: &K, taught: &Taught, term: &Term) -> Option<Unfit>
+    ensures { option_map fault_view result
+        ≡ active_fault (scope_view (K.scope known.now) taught.now) (term_view term.now) }
+{
+    match term {
+        Term::Item => item_unfit(known, taught),
+        Term::Named(_) | Term::This | Term::Member(_) => None,
+    }
+}
+
+fn item_unfit<K: Known>(known: &K, taught: &Taught) -> Option<Unfit>
+    ensures { option_map fault_view result
+        ≡ active_fault (scope_view (K.scope known.now) taught.now) item_host }
+{
+    match own_slot(known, taught, "item") {
+        Some(slot) => asked_of(!holds_any(&slot.kind), Unfit::WrongKind),
+        None => None,
+    }
+}
+
+// What a term that names a host is asked for: an item is one of known hosts.
+fn hosts_unfit<K: Known>(known: &K, taught: &Taught, term: &Term) -> Option<Unfit>
+    ensures { option_map fault_view result ≡ hosts_fault
+        (hosts_of (scope_view (K.scope known.now) taught.now) (term_view term.now)) }
+{
+    match term {
+        Term::Item => item_hosts_unfit(known, taught),
+        Term::Named(_) | Term::This | Term::Member(_) => None,
+    }
+}
+
+fn item_hosts_unfit<K: Known>(known: &K, taught: &Taught) -> Option<Unfit>
+    ensures { option_map fault_view result ≡ hosts_fault
+        (hosts_of (scope_view (K.scope known.now) taught.now) item_host) }
+{
+    match &own_slot(known, taught, "item")?.kind {
+        Kind::Never | Kind::Host(_) => None,
+        Kind::Text | Kind::Any | Kind::Null | Kind::Bool | Kind::Int => Some(Unfit::WrongKind),
+        Kind::List(_, _) | Kind::Rec(_) | Kind::Result(_, _) => Some(Unfit::WrongKind),
+    }
+}

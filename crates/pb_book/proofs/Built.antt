@@ -11,8 +11,8 @@ use Rattle.pb_semantics.proofs.Bools.{and-left, and-right, untrue}
 use Rattle.pb_language.specs.Expression.{Expressions, no_expressions, expression, Parts, no_parts, part}
 use Rattle.pb_value.specs.View.{view, items_view}
 use Rattle.pb_value.specs.declared.value.Value.{Value}
-use Rattle.pb_expr.specs.ExprView.{expr_view, exprs_view, parts_view}
-use Rattle.pb_expr.specs.declared.expr.Expr.{Expr}
+use Rattle.pb_syntax.specs.ExprView.{expr_view, exprs_view, parts_view}
+use Rattle.pb_syntax.specs.declared.expr.Expr.{Expr}
 use Rattle.pb_book.specs.Lines.{is_below, are_ascending}
 use Rattle.pb_book.specs.Faults.{refused}
 use Rattle.pb_book.specs.Meaning.{argument_parts}

@@ -2,8 +2,8 @@
 use Rattle.std.specs.Prelude.{Option, Some, None}
 use Rattle.pb_value.specs.declared.read.JsonFault.{JsonFault}
 use Rattle.pb_value.specs.declared.read.JsonFault.TheVariants as json
-use Rattle.pb_expr.specs.declared.fault.ExprFault.{ExprFault}
-use Rattle.pb_expr.specs.declared.fault.ExprFault.TheVariants as expr
+use Rattle.pb_syntax.specs.declared.fault.ExprFault.{ExprFault}
+use Rattle.pb_syntax.specs.declared.fault.ExprFault.TheVariants as expr
 use Rattle.pb_book.specs.declared.fault.FormFault.{FormFault}
 use Rattle.pb_book.specs.declared.fault.FormFault.TheVariants as form
 use Rattle.pb_book.specs.declared.fault.BookFault.{BookFault}
@@ -16,7 +16,6 @@ from_json json.NoMemory = NoMemory
 abbrev pub from_expr : ExprFault → FormFault
 from_expr (expr.Unreadable i) = form.NotBuilt
 from_expr expr.TooDeep = form.NotBuilt
-from_expr expr.NotBuilt = form.NotBuilt
 from_expr expr.NoMemory = form.NoMemory
 
 -- the definition gives nothing, or it is want of memory

@@ -5,3 +5,4 @@ pub mod Faults
 pub mod Reading
 pub mod Outlines
 pub mod Words
+pub mod Simple

@@ -6,8 +6,8 @@ use Rattle.pb_language.specs.Expression.{part}
 use Rattle.pb_language.specs.Book as language
 use Rattle.pb_language.specs.Book.{module_work, debug_work, set_fact_work}
 use Rattle.pb_language.specs.plain.Books.{PlainTask, are_plain_tasks}
-use Rattle.pb_expr.specs.ExprView.{expr_view}
-use Rattle.pb_expr.specs.declared.expr.Expr.{Expr}
+use Rattle.pb_syntax.specs.ExprView.{expr_view}
+use Rattle.pb_syntax.specs.declared.expr.Expr.{Expr}
 use Rattle.pb_book.specs.declared.book.Argument.{Argument}
 use Rattle.pb_book.specs.declared.book.Work.{Work}
 use Rattle.pb_book.specs.declared.book.Work.TheVariants.{Module, Debug, SetFact}

@@ -6,7 +6,6 @@ use Rattle.pb_semantics.specs.Data.{Data, boolean, text, list, rec, null, count_
 use Rattle.pb_semantics.specs.Data.{field_value}
 use Rattle.pb_semantics.specs.Limits.{most_expression_bytes}
 use Rattle.pb_semantics.specs.Signature.{ModuleData}
-use Rattle.pb_expr.specs.Forms.{opening_at}
 use Rattle.pb_language.specs.Expression.{Name, no_parts}
 use Rattle.pb_book.specs.Reading.{is_named, is_play, lone, work_with, works_of}
 
@@ -48,8 +47,3 @@ may_be_condition None = true
 may_be_condition (Some (boolean b)) = true
 may_be_condition (Some (text bs)) = nat_le (length bs) most_expression_bytes
 may_be_condition (Some d) = false
-
--- where its first template, statement or comment begins, of a text
-abbrev pub opening_in : Data → Option ℕ
-opening_in (text bs) = opening_at bs
-opening_in d = None

@@ -13,13 +13,19 @@ use Rattle.pb_sig.specs.Modules.{module_at}
 use Rattle.pb_value.specs.FromJson.{json_data}
 use Rattle.pb_language.specs.Expression.{Name, Expression, literal, list_of, record_of, Expressions}
 use Rattle.pb_language.specs.Expression.{no_expressions, expression, Parts, no_parts, part}
-use Rattle.pb_language.specs.plain.Grammar.{expression_of, template_of, has_opening}
+use Rattle.pb_language.specs.Grammar.{expression_of, opens_here, template_of}
 use Rattle.pb_language.specs.Rules.{is_variable_name}
+use Rattle.pb_language.specs.Simple.{is_simple}
 use Rattle.pb_language.specs.Book as language
 use Rattle.pb_language.specs.Book.{module_work, debug_work, set_fact_work}
 use Rattle.pb_language.specs.plain.Books.{PlainTask, plain_play}
 use Rattle.pb_book.specs.Books.{book_of}
 use Rattle.pb_book.specs.declared.book.Book.{Book}
+
+-- `{{`, `{%` or `{#` stands in the text
+abbrev pub has_opening : List ℕ → Bool
+has_opening [] = false
+has_opening (b ∷ bs) = opens_here b bs || has_opening bs
 
 -- a text that may be an expression is short; another may be longer
 abbrev pub text_fits : List ℕ → Bool
@@ -64,6 +70,11 @@ abbrev mutual
   some_field_holds no_fields = false
   some_field_holds (field n d fs) = holds_opening d || some_field_holds fs
 
+-- a tree of the forms that books may hold so far
+abbrev pub built : Option Expression → Option Expression
+built None = None
+built (Some e) = cond (is_simple e) (Some e) None
+
 abbrev pub with_item : Option Expression → Option Expressions → Option Expressions
 with_item None es = None
 with_item (Some e) None = None
@@ -85,7 +96,7 @@ as_record (Some ps) = Some (record_of ps)
 abbrev mutual
   -- the expression that a value is: itself, where no text in it may have a template
   pub value_of : Data → Option Expression
-  value_of (text bs) = template_of bs
+  value_of (text bs) = built (template_of bs)
   value_of (list ds) = cond (some_item_holds ds) (as_list (items_of ds)) (Some (literal (list ds)))
   value_of (rec fs) = cond (some_field_holds fs) (as_record (parts_of fs)) (Some (literal (rec fs)))
   value_of d = Some (literal d)
@@ -172,7 +183,7 @@ abbrev pub condition_of : Option Data → Option Expressions
 condition_of None = Some no_expressions
 condition_of (Some (boolean b)) = Some (expression (literal (boolean b)) no_expressions)
 condition_of (Some (text bs)) =
-    cond (nat_le (length bs) most_expression_bytes) (one_condition (expression_of bs)) None
+    cond (nat_le (length bs) most_expression_bytes) (one_condition (built (expression_of bs))) None
 condition_of (Some d) = None
 
 abbrev pub register_of : Option Data → Option (Option Name)

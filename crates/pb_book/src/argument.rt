@@ -1,20 +1,21 @@
 // The arguments of a task.
-ghost use Rattle.std.specs.Prelude.{◌<◌, ◌≡◌, Err, IfOk, Some, false, true, ℕ};
+ghost use Rattle.std.specs.Prelude.{◌≡◌, Err, IfOk, Some, false, true};
 ghost use Rattle.pb_semantics.specs.Words.{Gives, most_levels};
-ghost use Rattle.pb_language.specs.Words.{are_simple, has_opening, is_mark, is_simple, no_parts};
+ghost use Rattle.pb_language.specs.Words.{are_simple, is_mark, is_simple, no_parts};
 ghost use Rattle.pb_language.specs.Words.{parts_simple};
 ghost use Rattle.pb_value.specs.Words.{fields_view, items_view, view};
 ghost use Rattle.pb_expr.specs.Words.{expr_view, exprs_view, parts_view};
 ghost use Rattle.pb_book.specs.Faults.{refused};
 ghost use Rattle.pb_book.specs.Lines.{are_ascending, argument_names};
 ghost use Rattle.pb_book.specs.Meaning.{argument_parts};
-ghost use Rattle.pb_book.specs.Outlines.{opening_in};
-ghost use Rattle.pb_book.specs.Reading.{argument_of, arguments_of, fields_fit, fits, holds_opening};
+ghost use Rattle.pb_book.specs.Reading.{argument_of, arguments_of, fields_fit, fits};
+ghost use Rattle.pb_book.specs.Reading.{has_opening, holds_opening};
 ghost use Rattle.pb_book.specs.Reading.{items_fit, items_of, parts_of, some_field_holds};
 ghost use Rattle.pb_book.specs.Reading.{some_item_holds, text_fits, value_of, with_part};
 
 use crate::book::Argument;
 use crate::fault::FormFault;
+use crate::simple::built;
 use pb_expr::{Expr, parse_template};
 use pb_value::{Fields, Value};
 use std::alloc::Global;
@@ -73,8 +74,6 @@ fn argument_value(alloc: Global, value: &Value) -> Result<Expr, FormFault>
     ensures given { Gives (λ e. Some (expr_view e)) refused result (argument_of (view value.now)) }
     ensures large { fits most_levels (view value.now) ≡ false → result ≡ Err FormFault.NotBuilt }
     ensures simple { IfOk result (λ e. is_simple (expr_view e) ≡ true) }
-    ensures apart { (at : ℕ) → opening_in (view value.now) ≡ Some at → 0 < at
-        → result ≡ Err FormFault.NoMemory → ⊥ }
 {
     if !fits(value, MOST_LEVELS) {
         return Err(FormFault::NotBuilt);
@@ -189,14 +188,12 @@ fn some_field_holds(fields: &Fields) -> bool
 fn expr_of(alloc: Global, value: &Value) -> Result<Expr, FormFault>
     ensures given { Gives (λ e. Some (expr_view e)) refused result (value_of (view value.now)) }
     ensures simple { IfOk result (λ e. is_simple (expr_view e) ≡ true) }
-    ensures apart { (at : ℕ) → opening_in (view value.now) ≡ Some at → 0 < at
-        → result ≡ Err FormFault.NoMemory → ⊥ }
 {
     if !holds_template(value) {
         return Ok(Expr::Literal(value.clone()?));
     }
     match value {
-        Value::Text(text) => Ok(parse_template(alloc, text.as_str())?),
+        Value::Text(text) => built(parse_template(alloc, text.as_str())?),
         Value::List(items) => Ok(Expr::List(list_of(alloc, items)?)),
         Value::Rec(fields) => Ok(Expr::Record(record_of(alloc, fields)?)),
         _ => Ok(Expr::Literal(value.clone()?)),

@@ -52,9 +52,7 @@ impl From<ExprFault> for FormFault {
 
     fn from(fault: ExprFault) -> FormFault {
         match fault {
-            ExprFault::Unreadable { at: _ } | ExprFault::TooDeep | ExprFault::NotBuilt => {
-                FormFault::NotBuilt
-            }
+            ExprFault::Unreadable { at: _ } | ExprFault::TooDeep => FormFault::NotBuilt,
             ExprFault::NoMemory => FormFault::NoMemory,
         }
     }

@@ -13,6 +13,7 @@ pub mod argument;
 pub mod book;
 pub mod fault;
 pub mod read;
+mod simple;
 pub mod task;
 
 pub use book::{Argument, Book, Play, Task, Work};

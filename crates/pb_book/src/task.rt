@@ -20,6 +20,7 @@ ghost use Rattle.pb_book.specs.Reading.{work_of as work_in, work_with, works_of}
 use crate::argument::{MOST_EXPRESSION_BYTES, MOST_TEXT_BYTES, arguments_of, lone_argument};
 use crate::book::{Argument, Task, Work};
 use crate::fault::FormFault;
+use crate::simple::built;
 use pb_expr::{Expr, parse_expr};
 use pb_sig::{Module, Registry, is_variable};
 use pb_value::{Fields, Value, field_of};
@@ -204,7 +205,7 @@ fn condition_of(alloc: Global, fields: &Fields) -> Result<Option<Expr>, FormFaul
         None => Ok(None),
         Some(Value::Bool(holds)) => Ok(Some(Expr::Literal(Value::Bool(*holds)))),
         Some(Value::Text(text)) if text.len() <= MOST_EXPRESSION_BYTES => {
-            Ok(Some(parse_expr(alloc, text.as_str())?))
+            Ok(Some(built(parse_expr(alloc, text.as_str())?)?))
         }
         Some(_) => Err(FormFault::NotBuilt),
     }

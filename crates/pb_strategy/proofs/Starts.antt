@@ -7,9 +7,9 @@ use Rattle.pb_semantics.proofs.Bools.{and-left, and-right}
 use Rattle.pb_language.specs.Evaluation.{Outcome, value, stuck, then_go, and_then}
 use Rattle.pb_language.specs.Start.{skips, calls, Pass, Plan, planned, Made, made, made_with, on_condition, with_pass}
 use Rattle.pb_language.specs.plain.Gives.{a_pass}
-use Rattle.pb_expr.specs.ExprView.{parts_view}
+use Rattle.pb_syntax.specs.ExprView.{parts_view}
 use Rattle.pb_expr.specs.OwnWorld.{shown}
-use Rattle.pb_expr.specs.declared.expr.Expr.{Expr}
+use Rattle.pb_syntax.specs.declared.expr.Expr.{Expr}
 use Rattle.pb_expr.proofs.Ascending.{Above, Ascending}
 use Rattle.pb_book.specs.Lines.{is_below, are_ascending, argument_names}
 use Rattle.pb_book.specs.Meaning.{argument_parts}

@@ -56,6 +56,22 @@ impl Vars for HostVars {
         }
         self.values.get(name)
     }
+
+    fn this(&self) -> &str {
+        ""
+    }
+
+    fn other(&self, _: &str, _: &str) -> Option<&Value> {
+        None
+    }
+
+    fn is_active(&self, _: &str) -> bool {
+        false
+    }
+
+    fn member(&self, _: &str, _: usize) -> Option<&str> {
+        None
+    }
 }
 
 /// What a task that was started waits for, or already came to.

@@ -21,7 +21,6 @@ fn fault_text(alloc: Global, fault: &ExprFault) -> Result<String, AllocError> {
     match fault {
         ExprFault::Unreadable { at } => format!(in alloc; "E01 {at}"),
         ExprFault::TooDeep => String::from_str(alloc, "E02"),
-        ExprFault::NotBuilt => String::from_str(alloc, "N00"),
         ExprFault::NoMemory => String::from_str(alloc, "no memory"),
     }
 }
@@ -77,10 +76,32 @@ const EXPRESSIONS: &[u8] = br#"{
     "-9223372036854775808": "-9223372036854775808",
     "'a\\'\\\\\\n\\t\\\"'": "a'\\\n\t\"",
     "\"it's\"": "it's",
-    "zz": "?"
+    "zz": "?",
+    "s | length": "5",
+    "[a, n, 'x'] | length": "3",
+    "n < 3": "false",
+    "n <= 3": "true",
+    "4 > n": "true",
+    "none == none": "true",
+    "none in [none]": "true",
+    "a is defined": "true",
+    "zz is undefined": "true",
+    "zz is not undefined": "false",
+    "r.y is defined": "false",
+    "zz | default(s)": "hello",
+    "s | default('x') | length": "5",
+    "['a', s] | join('-')": "a-hello",
+    "['a', s] | join": "ahello",
+    "r['x']": "3",
+    "r['x'] in [1, 3]": "true",
+    "'h' in ansible_play_batch": "false",
+    "hostvars.h.x is defined": "false",
+    "hostvars['h'].x | default(n)": "3",
+    "groups['web'][0] | default('none')": "none",
+    "hostvars": "?"
 }"#;
 
-// Texts that are no expression, and where; and texts of forms that aren't built yet.
+// Texts that are no expression, and where.
 const UNREAD: &[u8] = br#"{
     "": "E01 0",
     "a ==": "E01 4",
@@ -97,15 +118,14 @@ const UNREAD: &[u8] = br#"{
     "{{ a }}": "E01 0",
     "and": "E01 0",
     "a == not b": "E01 5",
-    "a | length": "N00",
-    "[a]": "N00",
-    "n < 3": "N00",
-    "none": "N00",
-    "a is defined": "N00",
     "a not b": "E01 6",
-    "hostvars.h.x": "N00",
-    "groups['web']": "N00",
-    "r['x']": "N00"
+    "a | lengthy": "E01 4",
+    "a is good": "E01 5",
+    "n <": "E01 3",
+    "[a": "E01 2",
+    "[a,": "E01 3",
+    "a[0]": "E01 2",
+    "groups.web[": "E01 11"
 }"#;
 
 // Texts that may hold an expression, each with what it is worth.
@@ -120,8 +140,11 @@ const TEMPLATES: &[u8] = br#"{
     "{{ a == }}": "E01 8",
     "x {% if %}": "E01 2",
     "{# c #}": "E01 0",
-    " {{ a }}": "N00",
-    "{{ a }}{{ b }}": "N00"
+    " {{ n }}": " 3",
+    "{{ n }}{{ s }}": "3hello",
+    "x{{ n }}y{{ s }}}z": "x3yhello}z",
+    "{{ n }} {{": "E01 10",
+    "{{ n }}{# c #}": "E01 7"
 }"#;
 
 // Each text of the table is worth what stands beside it; the number of them.
@@ -142,19 +165,19 @@ fn worths_found(alloc: Global, table: &[u8], are_templates: bool) -> Result<usiz
 
 #[test]
 fn expressions(rt: HostRuntime) -> Result<(), Fail> {
-    assert_eq!(rt; worths_found(rt.alloc(), EXPRESSIONS, false)?, 19);
+    assert_eq!(rt; worths_found(rt.alloc(), EXPRESSIONS, false)?, 41);
     Ok(())
 }
 
 #[test]
 fn unread_expressions(rt: HostRuntime) -> Result<(), Fail> {
-    assert_eq!(rt; worths_found(rt.alloc(), UNREAD, false)?, 24);
+    assert_eq!(rt; worths_found(rt.alloc(), UNREAD, false)?, 23);
     Ok(())
 }
 
 #[test]
 fn templates(rt: HostRuntime) -> Result<(), Fail> {
-    assert_eq!(rt; worths_found(rt.alloc(), TEMPLATES, true)?, 12);
+    assert_eq!(rt; worths_found(rt.alloc(), TEMPLATES, true)?, 15);
     Ok(())
 }
 
@@ -204,6 +227,9 @@ fn depths(rt: HostRuntime) -> Result<(), Fail> {
     is_worth(rt.alloc(), 32, "not ", "a", "", "true")?;
     is_worth(rt.alloc(), 33, "not ", "a", "", "E02")?;
     is_worth(rt.alloc(), 200, "", "a", " and a", "true")?;
+    is_worth(rt.alloc(), 200, "", "s", " | default('x')", "hello")?;
+    is_worth(rt.alloc(), 32, "[", "a", "]", "?")?;
+    is_worth(rt.alloc(), 33, "[", "a", "]", "E02")?;
     is_worth(rt.alloc(), 16, "", "r", ".x", "?")?;
     is_worth(rt.alloc(), 17, "", "r", ".x", "E02")
 }

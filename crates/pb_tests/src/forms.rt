@@ -2,7 +2,7 @@
 use pb_expr::defined::{can_have, defined_at};
 use pb_expr::eval::eval;
 use pb_expr::teach::{answered, answered_at};
-use pb_expr::{Comparison, Expr, KindFault, Path, Status, Taught, Unfit, kind_of};
+use pb_expr::{Comparison, Expr, KindFault, Path, Root, Status, Taught, Unfit, kind_of};
 use pb_value::below::find;
 use pb_value::{Case, Fields, Kind, Shape, Slot, Slots, Value, put_slot, read_json};
 use std::alloc::Global;
@@ -33,7 +33,7 @@ fn path(alloc: Global) -> Result<Path, Fail> {
     let mut steps = Vec::new(alloc);
     steps.push(String::from_str(alloc, "b")?)?;
     Ok(Path {
-        root: String::from_str(alloc, "a")?,
+        root: Root::Variable(String::from_str(alloc, "a")?),
         steps,
     })
 }

@@ -15,6 +15,8 @@ mod inventories;
 #[cfg(test)]
 mod lattices;
 #[cfg(test)]
+mod others;
+#[cfg(test)]
 mod refusals;
 #[cfg(test)]
 mod runs;
@@ -24,3 +26,5 @@ mod signatures;
 mod teaching;
 #[cfg(test)]
 mod views;
+#[cfg(test)]
+mod worlds;

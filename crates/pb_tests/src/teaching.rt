@@ -1,7 +1,7 @@
 // What tests teach of the expressions behind them: their trees are made by hand.
 use crate::forms::is_worth;
 use pb_expr::narrow::narrow;
-use pb_expr::{Comparison, Expr, KindFault, Path, Status, Taught, Unfit, kind_of};
+use pb_expr::{Comparison, Expr, KindFault, Path, Root, Status, Taught, Unfit, kind_of};
 use pb_value::{Case, Kind, Shape, Slot, Slots, Value, put_slot};
 use std::alloc::Global;
 use std::sync::Arc;
@@ -17,7 +17,7 @@ fn path(alloc: Global, root: &str, step: &str) -> Result<Path, Fail> {
     if step != "" {
         steps.push(text(alloc, step)?)?;
     }
-    let root = text(alloc, root)?;
+    let root = Root::Variable(text(alloc, root)?);
     Ok(Path { root, steps })
 }
 

@@ -14,12 +14,12 @@ use Rattle.pb_language.specs.plain.Books.{PlainTask}
 use Rattle.pb_language.specs.plain.Pass.{plain_action}
 use Rattle.pb_value.specs.Growing.{growing_view}
 use Rattle.pb_value.specs.KindView.{is_always}
-use Rattle.pb_expr.specs.FitView.{own_scope}
+use Rattle.pb_expr.specs.OwnScope.{own_scope}
 use Rattle.pb_verify.specs.Avoids.{avoids, all_avoid, parts_avoid, work_avoids, task_avoids}
 use Rattle.pb_verify.specs.Environments.{Reads, with_apart, is_left}
 use Rattle.pb_verify.specs.Way.{own_sets}
 use Rattle.pb_verify.specs.declared.environment.Apart.{Apart}
-use Rattle.pb_language.specs.Scope.{Scope, spot_kind}
+use Rattle.pb_language.specs.Scope.{Scope, own_spot, spot_kind}
 use Rattle.pb_language.specs.Kinds.{count, path_spot, kind_of, items_kind, parts_slots}
 use Rattle.pb_language.specs.Narrow.{teaches, any_teaches}
 use Rattle.pb_language.specs.Fit.{fault, chain_fault, are_booleans, items_fault, fields_fault}
@@ -31,7 +31,7 @@ use Rattle.pb_language.proofs.Untaught.{narrow_untaught}
 pub record SameBut (h : Name) (c d : Scope) : Type 0 where
   pub first_present : c.present ≡ []
   pub second_present : d.present ≡ []
-  pub own : (n : Name) → bytes_eq n h ≡ false → slot_at n c.own ≡ slot_at n d.own
+  pub own : (n : Name) → bytes_eq n h ≡ false → own_spot c n ≡ own_spot d n
 
 -- such a test teaches nothing
 mutual

@@ -23,7 +23,7 @@ use Rattle.pb_language.specs.plain.Tables.{Joins}
 use Rattle.pb_language.proofs.PlainFlow.{goes_on, work_sets_same}
 use Rattle.pb_language.proofs.PlainTables.{Covers, append_after, append_none, joins_one, nothing_joined, one_covers, two_cover}
 use Rattle.pb_language.proofs.PlainViews.{well_writes}
-use Rattle.pb_expr.specs.FitView.{own_scope}
+use Rattle.pb_expr.specs.OwnScope.{own_scope}
 use Rattle.pb_verify.specs.Way.{Stands, own_sets, work_result, written_result, failed_result, put_spot, join_slot, register_joined, all_joined, known_after, written_after}
 use Rattle.pb_verify.proofs.WalkWays.{is_kept, and-true, work_result-cases, SameOwn-action, Stands-after}
 

@@ -20,7 +20,7 @@ use Rattle.pb_language.specs.plain.Pass.{plain_action, plain_run, lone_setting}
 use Rattle.pb_language.proofs.PlainFlow.{work_fault_same, work_sets_same}
 use Rattle.pb_language.proofs.SameOwn.{SameOwn, any_untaught, same_conditions}
 use Rattle.pb_language.proofs.Untaught.{narrow_each_untaught}
-use Rattle.pb_expr.specs.FitView.{own_scope}
+use Rattle.pb_expr.specs.OwnScope.{own_scope}
 use Rattle.pb_verify.specs.Way.{Stands, own_fault, own_sets, work_result, registered, all_set, known_after}
 use Rattle.pb_verify.proofs.WalkNames.{Stands-put, Stands-set}
 

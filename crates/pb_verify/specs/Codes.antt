@@ -2,8 +2,8 @@
 use Rattle.std.specs.Prelude.{ℕ, List, codes}
 use Rattle.pb_verify.specs.declared.refusal.Code.{Code}
 use Rattle.pb_verify.specs.declared.refusal.Code.TheVariants.{N00, S01, S02, S03, S04, S05, P01}
-use Rattle.pb_verify.specs.declared.refusal.Code.TheVariants.{I01, A01, A02, A03, V01, V03, V04}
-use Rattle.pb_verify.specs.declared.refusal.Code.TheVariants.{V07, V08}
+use Rattle.pb_verify.specs.declared.refusal.Code.TheVariants.{I01, A01, A02, A03, V01, V02, V03}
+use Rattle.pb_verify.specs.declared.refusal.Code.TheVariants.{V04, V06, V07, V08}
 
 abbrev pub code_text : Code → List ℕ
 code_text N00 = codes "N00"
@@ -18,7 +18,9 @@ code_text A01 = codes "A01"
 code_text A02 = codes "A02"
 code_text A03 = codes "A03"
 code_text V01 = codes "V01"
+code_text V02 = codes "V02"
 code_text V03 = codes "V03"
 code_text V04 = codes "V04"
+code_text V06 = codes "V06"
 code_text V07 = codes "V07"
 code_text V08 = codes "V08"

@@ -8,7 +8,7 @@ use Rattle.pb_value.specs.Growing.{growing_view}
 use Rattle.pb_value.specs.KindView.{is_always, slots_view}
 use Rattle.pb_value.specs.declared.grow.Growing.{Growing}
 use Rattle.pb_value.specs.declared.kind.Slot.{Slot}
-use Rattle.pb_expr.specs.FitView.{own_scope}
+use Rattle.pb_expr.specs.OwnScope.{own_scope}
 use Rattle.pb_verify.specs.Avoids.{task_avoids}
 use Rattle.pb_verify.specs.Way.{own_fault, own_sets}
 use Rattle.pb_verify.specs.declared.environment.Apart.{Apart}

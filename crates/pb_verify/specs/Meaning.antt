@@ -8,7 +8,8 @@ use Rattle.pb_language.specs.Verdict as verdict
 use Rattle.pb_language.specs.Verdict.{Verdict, accepted, refused}
 use Rattle.pb_inventory.specs.Hosts.{HostData, InventoryData}
 use Rattle.pb_verify.specs.declared.refusal.Code.{Code}
-use Rattle.pb_verify.specs.declared.refusal.Code.TheVariants.{V01, V03, V04, V07, V08}
+use Rattle.pb_verify.specs.declared.refusal.Code.TheVariants.{V01, V02, V03, V04, V06, V07}
+use Rattle.pb_verify.specs.declared.refusal.Code.TheVariants.{V08}
 use Rattle.pb_verify.specs.declared.refusal.Refusal.{Refusal}
 
 abbrev pub member_names : List HostData → List ℕ → List Name
@@ -27,8 +28,10 @@ inventory_of i = record {
 -- the number of a V code, 0 for another
 abbrev pub code_number : Code → ℕ
 code_number V01 = 1
+code_number V02 = 2
 code_number V03 = 3
 code_number V04 = 4
+code_number V06 = 6
 code_number V07 = 7
 code_number V08 = 8
 code_number c = 0

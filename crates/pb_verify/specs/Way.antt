@@ -25,7 +25,7 @@ use Rattle.pb_language.specs.plain.Books.{PlainTask}
 use Rattle.pb_language.specs.plain.Pass.{plain_action, lone_setting}
 use Rattle.pb_value.specs.KindView.{kind_view}
 use Rattle.pb_value.specs.declared.kind.Kind.{Kind}
-use Rattle.pb_expr.specs.FitView.{own_scope}
+use Rattle.pb_expr.specs.OwnScope.{own_scope}
 use Rattle.pb_sig.specs.Results.{result_cases}
 
 -- the condition, then the arguments

@@ -38,7 +38,7 @@ impl Model for Checked {
     ghost use Rattle.pb_verify.specs.declared.checked.Accepted.{Accepted};
     ghost use Rattle.pb_value.specs.contracts.value.Value as value;
     ghost use Rattle.pb_value.specs.contracts.kind.Kind as kind;
-    ghost use Rattle.pb_expr.specs.contracts.expr.Expr as expr;
+    ghost use Rattle.pb_syntax.specs.contracts.expr.Expr as expr;
     ghost use Rattle.std.specs.Coded.{codes};
     ghost use Rattle.std_collections.specs.Layout.BTreeMap.{btree_map_code};
     ghost use Rattle.std_collections.specs.Layout.HashMap.{hash_map_code};

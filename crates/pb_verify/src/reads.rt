@@ -1,12 +1,15 @@
 // Which tasks read no variable of a name.
-ghost use Rattle.std.specs.Prelude.{◌≡◌};
+ghost use Rattle.std.specs.Prelude.{◌≡◌, List};
+ghost use Rattle.pb_language.specs.Expression.{path};
+ghost use Rattle.pb_language.specs.Words.{Name};
+ghost use Rattle.pb_syntax.specs.Words.{root_view};
 ghost use Rattle.pb_expr.specs.Words.{expr_view, exprs_view, parts_view};
 ghost use Rattle.pb_book.specs.Words.{argument_parts, condition_view, plain_task, work_of};
 ghost use Rattle.pb_verify.specs.Avoids.{all_avoid, avoids as is_avoided, parts_avoid};
 ghost use Rattle.pb_verify.specs.Avoids.{task_avoids, work_avoids};
 
 use pb_book::{Argument, Task, Work};
-use pb_expr::Expr;
+use pb_expr::{Expr, Root};
 use std::collections::BTreeMap;
 
 /// Whether the task reads no variable of that name, as far as is told of such a task.
@@ -52,7 +55,7 @@ fn avoids(expr: &Expr, name: &str) -> bool
 {
     match expr {
         Expr::Literal(_) => true,
-        Expr::Path(path) => path.root.as_str() != name,
+        Expr::Path(path) => root_avoids(&path.root, name),
         Expr::Not(operand) => avoids(operand, name),
         Expr::And(operands) => all_are_free(operands, name),
         Expr::Or(operands) => all_are_free(operands, name),
@@ -63,6 +66,16 @@ fn avoids(expr: &Expr, name: &str) -> bool
         Expr::Defined(_) | Expr::Undefinable(_) | Expr::Length(_) | Expr::Concat(_) => false,
         Expr::PathStatus(_, _) | Expr::Status(_, _) | Expr::PathOr(_, _) => false,
         Expr::ValueOr(_, _) | Expr::Join(_, _) => false,
+        Expr::InBatch(_) | Expr::Hostvars(_) => false,
+    }
+}
+
+fn root_avoids(root: &Root, name: &str) -> bool
+    ensures { (ns : List Name) → result ≡ is_avoided name.now (path (root_view root.now) ns) }
+{
+    match root {
+        Root::Variable(variable) => variable.as_str() != name,
+        Root::Other(_, _) | Root::Member(_) => false,
     }
 }
 

@@ -29,10 +29,14 @@ pub enum Code {
     A03,
     /// A variable that is perhaps undefined.
     V01,
+    /// A variable of another host that is perhaps undefined.
+    V02,
     /// A field that is perhaps missing.
     V03,
     /// A value of the wrong kind, or an opaque value that is read.
     V04,
+    /// A host or a group that isn't there.
+    V06,
     /// An unknown, missing or malformed parameter.
     V07,
     /// A name clash or a reserved name.
@@ -57,8 +61,10 @@ impl Code {
             Code::A02 => "A02",
             Code::A03 => "A03",
             Code::V01 => "V01",
+            Code::V02 => "V02",
             Code::V03 => "V03",
             Code::V04 => "V04",
+            Code::V06 => "V06",
             Code::V07 => "V07",
             Code::V08 => "V08",
         }

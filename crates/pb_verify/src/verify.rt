@@ -252,7 +252,9 @@ fn code_of(unfit: Unfit) -> Code
 {
     match unfit {
         Unfit::Undefined => Code::V01,
+        Unfit::UndefinedThere => Code::V02,
         Unfit::MissingField => Code::V03,
         Unfit::WrongKind => Code::V04,
+        Unfit::UnknownName => Code::V06,
     }
 }

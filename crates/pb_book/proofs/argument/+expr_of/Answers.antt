@@ -7,16 +7,16 @@ use Rattle.pb_value.specs.View.{view, items_view, fields_view}
 use Rattle.pb_value.specs.declared.value.Value as Value-of
 use Rattle.pb_value.specs.declared.value.Value.{Value}
 use Rattle.pb_value.specs.declared.weight.Weighed.{Weighed}
-use Rattle.pb_expr.specs.ExprView.{expr_view, exprs_view, parts_view}
-use Rattle.pb_expr.specs.declared.expr.Expr as Expr-of
-use Rattle.pb_expr.specs.declared.expr.Expr.{Expr, the_lemmas}
-use Rattle.pb_expr.proofs.Parsed.{are_simple-push}
+use Rattle.pb_syntax.specs.ExprView.{expr_view, exprs_view, parts_view}
+use Rattle.pb_syntax.specs.declared.expr.Expr as Expr-of
+use Rattle.pb_syntax.specs.declared.expr.Expr.{Expr, the_lemmas}
 use Rattle.pb_book.specs.Reading.{as_record, holds_opening, items_of, some_field_holds, parts_of, value_of, with_item, with_part}
 use Rattle.pb_book.proofs.Built.{Gives-refused, items_before, items_before-none, items_before-all, items_before-push, items_of-next, parts_before, parts_before-none, parts_before-all, parts_before-entry, insert_entry-next, entry_names-push}
 use Rattle.pb_value.proofs.Views.{view-fields}
-use Rattle.pb_book.proofs.Openings.{opening_in-none}
+use Rattle.pb_book.proofs.Openings.{value-plain}
+use Rattle.pb_expr.proofs.Exprs.{view-Literal}
 use Rattle.pb_book.proofs.Ordered.{entry_names}
-use Rattle.pb_book.proofs.Plain.{parts_simple-insert}
+use Rattle.pb_book.proofs.Plain.{are_simple-push, parts_simple-insert}
 use Rattle.pb_book.proofs.argument.+expr_of.Goals as goal
 
 record_of-holding : (v : Value) (fields : Arc (Weighed (BTreeMap (String Global) Value)) Global) (m : BTreeMap (String Global) Value) (b : Bool) → v ≡ Value-of.Rec fields → m ≡ fields.value.parts → b ≡ holds_opening (view v) → b ≡ true
@@ -106,7 +106,7 @@ record_of-returns-clause-given t c =
     let done = parts_view l.parts.entries in
     l.invariant.given ∙ ap (λ es. parts_before done (parts_of (fields_view es))) c.in-None.ensures.steps.0 ∙ parts_before-all done
 
-pub expr_of-returns-in_err-clone-clause-apart : goal.expr_of-returns-in_err-clone-clause-apart
-expr_of-returns-in_err-clone-clause-apart t c = λ at found.
-    let none = opening_in-none (view c.args.value.now) (sym c.holds_template.ensures ∙ c.if-not-holds_template.true) in
-    let clash = sym none ∙ found in cc
+pub expr_of-returns-then-not-holds_template-clause-given :
+    goal.expr_of-returns-then-not-holds_template-clause-given
+expr_of-returns-then-not-holds_template-clause-given t c =
+    value-plain (view c.args.value.now) (sym c.holds_template.ensures ∙ c.if-not-holds_template.true) ∙ ap (λ d. Some (language.literal d)) (sym c.in_ok-clone.ensures.cases) ∙ ap Some (sym (view-Literal c.in_ok-clone.field-0))

@@ -1,7 +1,7 @@
 use Rattle.std.proofs.Common.{◌≡◌, ◌++◌, drop, true}
 use Rattle.pb_language.specs.Simple.{are_simple, parts_simple}
 use Rattle.pb_value.specs.View.{items_view, fields_view}
-use Rattle.pb_expr.specs.ExprView.{exprs_view, parts_view}
+use Rattle.pb_syntax.specs.ExprView.{exprs_view, parts_view}
 use Rattle.pb_book.specs.Reading.{items_of, parts_of}
 use Rattle.pb_book.proofs.Built.{items_before, parts_before}
 use Rattle.pb_book.proofs.Ordered.{entry_names}

@@ -3,7 +3,7 @@ use Rattle.std.proofs.lemmas.List.{append-nil}
 use Rattle.pb_language.specs.Simple.{parts_simple}
 use Rattle.pb_value.specs.View.{view, fields_view}
 use Rattle.pb_value.specs.declared.value.Value.{Value}
-use Rattle.pb_expr.specs.ExprView.{expr_view}
+use Rattle.pb_syntax.specs.ExprView.{expr_view}
 use Rattle.pb_book.specs.Lines.{argument_names}
 use Rattle.pb_book.specs.Meaning.{argument_parts}
 use Rattle.pb_book.specs.Reading.{argument_of, with_part}

@@ -1,5 +1,5 @@
 use Rattle.std.proofs.Common.{◌≡◌, drop}
-use Rattle.pb_language.specs.plain.Grammar.{has_opening}
+use Rattle.pb_book.specs.Reading.{has_opening}
 use Rattle.pb_book.proofs.Openings.{opens_from}
 use Rattle.pb_book.proofs.argument.has_opening.Given as goal
 

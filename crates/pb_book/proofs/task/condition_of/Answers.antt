@@ -4,8 +4,8 @@ use Rattle.pb_language.specs.Expression.{expression, literal, no_expressions}
 use Rattle.pb_value.specs.View.{view}
 use Rattle.pb_value.specs.declared.value.Value as Value-of
 use Rattle.pb_value.specs.declared.value.Value.{Value}
-use Rattle.pb_expr.specs.ExprView.{expr_view}
-use Rattle.pb_expr.specs.declared.expr.Expr as Expr-of
+use Rattle.pb_syntax.specs.ExprView.{expr_view}
+use Rattle.pb_syntax.specs.declared.expr.Expr as Expr-of
 use Rattle.pb_expr.proofs.Exprs.{view-Bool, view-Literal}
 use Rattle.pb_book.specs.Reading.{condition_of}
 use Rattle.pb_book.proofs.task.condition_of.Goals as goal

@@ -5,9 +5,9 @@ use Rattle.pb_language.specs.Evaluation.{eval, eval_parts}
 use Rattle.pb_value.specs.View.{fields_view, fields_of}
 use Rattle.pb_value.proofs.Fields.{put_last}
 use Rattle.pb_value.specs.Append.{append_fields}
-use Rattle.pb_expr.specs.ExprView.{expr_view, parts_view}
+use Rattle.pb_syntax.specs.ExprView.{expr_view, parts_view}
 use Rattle.pb_expr.specs.OwnWorld.{own_world, shown}
-use Rattle.pb_expr.specs.declared.expr.Expr.{Expr}
+use Rattle.pb_syntax.specs.declared.expr.Expr.{Expr}
 use Rattle.pb_expr.proofs.Ascending.{Ascending}
 use Rattle.pb_expr.proofs.Outcomes.{after_fields, fields-end}
 use Rattle.pb_expr.proofs.Exprs.{view-Opaque}

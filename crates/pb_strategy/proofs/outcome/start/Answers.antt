@@ -2,7 +2,7 @@ use Rattle.std.proofs.Common.{◌≡◌, false, refl, sym, ap, ◌∙◌}
 use Rattle.pb_language.specs.Evaluation.{eval}
 use Rattle.pb_language.specs.Start.{eval_action}
 use Rattle.pb_language.specs.plain.Pass.{plain_action}
-use Rattle.pb_expr.specs.ExprView.{expr_view}
+use Rattle.pb_syntax.specs.ExprView.{expr_view}
 use Rattle.pb_expr.specs.OwnWorld.{own_world, shown}
 use Rattle.pb_book.specs.Meaning.{plain_task}
 use Rattle.pb_strategy.specs.OwnNames.{own_fields}

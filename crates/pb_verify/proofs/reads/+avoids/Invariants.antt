@@ -1,5 +1,5 @@
 use Rattle.std.proofs.Common.{◌≡◌, drop}
-use Rattle.pb_expr.specs.ExprView.{exprs_view, parts_view}
+use Rattle.pb_syntax.specs.ExprView.{exprs_view, parts_view}
 use Rattle.pb_verify.specs.Avoids.{all_avoid, parts_avoid}
 use Rattle.pb_verify.proofs.reads.+avoids.Given as goal
 

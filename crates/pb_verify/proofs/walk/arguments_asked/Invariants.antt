@@ -1,7 +1,7 @@
 use Rattle.std.proofs.Common.{◌≡◌, map, drop}
 use Rattle.pb_language.specs.Judgement.{arguments_fault}
 use Rattle.pb_value.specs.KindView.{slots_view}
-use Rattle.pb_expr.specs.FitView.{own_scope}
+use Rattle.pb_expr.specs.OwnScope.{own_scope}
 use Rattle.pb_sig.specs.Views.{parameter_view}
 use Rattle.pb_book.specs.Meaning.{argument_parts}
 use Rattle.pb_verify.proofs.walk.arguments_asked.Given as goal

@@ -2,7 +2,8 @@ use Rattle.std.proofs.Common.{None, option_map, subst, sym, ap, ◌∙◌}
 use Rattle.pb_semantics.specs.Gives.{Gives}
 use Rattle.pb_language.specs.Judgement.{arguments_fault}
 use Rattle.pb_value.specs.KindView.{slots_view}
-use Rattle.pb_expr.specs.FitView.{fault_found, own_scope}
+use Rattle.pb_expr.specs.FitView.{fault_found}
+use Rattle.pb_expr.specs.OwnScope.{own_scope}
 use Rattle.pb_sig.specs.ModuleView.{known_view}
 use Rattle.pb_sig.specs.Modules.{modules_of}
 use Rattle.pb_book.specs.Meaning.{argument_parts}

@@ -3,7 +3,7 @@ use Rattle.std.proofs.lemmas.List.{drop_all}
 use Rattle.pb_language.specs.Cases.{append_sets, sets, parts_set}
 use Rattle.pb_language.specs.Fit.{fields_fault, first}
 use Rattle.pb_value.specs.KindView.{kind_view, slots_view}
-use Rattle.pb_expr.specs.FitView.{own_scope}
+use Rattle.pb_expr.specs.OwnScope.{own_scope}
 use Rattle.pb_expr.proofs.Turns.{drop-at}
 use Rattle.pb_book.specs.Meaning.{argument_parts}
 use Rattle.pb_verify.specs.Way.{sets_of}

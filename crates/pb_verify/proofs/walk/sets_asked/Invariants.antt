@@ -2,7 +2,7 @@ use Rattle.std.proofs.Common.{◌≡◌, Bool, drop}
 use Rattle.pb_language.specs.Cases.{append_sets, parts_set}
 use Rattle.pb_language.specs.Fit.{fields_fault}
 use Rattle.pb_value.specs.KindView.{slots_view}
-use Rattle.pb_expr.specs.FitView.{own_scope}
+use Rattle.pb_expr.specs.OwnScope.{own_scope}
 use Rattle.pb_book.specs.Meaning.{argument_parts}
 use Rattle.pb_verify.specs.Way.{sets_of}
 use Rattle.pb_verify.proofs.walk.sets_asked.Given as goal

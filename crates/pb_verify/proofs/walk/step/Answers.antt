@@ -2,7 +2,7 @@ use Rattle.std.proofs.Common.{ap, ◌∙◌, not}
 use Rattle.pb_language.specs.Cases.{is_conditional}
 use Rattle.pb_language.specs.Expression.{no_parts}
 use Rattle.pb_verify.specs.Environments.{environment_view}
-use Rattle.pb_expr.specs.FitView.{own_scope}
+use Rattle.pb_expr.specs.OwnScope.{own_scope}
 use Rattle.pb_sig.specs.Modules.{modules_of}
 use Rattle.pb_book.specs.Meaning.{argument_parts, plain_task, work_of}
 use Rattle.pb_verify.specs.Way.{own_sets, written_result, register_joined, all_joined}

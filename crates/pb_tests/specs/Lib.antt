@@ -1,0 +1,2 @@
+pub mod TwoHosts
+pub mod TwoKnown

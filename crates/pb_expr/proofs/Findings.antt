@@ -1,5 +1,5 @@
 -- The fault and the kind of a form beside those of its operands.
-use Rattle.std.proofs.Common.{◌≡◌, ℕ, suc, ◌+◌, ◌<◌, List, [], ◌∷◌, ◌++◌, length, drop, get_or, String, Global, string_bytes, Result, Bool, true, false, ◌&&◌, Option, Some, None, refl, sym, ap, ◌∙◌}
+use Rattle.std.proofs.Common.{◌≡◌, ℕ, suc, ◌+◌, ◌<◌, List, [], ◌∷◌, ◌++◌, length, drop, get_or, String, Global, string_bytes, Bool, true, false, ◌&&◌, Option, Some, None, refl, sym, ap, ◌∙◌}
 use Rattle.pb_semantics.specs.Kind.{KindData, Slots, Spot, never, recs, nowhere, spot, slot_at}
 use Rattle.pb_semantics.specs.Join.{join}
 use Rattle.pb_language.specs.Expression.{Name, Expressions, expression}
@@ -10,20 +10,30 @@ use Rattle.pb_language.specs.Narrow.{narrow}
 use Rattle.pb_value.specs.KindView.{kind_view}
 use Rattle.pb_value.specs.declared.kind.Kind.{Kind}
 use Rattle.pb_syntax.specs.ExprView.{expr_view, exprs_view, names_of}
-use Rattle.pb_expr.specs.FitView.{LeadsTo, certain, fault_found}
-use Rattle.pb_expr.specs.declared.fit.KindFault.{KindFault}
-use Rattle.pb_expr.specs.declared.fit.KindFault.TheVariants as faults
-use Rattle.pb_semantics.specs.Gives.{FaultGives, Gives}
-use Rattle.std.proofs.lemmas.Result.{err_from_is_err_and}
-use Rattle.std.specs.Result.{IsErrAnd}
+use Rattle.pb_expr.specs.FitView.{LeadsTo, certain}
 use Rattle.pb_value.specs.Growing.{joined_onto}
 use Rattle.pb_syntax.specs.declared.expr.Expr.{Expr}
 use Rattle.pb_expr.proofs.Turns.{drop-at}
 
+first-first : (f g h : Option Fault) → first (first f g) h ≡ first f (first g h)
+first-first None g h = refl
+first-first (Some x) g h = refl
+
+-- a part's fault comes after those before it, and before those after it
+pub fault-turn : (f g h u : Option Fault) → u ≡ first f g → first f (first g h) ≡ first u h
+fault-turn f g h u is = sym (first-first f g h) ∙ ap (λ x. first x h) (sym is)
+
+pub first-none : (f : Option Fault) → first f None ≡ f
+first-none None = refl
+first-none (Some x) = refl
+
 -- a chain knows at each operand what those before it taught
-pub chain-turn : (c d : Scope) (e : Expr) (es : Expressions) (b : Bool) → fault c (expr_view e) ≡ None → d ≡ narrow c (expr_view e) b
-    → chain_fault c (expression (expr_view e) es) b ≡ chain_fault d es b
-chain-turn c d e es b h is = ap (λ f. first f (chain_fault (narrow c (expr_view e) b) es b)) h ∙ ap (λ s. chain_fault s es b) (sym is)
+pub chain-turn : (f g u : Option Fault) (c d : Scope) (e : Expr) (es : Expressions) (b : Bool) → g ≡ fault c (expr_view e) → u ≡ first f g → d ≡ narrow c (expr_view e) b
+    → first f (chain_fault c (expression (expr_view e) es) b) ≡ first u (chain_fault d es b)
+chain-turn f g u c d e es b found is later =
+    ap (λ x. first f (first x (chain_fault (narrow c (expr_view e) b) es b))) (sym found)
+    ∙ fault-turn f g (chain_fault (narrow c (expr_view e) b) es b) u is
+    ∙ ap (λ s. first u (chain_fault s es b)) (sym later)
 
 pub booleans-turn : (a q : Bool) (k : KindData) (c d : Scope) (e : Expr) (es : Expressions) (b : Bool) → q ≡ is_boolean k → k ≡ kind_of c (expr_view e) → d ≡ narrow c (expr_view e) b
     → a && are_booleans c (expression (expr_view e) es) b ≡ (a && q) && are_booleans d es b
@@ -49,7 +59,7 @@ certain-spot (spot false j) k h = cc
 pub field-certain : (n : Name) (ns : List Name) (ss : Slots) (k : KindData) → certain (slot_at n ss) ≡ Some k → LeadsTo (n ∷ ns) (recs ss) ns k
 field-certain n ns ss k h =
     let there = certain-spot (slot_at n ss) k h in
-    (ap (λ s. field_fault s (steps_fault ns)) there, ap (λ s. spot_kind (path_spot ns (below_spot true s))) there)
+    ap (λ s. field_fault s (steps_fault ns)) there
 
 missing : (s : Spot) (g : KindData → Option Fault) → certain s ≡ None → field_fault s g ≡ Some perhaps_missing
 missing nowhere g h = refl
@@ -60,8 +70,8 @@ pub field-uncertain : (n : Name) (ns : List Name) (ss : Slots) → certain (slot
 field-uncertain n ns ss h = missing (slot_at n ss) (steps_fault ns) h
 
 pub below-never : (n : Name) (ns : List Name) → LeadsTo (n ∷ ns) never ns never
-below-never n [] = (refl, refl)
-below-never n (m ∷ ns) = (refl, refl)
+below-never n [] = refl
+below-never n (m ∷ ns) = refl
 
 -- a path that is lost stays so
 pub nowhere-below : (ns : List Name) → path_spot ns nowhere ≡ nowhere
@@ -79,29 +89,9 @@ pub shown-kind : (s : Spot) (m : KindData) → spot_kind s ≡ default_kind (sho
 shown-kind nowhere m = refl
 shown-kind (spot a k) m = refl
 
--- the kind at the end of steps is the same, be the first certain or not
-below-either : (ns : List Name) (a b : Bool) (s : Spot) → spot_kind (path_spot ns (below_spot a s)) ≡ spot_kind (path_spot ns (below_spot b s))
-below-either ns a b nowhere = refl
-below-either [] a b (spot c k) = refl
-below-either (n ∷ ns) a b (spot c k) = below-either ns (a && c) (b && c) (step_spot n k)
-
-pub any-certainty : (ns : List Name) (a b : Bool) (k : KindData) → spot_kind (path_spot ns (spot a k)) ≡ spot_kind (path_spot ns (spot b k))
-any-certainty [] a b k = refl
-any-certainty (n ∷ ns) a b k = below-either ns a b (step_spot n k)
-
 pub and-true : (b : Bool) → b && true ≡ b
 and-true true = refl
 and-true false = refl
-
--- a fault that ends a chain is that of the chain
-stopped : (e : KindFault) (f g : Option Fault) → FaultGives (fault_found e) f → FaultGives (fault_found e) (first f g)
-stopped (faults.Unfit u) f g h = ap (λ x. first x g) h
-stopped faults.NoMemory f g h = tt
-
-pub chain-stops : (r : Result Kind KindFault) (e : KindFault) (f x a y : Option Fault) → IsErrAnd r (λ d. d ≡ e) → FaultGives (fault_found e) f → y ≡ first f x → Gives (λ (k : Kind). None) fault_found r (first y a)
-chain-stops r e f x a y is h k =
-    let p = err_from_is_err_and r is in
-    rw (p.1, p.2, k) (stopped e (first f x) a (stopped e f x h))
 
 pub never-steps : (ns : List Name) → None ≡ steps_fault ns never
 never-steps [] = refl

@@ -3,7 +3,7 @@
 use Rattle.std.proofs.Common.{◌≡◌, List, [], ◌∷◌, Bool, true, false, cond, Option, Some, None, refl, ap}
 use Rattle.pb_semantics.specs.Join.{join_spot}
 use Rattle.pb_semantics.specs.Kind.{Spot}
-use Rattle.pb_language.specs.Expression.{Name, Root, variable, alias, other, member, Term, named_host, this_host, item_host, group_member}
+use Rattle.pb_language.specs.Expression.{Name, Root, variable, alias, other, member, named_host, this_host, item_host, group_member}
 use Rattle.pb_language.specs.World.{member_of}
 use Rattle.pb_language.specs.Scope.{Scope, Present, each_spot, has_view, host_spot, put_view, resolved, unnamed, view_of, with_taught}
 use Rattle.pb_language.specs.Narrow.{teach, teach_host, teach_member}

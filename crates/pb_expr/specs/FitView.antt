@@ -1,15 +1,10 @@
 -- What finding a kind gives.
-use Rattle.std.specs.Prelude.{◌≡◌, Bool, true, false, List, [], Option, Some, None}
-use denote.Ref.{Bor}
+use Rattle.std.specs.Prelude.{◌≡◌, true, false, List, Option, Some, None}
 use Rattle.pb_semantics.specs.Kind.{KindData, Spot, nowhere, spot}
 use Rattle.pb_language.specs.Expression.{Name}
-use Rattle.pb_language.specs.Scope.{spot_kind}
-use Rattle.pb_language.specs.Kinds.{path_spot}
 use Rattle.pb_language.specs.Fit.{Fault, perhaps_undefined, perhaps_undefined_there}
 use Rattle.pb_language.specs.Fit.{perhaps_missing, wrong_kind, unknown_name}
 use Rattle.pb_language.specs.Fit.{steps_fault}
-use Rattle.pb_value.specs.KindView.{kind_view}
-use Rattle.pb_value.specs.declared.kind.Kind.{Kind}
 use Rattle.pb_expr.specs.declared.unfit.Unfit.{Unfit}
 use Rattle.pb_expr.specs.declared.unfit.Unfit.TheVariants.{Undefined, UndefinedThere}
 use Rattle.pb_expr.specs.declared.unfit.Unfit.TheVariants.{MissingField, WrongKind, UnknownName}
@@ -34,8 +29,6 @@ certain nowhere = None
 certain (spot true k) = Some k
 certain (spot false k) = None
 
--- the first steps below the first kind lead as the second below the second: to the same faults and
--- to the same kind
+-- the first steps below the first kind are asked for what the second below the second are
 abbrev pub LeadsTo : List Name → KindData → List Name → KindData → Type 0
-LeadsTo ns k ms m = (steps_fault ns k ≡ steps_fault ms m)
-    × (spot_kind (path_spot ns (spot true k)) ≡ spot_kind (path_spot ms (spot true m)))
+LeadsTo ns k ms m = steps_fault ns k ≡ steps_fault ms m

@@ -34,6 +34,11 @@ scope_view c t = record c {
   item_active = t.item_active;
 }
 
+-- what is known where more may have been taught than that
+abbrev pub here_view : Scope → Taught → Option Taught → Scope
+here_view c t None = scope_view c t
+here_view c t (Some more) = scope_view c more
+
 -- what is known, where no test has taught anything
 abbrev pub untaught : Scope → Scope
 untaught c = record c {

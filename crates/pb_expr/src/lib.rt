@@ -18,6 +18,8 @@ pub mod equal;
 pub mod eval;
 mod filter;
 pub mod fit;
+mod forms;
+mod inference;
 mod kinds;
 pub mod known;
 mod literal;
@@ -25,6 +27,7 @@ mod look;
 pub mod narrow;
 mod roots;
 pub mod scope;
+mod steps;
 pub mod teach;
 pub mod unfit;
 pub mod vars;
@@ -33,7 +36,8 @@ mod views;
 pub use fit::{KindFault, kind_of};
 pub use known::Known;
 pub use pb_syntax::{
-    Comparison, Expr, ExprFault, Member, Path, Root, Status, Term, parse_expr, parse_template,
+    Comparison, Expr, ExprFault, Member, Names, Path, Root, Status, Term, parse_expr,
+    parse_template,
 };
 pub use scope::Taught;
 pub use unfit::Unfit;

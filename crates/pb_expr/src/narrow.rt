@@ -7,7 +7,7 @@ ghost use Rattle.pb_language.specs.Narrow.{teaches, where_taught};
 ghost use Rattle.pb_language.specs.Scope.{Scope, resolved, resolved_term};
 ghost use Rattle.pb_syntax.specs.ExprView.{expr_view, exprs_view, names_of, root_view};
 ghost use Rattle.pb_syntax.specs.ExprView.{status_view, term_view};
-ghost use Rattle.pb_expr.specs.TaughtView.{scope_view, scopes_view, taught_by};
+ghost use Rattle.pb_expr.specs.TaughtView.{here_view, scope_view, scopes_view, taught_by};
 
 use crate::change::{Change, teach};
 use crate::known::Known;
@@ -51,6 +51,46 @@ pub fn narrow<K: Known>(
         Expr::Defined(_) | Expr::Undefinable(_) | Expr::Status(_, _) => Ok(taught),
         Expr::PathOr(_, _) | Expr::ValueOr(_, _) | Expr::Length(_) => Ok(taught),
         Expr::Join(_, _) | Expr::Concat(_) | Expr::List(_) | Expr::Record(_) => Ok(taught),
+    }
+}
+
+// What is taught here: more than was given, where there is a copy with more.
+pub(crate) fn taught_here<'t>(taught: &'t Taught, more: &'t Option<Taught>) -> &'t Taught
+    ensures { (c : Scope) → scope_view c result.now ≡ here_view c taught.now more.now }
+{
+    match more {
+        Some(more) => more,
+        None => taught,
+    }
+}
+
+// What is taught after an operand of a chain, which takes a copy only where the operand may teach.
+pub(crate) fn narrow_later<K: Known>(
+    alloc: Global,
+    operand: &Expr,
+    answer: bool,
+    known: &K,
+    taught: &Taught,
+    more: Option<Taught>,
+) -> Result<Option<Taught>, AllocError>
+    ensures { let c = K.scope known.now in
+        IfOk result (λ m. here_view c taught.now m
+        ≡ narrow (here_view c taught.now more) (expr_view operand.now) answer) }
+{
+    if teaches(operand) {
+        let here = own_taught(alloc, taught, more)?;
+        return Ok(Some(narrow(alloc, operand, answer, known, here)?));
+    }
+    Ok(more)
+}
+
+// What is taught here, to be changed.
+fn own_taught(alloc: Global, taught: &Taught, more: Option<Taught>) -> Result<Taught, AllocError>
+    ensures { IfOk result (λ t. (c : Scope) → scope_view c t ≡ here_view c taught.now more) }
+{
+    match more {
+        Some(more) => Ok(more),
+        None => taught.copy(alloc),
     }
 }
 

@@ -17,7 +17,7 @@ ghost use Rattle.pb_expr.specs.TaughtView.{presents_view, scope_view, untaught};
 use crate::both::{both_slots, both_views, views_copied};
 use crate::known::Known;
 use indexmap::IndexMap;
-use pb_syntax::{Member, Path, Root, Term};
+use pb_syntax::{Member, Names, Path, Root, Term};
 use pb_value::below::find;
 use pb_value::{Kind, Slot, Slots, put_slot};
 use std::alloc::{AllocError, Global};
@@ -34,7 +34,7 @@ pub struct Taught {
     /// The paths that were tested to be there, the last one first.
     pub paths: Vec<Arc<Path>>,
     /// The hosts that are known to be active in the batch, the last one first.
-    pub active: Vec<String>,
+    pub active: Names,
     /// Of variables of the host that the item of a loop names.
     pub item_slots: Slots,
     /// Whether that host is known to be active in the batch.
@@ -50,7 +50,7 @@ impl Taught {
             slots: BTreeMap::new(alloc),
             views: IndexMap::new(alloc),
             paths: Vec::new(alloc),
-            active: Vec::new(alloc),
+            active: Names::new(alloc),
             item_slots: BTreeMap::new(alloc),
             item_active: false,
         }
@@ -115,10 +115,10 @@ fn paths_copied(alloc: Global, paths: &[Arc<Path>]) -> Result<Vec<Arc<Path>>, Al
     Ok(all)
 }
 
-pub(crate) fn names_copied(alloc: Global, names: &[String]) -> Result<Vec<String>, AllocError>
+pub(crate) fn names_copied(alloc: Global, names: &[String]) -> Result<Names, AllocError>
     ensures { IfOk result (λ ns. names_of ns.items ≡ names_of names.now) }
 {
-    let mut all = Vec::new(alloc);
+    let mut all = Names::new(alloc);
     for name in names {
         let copy = name.clone()?;
         all.push(copy)?;
@@ -291,11 +291,11 @@ fn both_paths(
     Ok(all)
 }
 
-fn both_names(alloc: Global, few: &[String], many: &[String]) -> Result<Vec<String>, AllocError>
+fn both_names(alloc: Global, few: &[String], many: &[String]) -> Result<Names, AllocError>
     ensures { IfOk result (λ ns. names_of ns.items
         ≡ both_names (names_of few.now) (names_of many.now)) }
 {
-    let mut all = Vec::new(alloc);
+    let mut all = Names::new(alloc);
     for name in few {
         if has_name(many, name.as_str()) {
             all.push(name.clone()?)?;

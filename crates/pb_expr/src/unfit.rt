@@ -2,7 +2,7 @@
 ghost use Rattle.std.specs.Prelude.{◌≡◌, option_map};
 ghost use Rattle.pb_language.specs.Fit.{active_fault, hosts_fault, read_fault, term_fault};
 ghost use Rattle.pb_language.specs.Expression.{item_host};
-ghost use Rattle.pb_language.specs.Fit.{asks, tested_fault};
+ghost use Rattle.pb_language.specs.Fit.{asks, first, tested_fault};
 ghost use Rattle.pb_language.specs.Kinds.{root_spot};
 ghost use Rattle.pb_language.specs.Scope.{hosts_of, is_certain};
 ghost use Rattle.pb_syntax.specs.ExprView.{root_view, term_view};
@@ -37,8 +37,19 @@ pub enum Unfit {
     UnknownName,
 }
 
+// The first of two faults.
+pub(crate) fn first_of(one: Option<Unfit>, other: Option<Unfit>) -> Option<Unfit>
+    ensures { option_map fault_view result
+        ≡ first (option_map fault_view one) (option_map fault_view other) }
+{
+    match one {
+        Some(unfit) => Some(unfit),
+        None => other,
+    }
+}
+
 // That the fault is there, where what is asked isn't so.
-fn asked_of(is_so: bool, unfit: Unfit) -> Option<Unfit>
+pub(crate) fn asked_of(is_so: bool, unfit: Unfit) -> Option<Unfit>
     ensures { option_map fault_view result ≡ asks (fault_view unfit) is_so }
 {
     if is_so { None } else { Some(unfit) }

@@ -1,6 +1,10 @@
 // The tree of an expression or a template.
 use pb_value::Value;
+use smallvec::SmallVec;
 use std::collections::BTreeMap;
+
+/// A list of names, most often one.
+pub type Names = SmallVec<String, 1>;
 
 /// A host of a group, by its place there, from 0 on.
 #[derive(Drop)]
@@ -37,7 +41,7 @@ pub enum Root {
 #[derive(Drop)]
 pub struct Path {
     pub root: Root,
-    pub steps: Vec<String>,
+    pub steps: Names,
 }
 
 /// How two values are compared; `a != b` is `not a == b`.

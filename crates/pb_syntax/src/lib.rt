@@ -16,7 +16,7 @@ mod relation;
 pub mod template;
 mod test;
 
-pub use expr::{Comparison, Expr, Member, Path, Root, Status, Term};
+pub use expr::{Comparison, Expr, Member, Names, Path, Root, Status, Term};
 pub use fault::ExprFault;
 pub use parse::parse_expr;
 pub use template::parse_template;

@@ -1,5 +1,5 @@
 // Paths, and the hosts that they name.
-ghost use Rattle.std.specs.Prelude.{◌<◌, ◌≡◌, ◌≤◌, IfErr, IfOk, IfSome, drop};
+ghost use Rattle.std.specs.Prelude.{[], ◌<◌, ◌∷◌, ◌≡◌, ◌≤◌, IfErr, IfNone, IfOk, IfSome, drop};
 ghost use Rattle.std.specs.Prelude.{length, option_map, string_bytes};
 ghost use Rattle.std.specs.Str.Parse.{digits_value};
 ghost use Rattle.pb_semantics.specs.Words.{most_path_steps};
@@ -14,10 +14,10 @@ ghost use Rattle.pb_syntax.specs.Place.{place_of};
 ghost use Rattle.pb_syntax.specs.Reads.{IsNoStep, IsRead, IsRefused, member_view};
 ghost use Rattle.pb_syntax.specs.Reads.{next_view};
 
-use crate::expr::{Expr, Member, Path, Root, Term};
+use crate::expr::{Expr, Member, Names, Path, Root, Term};
 use crate::fault::ExprFault;
-use crate::items::alone;
 use crate::lexer::{Sort, Token, is_step, meaning_of, name_of, number_of, token_at, token_behind};
+use smallvec::SmallVec;
 use std::alloc::{AllocError, Global};
 
 /// How many steps a path may have.
@@ -195,14 +195,14 @@ fn groups_at(alloc: Global, text: &[u8], token: Token) -> Result<(Expr, Token), 
     Ok((
         Expr::Path(Path {
             root,
-            steps: Vec::new(alloc),
+            steps: SmallVec::new(alloc),
         }),
         after,
     ))
 }
 
 // The place in brackets behind the one step that names a group.
-fn member_at(text: &[u8], steps: Vec<String>, bracket: Token) -> Result<(Member, Token), ExprFault>
+fn member_at(text: &[u8], steps: Names, bracket: Token) -> Result<(Member, Token), ExprFault>
     requires token { IsToken text.now bracket }
     ensures read { IfOk result (λ r. IsRead _ _ member_view text.now bracket r
         (member_of (names_of steps.items) (tokens_of (drop bracket.end text.now)))) }
@@ -210,7 +210,7 @@ fn member_at(text: &[u8], steps: Vec<String>, bracket: Token) -> Result<(Member,
         (member_of (names_of steps.items) (tokens_of (drop bracket.end text.now)))) }
 {
     let digits = token_at(text, bracket.end)?;
-    let Ok(group) = alone(steps) else {
+    let Some(group) = only_step(steps) else {
         return Err(ExprFault::Unreadable { at: digits.start });
     };
     if digits.sort != Sort::Digits {
@@ -220,6 +220,15 @@ fn member_at(text: &[u8], steps: Vec<String>, bracket: Token) -> Result<(Member,
     let after = token_behind(text, close, Sort::CloseBracket)?;
     let place = place_at(text, digits);
     Ok((Member { group, place }, after))
+}
+
+// The step that stands alone.
+fn only_step(steps: Names) -> Option<String>
+    ensures one { IfSome result (λ s. steps.items ≡ s ∷ []) }
+    ensures other { IfNone result (length steps.items ≡ 1 → ⊥) }
+{
+    let mut steps = steps;
+    if steps.len() == 1 { steps.pop() } else { None }
 }
 
 // The place that digits spell, or one that no group has.
@@ -255,7 +264,7 @@ fn host_steps(
     Ok((host_path(host, steps), after))
 }
 
-fn host_path(host: Term, steps: Vec<String>) -> Expr
+fn host_path(host: Term, steps: Names) -> Expr
     ensures { expr_view result ≡ grammar.host_path (term_view host) (names_of steps.items) }
 {
     let mut steps = steps;
@@ -275,7 +284,7 @@ fn whole_steps_at(
     text: &[u8],
     token: Token,
     most: usize,
-) -> Result<(Vec<String>, Token), ExprFault>
+) -> Result<(Names, Token), ExprFault>
     requires token { IsToken text.now token }
     ensures read { IfOk result (λ r. IsRead _ _ (λ v. names_of v.items) text.now token r
         (grammar.unbracketed (steps_of most (tokens_at text.now token)))) }
@@ -306,14 +315,14 @@ fn steps_at(
     text: &[u8],
     token: Token,
     most: usize,
-) -> Result<(Vec<String>, Token), ExprFault>
+) -> Result<(Names, Token), ExprFault>
     requires token { IsToken text.now token }
     ensures read { IfOk result (λ r. IsRead _ _ (λ v. names_of v.items) text.now token r
         (steps_of most (tokens_at text.now token))) }
     ensures refused { IfErr result (λ e. IsRefused _ text.now e
         (steps_of most (tokens_at text.now token))) }
 {
-    let mut steps = Vec::new(alloc);
+    let mut steps = SmallVec::new(alloc);
     let mut after = token;
     'steps: while let Some((name, next)) = step_at(alloc, text, after)? {
         if steps.len() >= most {

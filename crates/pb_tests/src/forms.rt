@@ -2,7 +2,7 @@
 use pb_expr::defined::{can_have, defined_at};
 use pb_expr::eval::eval;
 use pb_expr::teach::{answered, answered_at};
-use pb_expr::{Comparison, Expr, KindFault, Path, Root, Status, Taught, Unfit, kind_of};
+use pb_expr::{Comparison, Expr, KindFault, Names, Path, Root, Status, Taught, Unfit, kind_of};
 use pb_value::below::find;
 use pb_value::{Case, Fields, Kind, Shape, Slot, Slots, Value, put_slot, read_json};
 use std::alloc::Global;
@@ -30,7 +30,7 @@ fn literals(alloc: Global, json: &str) -> Result<Vec<Expr>, Fail> {
 
 // `a.b`
 fn path(alloc: Global) -> Result<Path, Fail> {
-    let mut steps = Vec::new(alloc);
+    let mut steps = Names::new(alloc);
     steps.push(String::from_str(alloc, "b")?)?;
     Ok(Path {
         root: Root::Variable(String::from_str(alloc, "a")?),
@@ -280,8 +280,8 @@ fn answers_of_statuses(rt: HostRuntime) -> Result<(), Fail> {
     Ok(())
 }
 
-fn step(alloc: Global, name: &str) -> Result<Vec<String>, Fail> {
-    let mut steps = Vec::new(alloc);
+fn step(alloc: Global, name: &str) -> Result<Names, Fail> {
+    let mut steps = Names::new(alloc);
     steps.push(String::from_str(alloc, name)?)?;
     Ok(steps)
 }

@@ -1,7 +1,7 @@
 // What tests teach of the expressions behind them: their trees are made by hand.
 use crate::forms::is_worth;
 use pb_expr::narrow::narrow;
-use pb_expr::{Comparison, Expr, KindFault, Path, Root, Status, Taught, Unfit, kind_of};
+use pb_expr::{Comparison, Expr, KindFault, Names, Path, Root, Status, Taught, Unfit, kind_of};
 use pb_value::{Case, Kind, Shape, Slot, Slots, Value, put_slot};
 use std::alloc::Global;
 use std::sync::Arc;
@@ -13,7 +13,7 @@ fn text(alloc: Global, letters: &str) -> Result<String, Fail> {
 
 // `root.step`, or `root` alone where the step is empty.
 fn path(alloc: Global, root: &str, step: &str) -> Result<Path, Fail> {
-    let mut steps = Vec::new(alloc);
+    let mut steps = Names::new(alloc);
     if step != "" {
         steps.push(text(alloc, step)?)?;
     }

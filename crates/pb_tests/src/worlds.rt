@@ -4,7 +4,7 @@ ghost use Rattle.pb_value.specs.Words.{fields_view};
 ghost use Rattle.pb_tests.specs.TwoHosts.{two_hosts};
 
 use pb_expr::eval::eval;
-use pb_expr::{Expr, Member, Path, Root, Status, Term, Vars};
+use pb_expr::{Expr, Member, Names, Path, Root, Status, Term, Vars};
 use pb_value::{Fields, Value, field_of, read_json};
 use std::alloc::Global;
 use std::test::Fail;
@@ -114,7 +114,7 @@ fn in_web(alloc: Global, place: usize) -> Result<Term, Fail> {
 
 // `hostvars[host].name.step`, or without the step where it is empty.
 fn path(alloc: Global, host: Term, name: &str, step: &str) -> Result<Path, Fail> {
-    let mut steps = Vec::new(alloc);
+    let mut steps = Names::new(alloc);
     if step != "" {
         steps.push(text(alloc, step)?)?;
     }
@@ -128,7 +128,7 @@ fn port(alloc: Global, host: Term) -> Result<Expr, Fail> {
 
 // `groups[group][place]`
 fn name_of(alloc: Global, group: &str, place: usize) -> Result<Path, Fail> {
-    let steps = Vec::new(alloc);
+    let steps = Names::new(alloc);
     let root = Root::Member(member(alloc, group, place)?);
     Ok(Path { root, steps })
 }

@@ -1,4 +1,4 @@
-use Rattle.std.proofs.Common.{Bool, List, ℕ, cond, string_bytes, false, sym, ap, ◌∙◌}
+use Rattle.std.proofs.Common.{Bool, List, ℕ, cond, string_bytes, false, ap, ◌∙◌}
 use Rattle.std.proofs.lemmas.Result.{IfOk-weaker}
 use Rattle.pb_semantics.specs.Kind.{KindData}
 use Rattle.pb_language.specs.Scope.{Scope, has_view, host_spot, is_certain, put_view, spot_kind, view_of, with_slot}
@@ -20,7 +20,7 @@ returns g c =
     let names = names_of c.args.path.now.steps.items in
     let slot = c.in_ok-slot-2.slot in
     let s = change_view c.args.change names (host_spot d false x h) in
-    let same = ap (λ ns. change_view c.args.change (names_of ns) (slot_given c.in_ok-slot.slot)) c.deref.ensures.value
+    let same = ap (λ ns. change_view c.args.change (names_of ns) (slot_given c.in_ok-slot.slot)) c.deref.ensures
     ∙ ap (change_view c.args.change names) (c.in_ok-slot.ensures ∙ ap (λ n. host_spot d false n h) c.as_str.ensures.value) in
     IfOk-weaker c.teach_host.result _ _
     (λ t i. i ∙ ap (λ n. taught_there d h n (is_always slot.presence) (kind_view slot.kind)) c.as_str-2.ensures.value

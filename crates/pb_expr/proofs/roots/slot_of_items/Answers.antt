@@ -1,4 +1,4 @@
-use Rattle.std.proofs.Common.{map, codes, string_bytes, sym, ap, ◌∙◌}
+use Rattle.std.proofs.Common.{map, string_bytes, sym, ap, ◌∙◌}
 use Rattle.std.proofs.lemmas.Result.{IfOk-weaker}
 use Rattle.pb_semantics.specs.Kind.{hosts, spot}
 use Rattle.pb_language.specs.Scope.{each_spot, hosts_at, spot_among, unnamed}

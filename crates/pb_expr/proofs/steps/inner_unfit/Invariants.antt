@@ -2,7 +2,7 @@ use Rattle.std.proofs.Common.{drop}
 use Rattle.pb_value.specs.KindView.{kind_view}
 use Rattle.pb_syntax.specs.ExprView.{names_of}
 use Rattle.pb_expr.specs.FitView.{LeadsTo}
-use Rattle.pb_expr.proofs.fit.inner_kind.Given as goal
+use Rattle.pb_expr.proofs.steps.inner_unfit.Given as goal
 
 abbrev pub invariant-loop-step : goal.invariant-loop-step
 invariant-loop-step l = LeadsTo (names_of l.steps) (kind_view l.outer) (names_of (drop l.step-index l.steps)) (kind_view l.here)

@@ -3,7 +3,7 @@ use Rattle.pb_value.specs.KindView.{kind_view, slots_view}
 use Rattle.pb_value.proofs.Views.{kind_view-Rec}
 use Rattle.pb_value.proofs.KindLemmas.{kind_view-Never}
 use Rattle.pb_expr.proofs.Findings.{field-certain, field-uncertain, below-never}
-use Rattle.pb_expr.proofs.fit.kind_in_record.Goals as goal
+use Rattle.pb_expr.proofs.steps.kind_in_record.Goals as goal
 
 pub returns-in-Never : goal.returns-in-Never
 returns-in-Never c = λ ns cs. rw (c.in-Never.is, kind_view-Never) (below-never c.args.name.now ns)

@@ -6,6 +6,7 @@ use Rattle.pb_semantics.specs.Signature.{ModuleData}
 use Rattle.pb_sig.specs.Modules.{module_at}
 use Rattle.pb_language.specs.Book as language
 use Rattle.pb_language.specs.Book.{module_work}
+use Rattle.pb_language.specs.Cases.{is_setup}
 use Rattle.pb_language.specs.Expression.{Name, Expressions, Parts}
 use Rattle.pb_value.specs.View.{view, fields_view}
 use Rattle.pb_value.specs.declared.value.Value as Value-of
@@ -24,13 +25,9 @@ entry_before None fs = fs
 entry_before (Some e) fs = field e.0 e.1 fs
 
 -- a key that is no action's is a module's
-pub work_with-module : (ms : List ModuleData) (k : Name) (ps : Parts) (m : ModuleData) → bytes_eq k (codes "debug") ≡ false → bytes_eq k (codes "set_fact") ≡ false → module_at k ms ≡ Some m
+pub work_with-module : (ms : List ModuleData) (k : Name) (ps : Parts) (m : ModuleData) → bytes_eq k (codes "debug") ≡ false → bytes_eq k (codes "set_fact") ≡ false → module_at k ms ≡ Some m → is_setup m ≡ false
     → work_with ms k (Some ps) ≡ Some (module_work k ps)
-work_with-module ms k ps m p q found = rw (p, q, found) refl
-
-pub free_form-module : (ms : List ModuleData) (k : Name) (m : ModuleData) → bytes_eq k (codes "debug") ≡ false → bytes_eq k (codes "set_fact") ≡ false → module_at k ms ≡ Some m
-    → free_form ms k ≡ m.free
-free_form-module ms k m p q found = rw (p, q, found) refl
+work_with-module ms k ps m p q found plain = rw (p, q, found, plain) refl
 
 -- the entry does the work, where there is exactly one
 pub work_of-lone : (ms : List ModuleData) (fs : Fields) (k : Name) (d : Data) → lone fs ≡ Some (k, d) → work_of ms fs ≡ work_with ms k (given_arguments (free_form ms k) d)

@@ -11,6 +11,7 @@ use Rattle.pb_semantics.specs.Limits.{most_template_bytes, most_text_bytes}
 use Rattle.pb_semantics.specs.Signature.{ModuleData}
 use Rattle.pb_sig.specs.Modules.{module_at}
 use Rattle.pb_value.specs.FromJson.{json_data}
+use Rattle.pb_language.specs.Cases.{is_setup}
 use Rattle.pb_language.specs.Expression.{Name, Expression, literal, list_of, record_of, Expressions}
 use Rattle.pb_language.specs.Expression.{no_expressions, expression, Parts, no_parts, part}
 use Rattle.pb_language.specs.Grammar.{expression_of, opens_here, template_of}
@@ -138,9 +139,10 @@ given_arguments free (rec fs) = arguments_of fs
 given_arguments free (text bs) = whole_argument free (text bs)
 given_arguments free d = None
 
+-- a module that gathers facts isn't built yet
 abbrev pub module_or_none : Option ModuleData → Name → Parts → Option language.Work
 module_or_none None k ps = None
-module_or_none (Some m) k ps = Some (module_work k ps)
+module_or_none (Some m) k ps = cond (is_setup m) None (Some (module_work k ps))
 
 abbrev pub work_with : List ModuleData → Name → Option Parts → Option language.Work
 work_with ms k None = None

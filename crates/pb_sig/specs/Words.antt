@@ -2,5 +2,5 @@
 pub use Rattle.pb_sig.specs.ModuleView.{known_view}
 pub use Rattle.pb_sig.specs.Modules.{module_at, modules_of}
 pub use Rattle.pb_sig.specs.Results.{result_kind}
-pub use Rattle.pb_sig.specs.Table.{built_modules}
+pub use Rattle.pb_sig.specs.Table.{builtins}
 pub use Rattle.pb_sig.specs.Views.{parameter_view}

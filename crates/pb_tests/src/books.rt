@@ -171,6 +171,8 @@ fn other_tasks(rt: HostRuntime) -> Result<(), Fail> {
         r#"{"name":"n"}"#,
         r#"{"ping":null,"command":"x"}"#,
         r#"{"nope":null}"#,
+        r#"{"setup":null}"#,
+        r#"{"setup":{"gather_subset":["min"]}}"#,
         r#"{"ping":"x"}"#,
         r#"{"ping":null,"register":"a-b"}"#,
         r#"{"ping":null,"register":"1a"}"#,

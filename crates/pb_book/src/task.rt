@@ -22,7 +22,7 @@ use crate::book::{Argument, Task, Work};
 use crate::fault::FormFault;
 use crate::simple::built;
 use pb_expr::{Expr, parse_expr};
-use pb_sig::{Module, Registry, is_variable};
+use pb_sig::{Module, Registry, is_variable, without_prefix};
 use pb_value::{Fields, Value, field_of};
 use std::alloc::Global;
 use std::sync::Arc;
@@ -103,7 +103,7 @@ fn work_in(
         → result ≡ Err FormFault.NotBuilt }
 {
     let (key, given) = work_entry(fields).ok_or(FormFault::NotBuilt)?;
-    let (work, free) = work_of(key, registry)?;
+    let (work, free) = work_of(without_prefix(key), registry)?;
     let arguments = given_arguments(alloc, free, given)?;
     Ok((work, arguments))
 }

@@ -176,8 +176,8 @@ pub(crate) fn has_taken_prefix(name: &str) -> bool
     name.starts_with("ansible.") || name.starts_with("with_")
 }
 
-/// The name of a module or an action as a task gives it, from which the prefix `ansible.builtin.` is
-/// taken once.
+/// The name of a module or an action as a task gives it, from which the prefix `ansible.builtin.`
+/// is taken once.
 pub fn without_prefix(name: &str) -> &str
     ensures { result.now ≡ without_prefix name.now }
 {

@@ -101,13 +101,13 @@ fn prefixed_works(rt: HostRuntime) -> Result<(), Fail> {
     Ok(())
 }
 
-const ECHO: &[u8] =
-    br#"[{"name":"echo","params":{},"ok":{"changed":{"kind":"bool","always":true}},"failure":{"changed":{"kind":"bool","always":true},"msg":{"kind":"text","always":true}}}]"#;
+const ECHO: &str =
+    r#"[{"name":"echo","params":{},"ok":{"changed":{"kind":"bool","always":true}},"failure":{"changed":{"kind":"bool","always":true},"msg":{"kind":"text","always":true}}}]"#;
 
 #[test]
 fn prefixed_declared_module(rt: HostRuntime) -> Result<(), Fail> {
     let text = br#"[{"hosts":"all","tasks":[{"ansible.builtin.echo":null}]}]"#;
-    let registry = Registry::read(rt.alloc(), ECHO)?;
+    let registry = Registry::read(rt.alloc(), ECHO.as_bytes())?;
     let book = Book::read(rt.alloc(), text, &registry)?;
     assert!(rt; is_of_module(only_task(&book)?, "echo"));
     Ok(())

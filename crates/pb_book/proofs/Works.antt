@@ -4,15 +4,17 @@ use Rattle.std.specs.declared.sync.Arc.{Arc}
 use Rattle.pb_semantics.specs.Data.{Data, Fields, no_fields, field, field_value}
 use Rattle.pb_semantics.specs.Signature.{ModuleData}
 use Rattle.pb_sig.specs.Modules.{module_at}
+use Rattle.pb_sig.specs.Names.{without_prefix}
 use Rattle.pb_language.specs.Book as language
 use Rattle.pb_language.specs.Book.{module_work}
+use Rattle.pb_language.specs.Cases.{is_setup}
 use Rattle.pb_language.specs.Expression.{Name, Expressions, Parts}
 use Rattle.pb_value.specs.View.{view, fields_view}
 use Rattle.pb_value.specs.declared.value.Value as Value-of
 use Rattle.pb_value.specs.declared.value.Value.{Value}
 use Rattle.pb_value.specs.declared.weight.Weighed.{Weighed}
 use Rattle.pb_book.specs.Outlines.{is_known_work, may_be_play, may_be_task}
-use Rattle.pb_book.specs.Reading.{condition_of, few_tasks, free_form, given_arguments, is_named, is_play, play_of, register_of, task_of, task_with, work_of, work_with, works_of, lone}
+use Rattle.pb_book.specs.Reading.{condition_of, few_tasks, is_named, is_play, play_of, register_of, task_of, task_with, work_named, work_of, work_with, works_of, lone}
 use Rattle.pb_value.proofs.Views.{view-fields}
 
 abbrev Map : Type 0
@@ -24,20 +26,16 @@ entry_before None fs = fs
 entry_before (Some e) fs = field e.0 e.1 fs
 
 -- a key that is no action's is a module's
-pub work_with-module : (ms : List ModuleData) (k : Name) (ps : Parts) (m : ModuleData) → bytes_eq k (codes "debug") ≡ false → bytes_eq k (codes "set_fact") ≡ false → module_at k ms ≡ Some m
+pub work_with-module : (ms : List ModuleData) (k : Name) (ps : Parts) (m : ModuleData) → bytes_eq k (codes "debug") ≡ false → bytes_eq k (codes "set_fact") ≡ false → module_at k ms ≡ Some m → is_setup m ≡ false
     → work_with ms k (Some ps) ≡ Some (module_work k ps)
-work_with-module ms k ps m p q found = rw (p, q, found) refl
-
-pub free_form-module : (ms : List ModuleData) (k : Name) (m : ModuleData) → bytes_eq k (codes "debug") ≡ false → bytes_eq k (codes "set_fact") ≡ false → module_at k ms ≡ Some m
-    → free_form ms k ≡ m.free
-free_form-module ms k m p q found = rw (p, q, found) refl
+work_with-module ms k ps m p q found plain = rw (p, q, found, plain) refl
 
 -- the entry does the work, where there is exactly one
-pub work_of-lone : (ms : List ModuleData) (fs : Fields) (k : Name) (d : Data) → lone fs ≡ Some (k, d) → work_of ms fs ≡ work_with ms k (given_arguments (free_form ms k) d)
+pub work_of-lone : (ms : List ModuleData) (fs : Fields) (k : Name) (d : Data) → lone fs ≡ Some (k, d) → work_of ms fs ≡ work_named ms (without_prefix k) d
 work_of-lone ms no_fields k d h = absurd (cc)
 work_of-lone ms (field l e no_fields) k d h =
     let same : ◌≡◌ {A = Name × Data} (l, e) (k, d) = cc in
-    ap (λ (x : Name × Data). work_with ms x.0 (given_arguments (free_form ms x.0) x.1)) same
+    ap (λ (x : Name × Data). work_named ms (without_prefix x.0) x.1) same
 work_of-lone ms (field l e (field m f fs)) k d h = absurd (cc)
 
 -- a task whose name may stand has its work, its condition and its register

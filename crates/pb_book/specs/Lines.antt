@@ -1,10 +1,11 @@
 -- The lines of a book, the modules that it names, and the order of its arguments.
-use Rattle.std.specs.Prelude.{ℕ, suc, List, [], ◌∷◌, length, map, Bool, true, false, ◌&&◌, ◌==◌}
-use Rattle.std.specs.Prelude.{nat_le, is_some, string_bytes}
+use Rattle.std.specs.Prelude.{ℕ, suc, List, [], ◌∷◌, length, map, Bool, true, false, not, ◌&&◌}
+use Rattle.std.specs.Prelude.{◌==◌, nat_le, Option, Some, None, string_bytes}
 use Rattle.std.specs.Cmp.Lexicographic.{slice_cmp}
 use Rattle.std.specs.Ordering.{is_lt, nat_cmp}
 use Rattle.pb_semantics.specs.Limits.{most_tasks}
 use Rattle.pb_semantics.specs.Signature.{ModuleData}
+use Rattle.pb_language.specs.Cases.{is_setup}
 use Rattle.pb_sig.specs.Modules.{module_at}
 use Rattle.pb_book.specs.declared.book.Argument.{Argument}
 use Rattle.pb_book.specs.declared.book.Play.{Play}
@@ -27,9 +28,14 @@ is_numbered [] = true
 is_numbered (p ∷ []) = (p.line == 1) && are_numbered p.tasks.items
 is_numbered (p ∷ q ∷ ps) = false
 
--- a module that is named is one of these
+-- a module is found, and gathers no facts, which no run keeps so far
+abbrev pub finds_plain : Option ModuleData → Bool
+finds_plain None = false
+finds_plain (Some m) = not (is_setup m)
+
+-- a module that is named is one of these, and gathers no facts
 abbrev pub is_known : List ModuleData → Work → Bool
-is_known ms (Module n) = is_some (module_at (string_bytes n.value) ms)
+is_known ms (Module n) = finds_plain (module_at (string_bytes n.value) ms)
 is_known ms Debug = true
 is_known ms SetFact = true
 
@@ -37,7 +43,7 @@ abbrev pub are_known : List ModuleData → List Task → Bool
 are_known ms [] = true
 are_known ms (t ∷ ts) = is_known ms t.work && are_known ms ts
 
--- each module that the plays name is one of these
+-- each module that the plays name is one of these, and gathers no facts
 abbrev pub names_known : List ModuleData → List Play → Bool
 names_known ms [] = true
 names_known ms (p ∷ ps) = are_known ms p.tasks.items && names_known ms ps

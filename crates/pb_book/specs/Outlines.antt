@@ -7,6 +7,7 @@ use Rattle.pb_semantics.specs.Data.{field_value}
 use Rattle.pb_semantics.specs.Limits.{most_expression_bytes}
 use Rattle.pb_semantics.specs.Signature.{ModuleData}
 use Rattle.pb_language.specs.Expression.{Name, no_parts}
+use Rattle.pb_sig.specs.Names.{without_prefix}
 use Rattle.pb_book.specs.Reading.{is_named, is_play, lone, work_with, works_of}
 
 -- a list of one play at most
@@ -26,7 +27,7 @@ may_be_tasks d = false
 -- the action or the module of that one entry is known
 abbrev pub is_known_work : List ModuleData → Option (Name × Data) → Bool
 is_known_work ms None = false
-is_known_work ms (Some e) = is_some (work_with ms e.0 (Some no_parts))
+is_known_work ms (Some e) = is_some (work_with ms (without_prefix e.0) (Some no_parts))
 
 -- a record with a name that may stand, and one entry that is known work
 abbrev pub may_be_task : List ModuleData → Data → Bool

@@ -10,7 +10,9 @@ use Rattle.pb_semantics.specs.Limits.{most_expression_bytes, most_levels, most_t
 use Rattle.pb_semantics.specs.Limits.{most_template_bytes, most_text_bytes}
 use Rattle.pb_semantics.specs.Signature.{ModuleData}
 use Rattle.pb_sig.specs.Modules.{module_at}
+use Rattle.pb_sig.specs.Names.{without_prefix}
 use Rattle.pb_value.specs.FromJson.{json_data}
+use Rattle.pb_language.specs.Cases.{is_setup}
 use Rattle.pb_language.specs.Expression.{Name, Expression, literal, list_of, record_of, Expressions}
 use Rattle.pb_language.specs.Expression.{no_expressions, expression, Parts, no_parts, part}
 use Rattle.pb_language.specs.Grammar.{expression_of, opens_here, template_of}
@@ -138,9 +140,10 @@ given_arguments free (rec fs) = arguments_of fs
 given_arguments free (text bs) = whole_argument free (text bs)
 given_arguments free d = None
 
+-- a module that gathers facts isn't built yet
 abbrev pub module_or_none : Option ModuleData → Name → Parts → Option language.Work
 module_or_none None k ps = None
-module_or_none (Some m) k ps = Some (module_work k ps)
+module_or_none (Some m) k ps = cond (is_setup m) None (Some (module_work k ps))
 
 abbrev pub work_with : List ModuleData → Name → Option Parts → Option language.Work
 work_with ms k None = None
@@ -162,10 +165,14 @@ lone no_fields = None
 lone (field k d no_fields) = Some (k, d)
 lone (field k d fs) = None
 
--- exactly one of them is there
+-- what the entry of that name asks for
+abbrev pub work_named : List ModuleData → Name → Data → Option language.Work
+work_named ms n d = work_with ms n (given_arguments (free_form ms n) d)
+
+-- exactly one of them is there, and the prefix may stand before its name
 abbrev pub work_of : List ModuleData → Fields → Option language.Work
 work_of ms no_fields = None
-work_of ms (field k d no_fields) = work_with ms k (given_arguments (free_form ms k) d)
+work_of ms (field k d no_fields) = work_named ms (without_prefix k) d
 work_of ms (field k d fs) = None
 
 -- a text that isn't too long, if there is one

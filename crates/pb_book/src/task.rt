@@ -22,7 +22,7 @@ use crate::book::{Argument, Task, Work};
 use crate::fault::FormFault;
 use crate::simple::built;
 use pb_expr::{Expr, parse_expr};
-use pb_sig::{Module, Registry, is_variable};
+use pb_sig::{Module, Registry, is_variable, without_prefix};
 use pb_value::{Fields, Value, field_of};
 use std::alloc::Global;
 use std::sync::Arc;
@@ -103,7 +103,7 @@ fn work_in(
         → result ≡ Err FormFault.NotBuilt }
 {
     let (key, given) = work_entry(fields).ok_or(FormFault::NotBuilt)?;
-    let (work, free) = work_of(key, registry)?;
+    let (work, free) = work_of(without_prefix(key), registry)?;
     let arguments = given_arguments(alloc, free, given)?;
     Ok((work, arguments))
 }
@@ -143,7 +143,7 @@ fn is_keyword(key: &str) -> bool
 }
 
 // The action or the module of that name, and the parameter that a text in place of its arguments
-// stands for, if any.
+// stands for, if any. A module that gathers facts isn't built yet.
 fn work_of<'a>(key: &str, registry: &'a Registry) -> Result<(Work, Option<&'a str>), FormFault>
     ensures given { (ps : Parts) → Gives (λ w. Some (work_of w.0 ps)) refused result
         (work_with (modules_of registry.now) key.now (Some ps)) }
@@ -159,13 +159,14 @@ fn work_of<'a>(key: &str, registry: &'a Registry) -> Result<(Work, Option<&'a st
     if key == "set_fact" {
         return Ok((Work::SetFact, None));
     }
-    match registry.find(key) {
-        Some(found) => Ok((
-            Work::Module(found.shared_name().clone()?),
-            found.free_form(),
-        )),
-        None => Err(FormFault::NotBuilt),
+    let Some(found) = registry.find(key) else {
+        return Err(FormFault::NotBuilt);
+    };
+    if found.gathers_facts() {
+        return Err(FormFault::NotBuilt);
     }
+    let work = Work::Module(found.shared_name().clone()?);
+    Ok((work, found.free_form()))
 }
 
 // The arguments that stand at the key of a module or an action, whose free form is that parameter.

@@ -13,7 +13,7 @@ use Rattle.pb_value.specs.FromJson.{json_data}
 use Rattle.pb_sig.specs.Registered.{registry_of}
 use Rattle.pb_sig.specs.Signatures.{Offence, not_json, wrong_form, broken_law, taken_name}
 use Rattle.pb_sig.specs.Signatures.{over_limit, most_signature_bytes}
-use Rattle.pb_sig.specs.Table.{built_modules}
+use Rattle.pb_sig.specs.Table.{builtins}
 use Rattle.pb_sig.specs.declared.fault.SignatureFault.{SignatureFault}
 use Rattle.pb_sig.specs.declared.fault.SignatureFault.TheVariants as signature
 use Rattle.pb_inventory.specs.Hosts.{InventoryData, inventory_of}
@@ -100,7 +100,7 @@ with_code (Ok x) = Ok x
 with_code (Err o) = Err (offence_code o)
 
 abbrev pub modules_verdict : Option (List ℕ) → Result (List ModuleData) Code
-modules_verdict None = Ok built_modules
+modules_verdict None = Ok builtins
 modules_verdict (Some bytes) = with_code (registry_of bytes)
 
 -- an inventory's text is this inventory, or is refused with this code

@@ -1,7 +1,7 @@
 // The verdict on the bytes of a playbook and an inventory.
 ghost use Rattle.std.specs.Prelude.{◌≡◌, Err, IfOk, None, Ok, Some, false, option_map};
 ghost use Rattle.pb_semantics.specs.Words.{most_inventory_bytes};
-ghost use Rattle.pb_sig.specs.Words.{built_modules, modules_of};
+ghost use Rattle.pb_sig.specs.Words.{builtins, modules_of};
 ghost use Rattle.pb_inventory.specs.Words.{inventory_view};
 ghost use Rattle.pb_book.specs.Words.{book_of};
 ghost use Rattle.pb_sig.specs.Signatures.{most_signature_bytes};
@@ -178,7 +178,7 @@ fn judge_unsigned(alloc: Global, book: &[u8], inventory: &[u8]) -> Result<Checke
         (λ c. inventory_verdict inventory.now ≡ Ok (inventory_view c.inventory)) }
     ensures book_read { IfOk result
         (λ c. book_verdict (modules_of c.registry) book.now ≡ Ok (book_of c.book)) }
-    ensures modules { IfOk result (λ c. modules_of c.registry ≡ built_modules) }
+    ensures modules { IfOk result (λ c. modules_of c.registry ≡ builtins) }
     ensures apart { is_looked_into most_inventory_bytes inventory.now ≡ false
         → result ≡ Err Fault.NoMemory → ⊥ }
 {

@@ -1,5 +1,5 @@
 -- The module that a name finds has that name.
-use Rattle.std.proofs.Common.{◌≡◌, ℕ, List, [], ◌∷◌, Bool, true, false, Option, Some, is_some, cond, refl, ap, sym, ◌∙◌}
+use Rattle.std.proofs.Common.{◌≡◌, ℕ, List, [], ◌∷◌, Bool, true, false, Option, Some, cond, refl, ap, sym, ◌∙◌}
 use Rattle.std.specs.Str.{bytes_eq}
 use Rattle.std.proofs.lemmas.Slice.Eq.{bytes_eq-Decides}
 use Rattle.pb_semantics.specs.Signature.{ModuleData}
@@ -15,5 +15,5 @@ pub module_at-name : (n : List ℕ) (ms : List ModuleData) (m : ModuleData) → 
 module_at-name n [] m e = (cc)
 module_at-name n (k ∷ ms) m e = same_name (bytes_eq k.name n) k n (module_at n ms) m (bytes_eq-Decides k.name n).0 (module_at-name n ms m) e
 
-pub module_at-own : (n : List ℕ) (ms : List ModuleData) (m : ModuleData) → module_at n ms ≡ Some m → is_some (module_at m.name ms) ≡ true
-module_at-own n ms m e = ap (λ k. is_some (module_at k ms)) (module_at-name n ms m e) ∙ ap is_some e
+pub module_at-own : (n : List ℕ) (ms : List ModuleData) (m : ModuleData) → module_at n ms ≡ Some m → module_at m.name ms ≡ Some m
+module_at-own n ms m e = ap (λ k. module_at k ms) (module_at-name n ms m e) ∙ e

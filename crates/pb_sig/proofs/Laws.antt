@@ -1,17 +1,16 @@
 -- What the laws of a file of signatures say in the words of modules.
-use Rattle.std.proofs.Common.{◌≡◌, ℕ, List, [], ◌∷◌, ◌++◌, Bool, true, false, map, codes, string_bytes, refl, sym, ap, ◌∙◌}
-use Rattle.std.specs.Prelude.{◌&&◌, ◌||◌, not}
-use Rattle.std.specs.Str.{bytes_eq}
-use Rattle.pb_semantics.specs.Keeps.{is_among}
+use Rattle.std.proofs.Common.{◌≡◌, List, [], ◌∷◌, ◌++◌, Bool, true, false, codes, refl, ap, ◌∙◌}
+use Rattle.std.specs.Prelude.{◌&&◌, not}
 use Rattle.pb_semantics.specs.Kind.{KindData, Slots, recs, is_listed, slot_at}
-use Rattle.pb_semantics.specs.Signature.{ModuleData, is_shape, is_failure_shape, is_free, are_free, is_certain_boolean, is_certain_text, has_message}
+use Rattle.pb_semantics.specs.Signature.{ModuleData, is_shape, is_failure_shape, are_free, is_certain_boolean, is_certain_text, has_message}
 use Rattle.pb_semantics.proofs.Bools.{and-left, and-right, and-both, neither-left, neither-right, untrue}
-use Rattle.pb_language.specs.Cases.{is_plain, are_plain, is_lawful_shape}
+use Rattle.pb_language.specs.Cases.{are_plain, is_lawful_shape}
+use Rattle.pb_language.specs.Judgement.{is_lawful}
 use Rattle.pb_value.specs.KindView.{slots_view}
 use Rattle.pb_sig.specs.Drafts.{draft_view}
 use Rattle.pb_sig.specs.Lawful.{IsLawful}
-use Rattle.pb_sig.specs.ModuleView.{are_plain_modules, is_plain_module}
-use Rattle.pb_sig.specs.Signatures.{are_lawful, keeps_laws, lists_any, result_fields, taken_names}
+use Rattle.pb_sig.specs.ModuleView.{are_lawful_modules}
+use Rattle.pb_sig.specs.Signatures.{are_lawful, keeps_laws, lists_any, result_fields}
 use Rattle.pb_sig.specs.declared.draft.Draft.{Draft}
 use Rattle.pb_sig.proofs.Plain.{free_slots}
 
@@ -40,9 +39,8 @@ lawful_shape ss p h =
     (and-both (not (is_listed (codes "failed") ss)) _ (ap not (not_failed ss h)) (ap not (not_skipped ss h))))
 
 -- a draft that keeps the laws makes a module that does
-pub IsLawful-draft : (m : Draft) (n : List ℕ) (ok failure : KindData) → n ≡ string_bytes m.name → ok ≡ recs (slots_view m.ok.entries) → failure ≡ recs (slots_view m.failure.entries) → keeps_laws (draft_view m) ≡ true
-    → bytes_eq (string_bytes m.name) (codes "setup") ≡ false → IsLawful n ok failure
-IsLawful-draft m n ok failure named fine bad laws other =
+pub IsLawful-draft : (m : Draft) (ok failure : KindData) → ok ≡ recs (slots_view m.ok.entries) → failure ≡ recs (slots_view m.failure.entries) → keeps_laws (draft_view m) ≡ true → IsLawful ok failure
+IsLawful-draft m ok failure fine bad laws =
     let ss = slots_view m.ok.entries in
     let ts = slots_view m.failure.entries in
     let plain_ok = and-left (are_plain ss) (are_plain ts) m.plain in
@@ -55,17 +53,9 @@ IsLawful-draft m n ok failure named fine bad laws other =
       failure_shape = ap is_failure_shape bad ∙ and-both (is_shape (recs ts)) (has_message (recs ts)) (shape ts plain_failure lawful_failure) message;
       lawful = ap (λ k. is_lawful_shape k && is_lawful_shape failure) fine ∙ ap (λ k. is_lawful_shape (recs ss) && is_lawful_shape k) bad
           ∙ and-both (is_lawful_shape (recs ss)) (is_lawful_shape (recs ts)) (lawful_shape ss plain_ok lawful_ok) (lawful_shape ts plain_failure lawful_failure);
-      other = ap (λ k. bytes_eq k (codes "setup")) named ∙ other;
     }
 
--- `setup` is the eighth of the names that are taken
-pub untaken-setup : (n : List ℕ) → is_among n taken_names ≡ false → bytes_eq n (codes "setup") ≡ false
-untaken-setup n h =
-    neither-left (bytes_eq n (codes "setup")) _ (neither-right (bytes_eq n (codes "service")) _ (neither-right (bytes_eq n (codes "file")) _
-    (neither-right (bytes_eq n (codes "copy")) _ (neither-right (bytes_eq n (codes "stat")) _ (neither-right (bytes_eq n (codes "shell")) _
-    (neither-right (bytes_eq n (codes "command")) _ (neither-right (bytes_eq n (codes "ping")) _ h)))))))
-
-pub are_plain_modules-append : (ms ns : List ModuleData) → are_plain_modules ms ≡ true → are_plain_modules ns ≡ true → are_plain_modules (ms ++ ns) ≡ true
-are_plain_modules-append [] ns h g = g
-are_plain_modules-append (m ∷ ms) ns h g =
-    and-both (is_plain_module m) (are_plain_modules (ms ++ ns)) (and-left (is_plain_module m) (are_plain_modules ms) h) (are_plain_modules-append ms ns (and-right (is_plain_module m) (are_plain_modules ms) h) g)
+pub are_lawful_modules-append : (ms ns : List ModuleData) → are_lawful_modules ms ≡ true → are_lawful_modules ns ≡ true → are_lawful_modules (ms ++ ns) ≡ true
+are_lawful_modules-append [] ns h g = g
+are_lawful_modules-append (m ∷ ms) ns h g =
+    and-both (is_lawful m) (are_lawful_modules (ms ++ ns)) (and-left (is_lawful m) (are_lawful_modules ms) h) (are_lawful_modules-append ms ns (and-right (is_lawful m) (are_lawful_modules ms) h) g)

@@ -1,10 +1,10 @@
 -- The kinds of a file of signatures hold no result and have each name once; what the laws of a file
 -- say in the words of modules.
 use Rattle.std.proofs.Common.{◌≡◌, ℕ, Bool, true, false, cond, Option, Some, None, codes, refl, sym, ap, ◌∙◌}
-use Rattle.std.specs.Prelude.{◌&&◌, ◌||◌, not}
+use Rattle.std.specs.Prelude.{◌&&◌, not}
 use Rattle.std.specs.Str.{bytes_eq}
 use Rattle.pb_semantics.specs.Data.{Data, Fields, rec, text, no_fields, field}
-use Rattle.pb_semantics.specs.Kind.{KindData, Slots, Spot, booleans, ints, texts, lists, recs, results, no_slots, slot, nowhere, spot, is_listed}
+use Rattle.pb_semantics.specs.Kind.{KindData, Slots, Spot, lists, recs, results, no_slots, slot, nowhere, spot, is_listed}
 use Rattle.pb_semantics.specs.Signature.{is_free, are_free}
 use Rattle.pb_semantics.proofs.Bools.{and-left, and-right, and-both}
 use Rattle.pb_language.specs.Cases.{is_plain, are_plain}

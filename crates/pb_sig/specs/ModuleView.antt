@@ -1,9 +1,7 @@
--- What a module means, and which modules are built so far.
-use Rattle.std.specs.Prelude.{List, [], ◌∷◌, Bool, true, not, ◌&&◌, map, option_map, string_bytes}
-use Rattle.std.specs.Prelude.{None}
+-- What a module means, and which modules a run may have.
+use Rattle.std.specs.Prelude.{List, [], ◌∷◌, Bool, true, ◌&&◌, map, None, option_map, string_bytes}
 use Rattle.pb_value.specs.KindView.{kind_view}
 use Rattle.pb_semantics.specs.Signature.{ModuleData}
-use Rattle.pb_language.specs.Cases.{is_setup}
 use Rattle.pb_language.specs.Judgement.{is_lawful}
 use Rattle.pb_sig.specs.Views.{parameter_view}
 use Rattle.pb_sig.specs.declared.builtin.Builtin.{Builtin}
@@ -33,10 +31,7 @@ abbrev pub known_view : Known → ModuleData
 known_view (known.Builtin m) = builtin_view m
 known_view (known.Declared m) = declared_view m
 
--- it keeps the laws of modules, and gathers no facts
-abbrev pub is_plain_module : ModuleData → Bool
-is_plain_module m = is_lawful m && not (is_setup m)
-
-abbrev pub are_plain_modules : List ModuleData → Bool
-are_plain_modules [] = true
-are_plain_modules (m ∷ ms) = is_plain_module m && are_plain_modules ms
+-- each keeps the laws of modules
+abbrev pub are_lawful_modules : List ModuleData → Bool
+are_lawful_modules [] = true
+are_lawful_modules (m ∷ ms) = is_lawful m && are_lawful_modules ms

@@ -4,7 +4,7 @@ use Rattle.std.specs.Prelude.{false, not, ◌&&◌, ◌||◌, ◌==◌, nat_le, 
 use Rattle.std.specs.Prelude.{None, codes, Result, Ok, Err}
 use Rattle.std.specs.List.{starts_with}
 use Rattle.std.specs.Str.{bytes_eq}
-use Rattle.pb_semantics.specs.Data.{Data, Items, Fields, boolean, int, text, list, rec, no_items}
+use Rattle.pb_semantics.specs.Data.{Data, Items, Fields, int, text, list, rec, no_items}
 use Rattle.pb_semantics.specs.Data.{item, no_fields, field, field_value}
 use Rattle.pb_semantics.specs.Keeps.{is_among}
 use Rattle.pb_semantics.specs.Kind.{KindData, Slots, Spot, booleans, ints, texts, lists, recs}

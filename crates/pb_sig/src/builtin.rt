@@ -2,14 +2,15 @@
 ghost use Rattle.std.specs.Prelude.{◌≡◌, IfOk, map, option_map, string_bytes, true};
 ghost use Rattle.pb_semantics.specs.Words.{is_failure_shape, is_shape};
 ghost use Rattle.pb_value.specs.Words.{kind_view};
-ghost use Rattle.pb_sig.specs.Table.{command, copy, file, ping, program, service, shell, stat};
+ghost use Rattle.pb_sig.specs.Table.{command, copy, file, ping, program, service, setup, shell};
+ghost use Rattle.pb_sig.specs.Table.{stat};
 ghost use Rattle.pb_sig.specs.Views.{parameter_view};
 
 use crate::signature::{Module, Parameter, shared_name};
 use crate::table::{
     copy_parameters, copy_shape, file_parameters, file_shape, msg_shape, ping_parameters,
     ping_shape, program_failure_shape, program_parameters, program_shape, service_parameters,
-    service_shape, stat_parameters, stat_shape,
+    service_shape, setup_parameters, setup_shape, stat_parameters, stat_shape,
 };
 use pb_value::Kind;
 use std::alloc::{AllocError, Global};
@@ -123,6 +124,15 @@ impl Builtin {
         let parameters = service_parameters(alloc)?;
         let ok = service_shape(alloc)?;
         Builtin::telling_msg(alloc, "service", parameters, ok)
+    }
+
+    /// Tells facts of the host.
+    pub fn setup(alloc: Global) -> Result<Builtin, AllocError>
+        ensures { IfOk result (λ m. builtin_view m ≡ setup) }
+    {
+        let parameters = setup_parameters(alloc)?;
+        let ok = setup_shape(alloc)?;
+        Builtin::telling_msg(alloc, "setup", parameters, ok)
     }
 
     // A module that runs a program; a text in place of its arguments is the command line.

@@ -1,10 +1,9 @@
 // The modules that a file of signatures declares.
-ghost use Rattle.std.specs.Prelude.{◌≡◌, IfOk, codes, false, string_bytes, true};
-ghost use Rattle.std.specs.Str.{bytes_eq};
+ghost use Rattle.std.specs.Prelude.{◌≡◌, IfOk, string_bytes, true};
 ghost use Rattle.pb_value.specs.Words.{kind_view};
 ghost use Rattle.pb_sig.specs.Drafts.{draft_view};
 ghost use Rattle.pb_sig.specs.Lawful.{IsLawful};
-ghost use Rattle.pb_sig.specs.Signatures.{is_taken, keeps_laws};
+ghost use Rattle.pb_sig.specs.Signatures.{keeps_laws};
 
 use crate::draft::Draft;
 use crate::signature::{Module, Parameter};
@@ -19,7 +18,7 @@ pub struct Declared {
     parameters: Vec<Parameter>,
     ok: Kind,
     failure: Kind,
-    ghost lawful: { IsLawful (string_bytes name.value) (kind_view ok) (kind_view failure) },
+    ghost lawful: { IsLawful (kind_view ok) (kind_view failure) },
 }
 
 impl Module for Declared {
@@ -58,10 +57,9 @@ impl Declared {
         &self.name
     }
 
-    // The module of a draft that keeps the laws, and whose name isn't that of a built-in module.
+    // The module of a draft that keeps the laws.
     pub(crate) fn of(alloc: Global, draft: Draft) -> Result<Declared, AllocError>
-        requires laws { keeps_laws (draft_view draft) ≡ true }
-        requires other { bytes_eq (string_bytes draft.name) (codes "setup") ≡ false }
+        requires { keeps_laws (draft_view draft) ≡ true }
         ensures { IfOk result (λ m. declared_view m ≡ draft_view draft) }
     {
         Ok(Declared {

@@ -28,7 +28,7 @@ pub use admission::{Admission, admit};
 pub use builtin::Builtin;
 pub use declared::Declared;
 pub use fault::SignatureFault;
-pub use names::{is_one_of, is_variable};
+pub use names::{is_one_of, is_variable, without_prefix};
 pub use registry::{Known, Registry};
 pub use results::Results;
 pub use signature::{Module, Parameter, SIGNATURES_LIMIT};

@@ -3,6 +3,7 @@ ghost use Rattle.std.specs.Prelude.{◌≡◌, map};
 ghost use Rattle.pb_semantics.specs.Words.{is_among};
 ghost use Rattle.pb_language.specs.Words.{are_name_bytes, is_digit as is_name_digit};
 ghost use Rattle.pb_language.specs.Words.{is_letter as is_name_letter, is_variable_name};
+ghost use Rattle.pb_sig.specs.Names.{without_prefix};
 ghost use Rattle.pb_sig.specs.Signatures.{are_module_bytes, has_taken_prefix as has_prefix};
 ghost use Rattle.pb_sig.specs.Signatures.{is_module_byte, is_module_name, is_small_letter};
 ghost use Rattle.pb_sig.specs.Signatures.{taken_names};
@@ -12,6 +13,9 @@ const MOST_VARIABLE_BYTES: usize = 128;
 
 // The most bytes of a module's name.
 const MOST_MODULE_BYTES: usize = 64;
+
+// What may stand before the name of a module or an action.
+const BUILTIN_PREFIX: &str = "ansible.builtin.";
 
 // The names that no module of a file can have: those of the built-in modules and the actions,
 // `meta`, and what a play, a block, a task or a handler can have as a key, built or left out.
@@ -170,6 +174,17 @@ pub(crate) fn has_taken_prefix(name: &str) -> bool
     ensures { result ≡ has_prefix name.now }
 {
     name.starts_with("ansible.") || name.starts_with("with_")
+}
+
+/// The name of a module or an action as a task gives it, from which the prefix `ansible.builtin.`
+/// is taken once.
+pub fn without_prefix(name: &str) -> &str
+    ensures { result.now ≡ without_prefix name.now }
+{
+    match name.strip_prefix(BUILTIN_PREFIX) {
+        Some(rest) => rest,
+        None => name,
+    }
 }
 
 /// Whether the name is one of the words.

@@ -4,9 +4,10 @@ ghost use Rattle.std.specs.Prelude.{map, suc, true};
 ghost use Rattle.std.specs.Str.{is_utf8};
 ghost use Rattle.pb_semantics.specs.Signature.{is_certain_boolean, is_certain_text};
 ghost use Rattle.pb_semantics.specs.Words.{Gives, is_among, recs, slot_at, spot};
+ghost use Rattle.pb_language.specs.Judgement.{is_lawful as is_lawful_module};
 ghost use Rattle.pb_value.specs.Words.{items_view, kind_view, slots_view, view};
 ghost use Rattle.pb_sig.specs.Drafts.{draft_view};
-ghost use Rattle.pb_sig.specs.ModuleView.{are_plain_modules, is_plain_module, known_view};
+ghost use Rattle.pb_sig.specs.ModuleView.{are_lawful_modules, known_view};
 ghost use Rattle.pb_sig.specs.Modules.{modules_of};
 ghost use Rattle.pb_sig.specs.Offences.{offence_of};
 ghost use Rattle.pb_sig.specs.Registered.{registry_of};
@@ -74,7 +75,7 @@ impl Registry {
 fn declared_in(alloc: Global, value: &Value) -> Result<Vec<Known>, SignatureFault>
     ensures given { Gives (λ ms. Ok (map known_view ms.items)) offence_of result
         (signatures_in (Some (view value.now))) }
-    ensures plain { IfOk result (λ ms. are_plain_modules (map known_view ms.items) ≡ true) }
+    ensures lawful { IfOk result (λ ms. are_lawful_modules (map known_view ms.items) ≡ true) }
 {
     match value {
         Value::List(items) => all_declared(alloc, items.as_slice()),
@@ -85,7 +86,7 @@ fn declared_in(alloc: Global, value: &Value) -> Result<Vec<Known>, SignatureFaul
 fn all_declared(alloc: Global, items: &[Value]) -> Result<Vec<Known>, SignatureFault>
     ensures given { Gives (λ ms. Ok (map known_view ms.items)) offence_of result
         (modules_after [] (items_view items.now)) }
-    ensures plain { IfOk result (λ ms. are_plain_modules (map known_view ms.items) ≡ true) }
+    ensures lawful { IfOk result (λ ms. are_lawful_modules (map known_view ms.items) ≡ true) }
 {
     let mut found = Vec::new(alloc);
     for item in items {
@@ -100,7 +101,7 @@ fn all_declared(alloc: Global, items: &[Value]) -> Result<Vec<Known>, SignatureF
 fn judged(alloc: Global, draft: Draft, earlier: &[Known]) -> Result<Known, SignatureFault>
     ensures given { Gives (λ m. Ok (known_view m)) offence_of result
         (judged_module (map known_view earlier.now) (Some (draft_view draft))) }
-    ensures plain { IfOk result (λ m. is_plain_module (known_view m) ≡ true) }
+    ensures lawful { IfOk result (λ m. is_lawful_module (known_view m) ≡ true) }
 {
     if !keeps_laws(&draft) {
         return Err(SignatureFault::Law);

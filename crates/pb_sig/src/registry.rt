@@ -1,6 +1,7 @@
 // The modules of a run, found by their names.
 ghost use Rattle.std.specs.Prelude.{◌++◌, ◌≡◌, IfOk, map, option_map, string_bytes, true};
-ghost use Rattle.pb_sig.specs.ModuleView.{are_plain_modules, known_view};
+ghost use Rattle.pb_language.specs.Cases.{is_setup};
+ghost use Rattle.pb_sig.specs.ModuleView.{are_lawful_modules, known_view};
 
 use crate::builtin::Builtin;
 use crate::declared::Declared;
@@ -67,40 +68,47 @@ impl Known {
             Known::Declared(module) => module.shared_name(),
         }
     }
+
+    /// Whether its answers tell facts of the host, which the run keeps as variables.
+    pub fn gathers_facts(&self) -> bool
+        ensures { result ≡ is_setup (known_view self.now) }
+    {
+        self.name() == "setup"
+    }
 }
 
 /// The modules of a run, each name once.
 #[derive(Drop)]
 pub struct Registry {
     modules: Vec<Known>,
-    ghost plain: { are_plain_modules (map known_view modules.items) ≡ true },
+    ghost lawful: { are_lawful_modules (map known_view modules.items) ≡ true },
 }
 
 impl Registry {
     ghost use Rattle.pb_sig.specs.Modules.{modules_of, module_at};
-    ghost use Rattle.pb_sig.specs.Table.{built_modules};
+    ghost use Rattle.pb_sig.specs.Table.{builtins};
 
-    /// The built-in modules that the program has so far.
+    /// The built-in modules, in the order of their table.
     pub fn builtin(alloc: Global) -> Result<Registry, AllocError>
-        ensures { IfOk result (λ r. modules_of r ≡ built_modules) }
+        ensures { IfOk result (λ r. modules_of r ≡ builtins) }
     {
         let modules = vec![in alloc;
-            Known::Builtin(Builtin::command(alloc)?),
             Known::Builtin(Builtin::ping(alloc)?),
+            Known::Builtin(Builtin::command(alloc)?),
             Known::Builtin(Builtin::shell(alloc)?),
             Known::Builtin(Builtin::stat(alloc)?),
             Known::Builtin(Builtin::copy(alloc)?),
             Known::Builtin(Builtin::file(alloc)?),
             Known::Builtin(Builtin::service(alloc)?),
+            Known::Builtin(Builtin::setup(alloc)?),
         ]?;
         Ok(Registry { modules })
     }
 
     // The built-in modules, and those of a file.
     pub(crate) fn with(alloc: Global, declared: Vec<Known>) -> Result<Registry, AllocError>
-        requires { are_plain_modules (map known_view declared.items) ≡ true }
-        ensures { IfOk result
-            (λ r. modules_of r ≡ built_modules ++ map known_view declared.items) }
+        requires { are_lawful_modules (map known_view declared.items) ≡ true }
+        ensures { IfOk result (λ r. modules_of r ≡ builtins ++ map known_view declared.items) }
     {
         let mut declared = declared;
         let mut modules = Registry::builtin(alloc)?.modules;
@@ -108,7 +116,7 @@ impl Registry {
         Ok(Registry { modules })
     }
 
-    /// All modules. Each keeps the laws of modules, and none gathers facts so far.
+    /// All modules. Each keeps the laws of modules.
     pub fn modules(&self) -> &[Known]
         ensures { map known_view result.now ≡ modules_of self.now }
     {

@@ -2,13 +2,17 @@
 ghost use Rattle.std.specs.Prelude.{◌≡◌, IfOk, map};
 ghost use Rattle.pb_semantics.specs.Words.{recs};
 ghost use Rattle.pb_value.specs.Words.{kind_view};
-ghost use Rattle.pb_sig.specs.Table.{command, copy, file, file_facts, ping, service, slots, stat};
+ghost use Rattle.pb_sig.specs.Table.{command, copy, file, file_facts, host_facts, ping, service};
+ghost use Rattle.pb_sig.specs.Table.{setup, slots, stat};
 ghost use Rattle.pb_sig.specs.Views.{parameter_view};
 
 use crate::rows::{lines, may, must, parameters_of, shape_of};
 use crate::signature::Parameter;
 use pb_value::Kind;
 use std::alloc::{AllocError, Global};
+
+// The most parts of the facts that one call of `setup` asks for.
+const MOST_SUBSETS: usize = 64;
 
 // A failed answer that tells `msg` alone.
 pub(crate) fn msg_shape(alloc: Global) -> Result<Kind, AllocError>
@@ -165,6 +169,35 @@ pub(crate) fn service_shape(alloc: Global) -> Result<Kind, AllocError>
         must("name", Kind::Text),
         may("state", Kind::Text),
         may("enabled", Kind::Bool),
+    ];
+    shape_of(alloc, &rows)
+}
+
+pub(crate) fn setup_parameters(alloc: Global) -> Result<Vec<Parameter>, AllocError>
+    ensures { IfOk result (λ ps. map parameter_view ps.items ≡ setup.params) }
+{
+    let subsets = Kind::of_item(alloc, Kind::Text, MOST_SUBSETS)?;
+    parameters_of(alloc, &[may("gather_subset", subsets)])
+}
+
+pub(crate) fn setup_shape(alloc: Global) -> Result<Kind, AllocError>
+    ensures { IfOk result (λ k. kind_view k ≡ setup.ok) }
+{
+    let facts = host_facts_shape(alloc)?;
+    let rows = [must("changed", Kind::Bool), must("ansible_facts", facts)];
+    shape_of(alloc, &rows)
+}
+
+fn host_facts_shape(alloc: Global) -> Result<Kind, AllocError>
+    ensures { IfOk result (λ k. kind_view k ≡ recs (slots host_facts)) }
+{
+    let rows = [
+        must("ansible_hostname", Kind::Text),
+        must("ansible_system", Kind::Text),
+        may("ansible_os_family", Kind::Text),
+        may("ansible_distribution", Kind::Text),
+        may("ansible_processor_vcpus", Kind::Int),
+        may("ansible_memtotal_mb", Kind::Int),
     ];
     shape_of(alloc, &rows)
 }

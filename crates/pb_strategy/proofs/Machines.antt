@@ -22,7 +22,7 @@ use Rattle.pb_value.specs.View.{view, fields_view}
 use Rattle.pb_expr.specs.OwnWorld.{own_world}
 use Rattle.pb_sig.specs.Modules.{modules_of, module_at}
 use Rattle.pb_book.specs.Books.{plays_of}
-use Rattle.pb_book.specs.Lines.{is_numbered, are_from, is_known, are_known, names_known, are_ascending, argument_names, are_ordered}
+use Rattle.pb_book.specs.Lines.{is_numbered, are_from, finds_plain, is_known, are_known, names_known, are_ascending, argument_names, are_ordered}
 use Rattle.pb_book.specs.Meaning.{plain_task, plain_tasks, are_plain_plays, argument_parts, work_of}
 use Rattle.pb_book.specs.declared.book.Play.{Play}
 use Rattle.pb_book.specs.declared.book.Task.{Task}
@@ -97,7 +97,7 @@ module_name : (n : List ℕ) (ms : List ModuleData) (m : ModuleData) → module_
 module_name n [] m h = cc
 module_name n (x ∷ ms) m h = name_step (bytes_eq x.name n) n x m (module_at n ms) refl (module_name n ms m) h
 
-named_as : (n : List ℕ) (ms : List ModuleData) (o : Option ModuleData) → module_at n ms ≡ o → is_some o ≡ true → n ≡ (module_named n ms).name
+named_as : (n : List ℕ) (ms : List ModuleData) (o : Option ModuleData) → module_at n ms ≡ o → finds_plain o ≡ true → n ≡ (module_named n ms).name
 named_as n ms (Some m) e h = sym (module_name n ms m e) ∙ ap (λ (k : ModuleData). k.name) (sym (module_named-found n ms m e))
 named_as n ms None e h = untrue h
 

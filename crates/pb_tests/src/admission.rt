@@ -68,19 +68,32 @@ fn has_module(registry: &Registry, name: &str, parameters: usize) -> bool {
 fn finds_by_name(rt: HostRuntime) -> Result<(), Fail> {
     let registry = Registry::builtin(rt.alloc())?;
     let rows = [
-        ("command", 4),
         ("ping", 1),
+        ("command", 4),
         ("shell", 4),
         ("stat", 1),
         ("copy", 4),
         ("file", 5),
         ("service", 3),
+        ("setup", 1),
     ];
     for (name, parameters) in rows {
         assert!(rt; has_module(&registry, name, parameters), "{name}");
     }
     assert!(rt; registry.find("pin").is_none() && registry.find("").is_none());
-    assert!(rt; registry.find("setup").is_none());
+    Ok(())
+}
+
+#[test]
+fn one_module_gathers_facts(rt: HostRuntime) -> Result<(), Fail> {
+    let registry = Registry::builtin(rt.alloc())?;
+    for found in registry.modules() {
+        assert!(rt;
+            found.gathers_facts() == (found.name() == "setup"),
+            "{}",
+            found.name()
+        );
+    }
     Ok(())
 }
 
@@ -101,7 +114,7 @@ fn free_forms(rt: HostRuntime) -> Result<(), Fail> {
     let registry = Registry::builtin(rt.alloc())?;
     assert!(rt; is_free_form(&registry, "command", Some("cmd")));
     assert!(rt; is_free_form(&registry, "shell", Some("cmd")));
-    for name in ["ping", "stat", "copy", "file", "service"] {
+    for name in ["ping", "stat", "copy", "file", "service", "setup"] {
         assert!(rt; is_free_form(&registry, name, None), "{name}");
     }
     Ok(())
@@ -171,6 +184,7 @@ fn refuses_what_does_not(rt: HostRuntime) -> Result<(), Fail> {
         ("ping", r#"{"ping":"pong","failed":true}"#),
         ("stat", r#"{"stat":{"isdir":false}}"#),
         ("service", r#"{"changed":true,"name":7,"state":"started"}"#),
+        ("setup", r#"{"ansible_facts":{"ansible_hostname":"h"}}"#),
     ];
     for (name, answer) in rows {
         assert!(rt; is_breach(rt.alloc(), name, answer)?, "{answer}");

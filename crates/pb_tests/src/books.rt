@@ -91,6 +91,48 @@ fn works(rt: HostRuntime) -> Result<(), Fail> {
     Ok(())
 }
 
+const PREFIXED_TASKS: &str =
+    r#"[{"ansible.builtin.command":"x","register":"out"},{"ansible.builtin.ping":null,"when":true},{"ansible.builtin.debug":{"msg":[1,"a"]}},{"ansible.builtin.set_fact":{"b":1,"a":2}}]"#;
+
+#[test]
+fn prefixed_works(rt: HostRuntime) -> Result<(), Fail> {
+    let book = book_of(rt.alloc(), PREFIXED_TASKS)?;
+    assert!(rt; are_four(only_play(&book)?.tasks.as_slice()));
+    Ok(())
+}
+
+const ECHO: &str =
+    r#"[{"name":"echo","params":{},"ok":{"changed":{"kind":"bool","always":true}},"failure":{"changed":{"kind":"bool","always":true},"msg":{"kind":"text","always":true}}}]"#;
+
+#[test]
+fn prefixed_declared_module(rt: HostRuntime) -> Result<(), Fail> {
+    let text = br#"[{"hosts":"all","tasks":[{"ansible.builtin.echo":null}]}]"#;
+    let registry = Registry::read(rt.alloc(), ECHO.as_bytes())?;
+    let book = Book::read(rt.alloc(), text, &registry)?;
+    assert!(rt; is_of_module(only_task(&book)?, "echo"));
+    Ok(())
+}
+
+// A prefix that stands twice, that another entry has too, or that stands before no module.
+#[test]
+fn other_prefixes(rt: HostRuntime) -> Result<(), Fail> {
+    let rows = [
+        r#"{"ansible.builtin.ansible.builtin.ping":null}"#,
+        r#"{"ping":null,"ansible.builtin.ping":null}"#,
+        r#"{"ping":null,"ansible.builtin.when":true}"#,
+        r#"{"ansible.builtin.when":true}"#,
+        r#"{"ansible.builtin.setup":null}"#,
+        r#"{"ansible.builtin.meta":"noop"}"#,
+        r#"{"ansible.builtin.":null}"#,
+        r#"{"ansible.builtinping":null}"#,
+        r#"{"ansible.ping":null}"#,
+    ];
+    for task in rows {
+        assert!(rt; refuses(rt.alloc(), task)?, "{task}");
+    }
+    Ok(())
+}
+
 // Whether the task has two arguments with those names, in this order.
 fn are_named(task: &Task, first: &str, second: &str) -> bool {
     match task.arguments.as_slice() {
@@ -171,6 +213,8 @@ fn other_tasks(rt: HostRuntime) -> Result<(), Fail> {
         r#"{"name":"n"}"#,
         r#"{"ping":null,"command":"x"}"#,
         r#"{"nope":null}"#,
+        r#"{"setup":null}"#,
+        r#"{"setup":{"gather_subset":["min"]}}"#,
         r#"{"ping":"x"}"#,
         r#"{"ping":null,"register":"a-b"}"#,
         r#"{"ping":null,"register":"1a"}"#,

@@ -1,5 +1,7 @@
 // Files of signatures: the modules that they declare, and why they are refused.
-use pb_sig::{Admission, Module, Registry, SignatureFault, admit, is_one_of, is_variable};
+use pb_sig::{
+    Admission, Module, Registry, SignatureFault, admit, is_one_of, is_variable, without_prefix,
+};
 use pb_value::{Value, read_json};
 use std::alloc::Global;
 use std::test::Fail;
@@ -82,4 +84,16 @@ fn names(rt: HostRuntime) {
     assert!(rt;
         is_one_of("b", &["a", "b"]) && !is_one_of("c", &["a", "b"]) && !is_one_of("a", &[])
     );
+}
+
+#[test]
+fn prefixes(rt: HostRuntime) {
+    assert_eq!(rt; without_prefix("ansible.builtin.ping"), "ping");
+    assert_eq!(rt; without_prefix("ping"), "ping");
+    assert_eq!(rt;
+        without_prefix("ansible.builtin.ansible.builtin.ping"),
+        "ansible.builtin.ping"
+    );
+    assert_eq!(rt; without_prefix("ansible.builtin"), "ansible.builtin");
+    assert_eq!(rt; without_prefix("ansible.builtin."), "");
 }

@@ -1,5 +1,5 @@
 -- The tasks that are left on a host's way, and how one task takes it further.
-use Rattle.std.proofs.Common.{◌≡◌, ℕ, suc, List, [], ◌∷◌, Bool, true, false, not, ◌&&◌, cond, Option, Some, None, is_some, string_bytes, refl, sym, ap, ◌∙◌}
+use Rattle.std.proofs.Common.{◌≡◌, ℕ, suc, List, [], ◌∷◌, Bool, true, false, not, ◌&&◌, cond, Option, Some, None, string_bytes, refl, sym, ap, ◌∙◌}
 use Rattle.pb_semantics.specs.Kind.{Slots, no_slots}
 use Rattle.pb_semantics.specs.Signature.{ModuleData}
 use Rattle.pb_semantics.proofs.Bools.{untrue, and-left, and-right}
@@ -13,16 +13,16 @@ use Rattle.pb_language.specs.Rules.{is_well_formed, reserved_names, written_name
 use Rattle.pb_language.specs.Verdict.{Refusal, code_of}
 use Rattle.pb_language.specs.plain.Books.{PlainTask, task_data, is_plain_task, are_plain_tasks}
 use Rattle.pb_language.specs.plain.Pass.{plain_run, lone_setting, plain_rules, plain_flow, fault_or}
-use Rattle.pb_sig.specs.ModuleView.{are_plain_modules}
+use Rattle.pb_sig.specs.ModuleView.{are_lawful_modules}
 use Rattle.pb_sig.specs.Modules.{module_at}
-use Rattle.pb_book.specs.Lines.{is_known, are_known}
+use Rattle.pb_book.specs.Lines.{finds_plain, is_known, are_known}
 use Rattle.pb_book.specs.Meaning.{work_of, plain_task, plain_tasks}
 use Rattle.pb_book.specs.declared.book.Task.{Task}
 use Rattle.pb_book.specs.declared.book.Work.{Work}
 use Rattle.pb_book.specs.declared.book.Work.TheVariants.{Module, Debug, SetFact}
 use Rattle.pb_verify.specs.Way.{Stands, own_fault, written_result, known_after}
 use Rattle.pb_verify.proofs.RuleModules.{module_named-found}
-use Rattle.pb_verify.proofs.WalkModules.{is_lawful-found}
+use Rattle.pb_verify.proofs.WalkModules.{is_plain-found}
 use Rattle.pb_verify.proofs.WalkWays.{is_kept, task_fault-own, Stands-after}
 
 -- the tasks that are left keep the rules that follow no host
@@ -58,11 +58,11 @@ module _ (ms : Registry) where
     }
 
   -- a module that is known keeps the laws
-  kept_at : (n : Name) (o : Option ModuleData) → are_plain_modules ms ≡ true → module_at n ms ≡ o → is_some o ≡ true → is_lawful (module_named n ms) && not (is_setup (module_named n ms)) ≡ true
+  kept_at : (n : Name) (o : Option ModuleData) → are_lawful_modules ms ≡ true → module_at n ms ≡ o → finds_plain o ≡ true → is_lawful (module_named n ms) && not (is_setup (module_named n ms)) ≡ true
   kept_at n None a e k = untrue k
-  kept_at n (Some m) a e k = rw (module_named-found n ms m e) (is_lawful-found n ms m a e)
+  kept_at n (Some m) a e k = rw (module_named-found n ms m e) (is_plain-found n ms m a e (ap finds_plain e ∙ k))
 
-  pub is_kept-known : (w : Work) (ps : Parts) → are_plain_modules ms ≡ true → is_known ms w ≡ true → is_kept ms (work_of w ps) ≡ true
+  pub is_kept-known : (w : Work) (ps : Parts) → are_lawful_modules ms ≡ true → is_known ms w ≡ true → is_kept ms (work_of w ps) ≡ true
   is_kept-known (Module n) ps a k = kept_at (string_bytes n.value) (module_at (string_bytes n.value) ms) a refl k
   is_kept-known Debug ps a k = refl
   is_kept-known SetFact ps a k = refl

@@ -1,7 +1,7 @@
 // One host's way through the tasks: what is known of its variables, and the first expression that
 // isn't fit.
 ghost use Rattle.std.specs.Prelude.{[], ◌∷◌, ◌≡◌, Bool, IfOk, None, OnOk, codes, false};
-ghost use Rattle.std.specs.Prelude.{is_some, map, not, option_map, string_bytes, true};
+ghost use Rattle.std.specs.Prelude.{map, not, option_map, string_bytes, true};
 ghost use Rattle.pb_semantics.specs.Words.{Gives, below as is_below, hosts, no_slots, put_slot};
 ghost use Rattle.pb_semantics.specs.Words.{slot_at, spot};
 ghost use Rattle.pb_language.specs.Words.{Joins, Name, Registry as Modules, action_fault};
@@ -15,8 +15,8 @@ ghost use Rattle.pb_language.specs.Words.{set_spot, written_spot, wrong_kind};
 ghost use Rattle.pb_value.specs.Words.{is_always, kind_view, slots_view, spot_view};
 ghost use Rattle.pb_expr.specs.Words.{expr_view, fault_found, own_scope};
 ghost use Rattle.pb_sig.specs.Words.{module_at, modules_of, parameter_view};
-ghost use Rattle.pb_book.specs.Words.{are_known, argument_parts, condition_view, is_known};
-ghost use Rattle.pb_book.specs.Words.{plain_task, plain_tasks, work_of};
+ghost use Rattle.pb_book.specs.Words.{are_known, argument_parts, condition_view, finds_plain};
+ghost use Rattle.pb_book.specs.Words.{is_known, plain_task, plain_tasks, work_of};
 ghost use Rattle.pb_verify.specs.Environments.{environment_view};
 ghost use Rattle.pb_verify.specs.Faults.{fault_refusal};
 ghost use Rattle.pb_verify.specs.ResultTables.{Lists};
@@ -240,7 +240,7 @@ fn task_asked(
     }
 }
 
-// The arguments of a module that is there.
+// The arguments of a module that is there, and that a book may name.
 fn call_asked(
     alloc: Global,
     name: &str,
@@ -248,7 +248,7 @@ fn call_asked(
     registry: &Registry,
     environment: &Slots,
 ) -> Result<(), KindFault>
-    requires { is_some (module_at name.now (modules_of registry.now)) ≡ true }
+    requires { finds_plain (module_at name.now (modules_of registry.now)) ≡ true }
     ensures { Gives (λ x. None) fault_found result
         (action_fault (own_scope (slots_view environment.now.entries))
         (call_of (module_named name.now (modules_of registry.now))

@@ -4,7 +4,7 @@ use Rattle.pb_inventory.specs.Inventory.{inventory_view}
 use Rattle.pb_inventory.specs.declared.read.InventoryFault.{InventoryFault}
 use Rattle.pb_inventory.specs.declared.read.InventoryFault.TheVariants as inventory
 use Rattle.pb_sig.specs.Modules.{modules_of}
-use Rattle.pb_sig.specs.Table.{built_modules}
+use Rattle.pb_sig.specs.Table.{builtins}
 use Rattle.pb_cli.specs.FileVerdicts.{Tells, book_found, book_verdict, found, inventory_verdict, of_inventory}
 use Rattle.pb_cli.specs.declared.judge.Fault.TheVariants.{NoMemory}
 use Rattle.pb_cli.proofs.Verdicts.{inventory_verdict-read, InventorySays-fault, Tells-found, Tells-inventory, Tells-no_memory, read-unlooked}
@@ -14,7 +14,7 @@ pub returns-in_err-inventory-clause-verdict : goal.returns-in_err-inventory-clau
 returns-in_err-inventory-clause-verdict c =
     let p = err_from_is_err_and c.from_residual.result c.from_residual.ensures.1 in
     let told = c.in_err-inventory.was in
-    rw (p.1, p.2) (Tells-inventory built_modules c.in_err-inventory.field-0.0 (inventory_verdict c.args.inventory.now) (book_verdict built_modules c.args.book.now)
+    rw (p.1, p.2) (Tells-inventory builtins c.in_err-inventory.field-0.0 (inventory_verdict c.args.inventory.now) (book_verdict builtins c.args.book.now)
     (InventorySays-fault c.args.inventory.now c.read.result c.read.ensures.large c.in_err-inventory.field-0.0 told (λ e. c.read.ensures.not_json (told ∙ ap (λ f. Err f) e)) (λ e. c.read.ensures.not_built (told ∙ ap (λ f. Err f) e))))
 
 pub returns-in_err-registry-clause-verdict : goal.returns-in_err-registry-clause-verdict
@@ -26,7 +26,7 @@ pub returns-clause-verdict : goal.returns-clause-verdict
 returns-clause-verdict c =
     let i = inventory_view c.in_ok-inventory.inventory in
     let read = inventory_verdict-read c.args.inventory.now c.read.result c.read.ensures.large c.in_ok-inventory.inventory c.in_ok-inventory.was c.in_ok-inventory.ensures.ok in
-    Tells-found c.judge_read.result built_modules i (inventory_verdict c.args.inventory.now) (book_verdict built_modules c.args.book.now) read
+    Tells-found c.judge_read.result builtins i (inventory_verdict c.args.inventory.now) (book_verdict builtins c.args.book.now) read
     (subst (λ ms. Tells c.judge_read.result (book_found ms i (book_verdict ms c.args.book.now))) c.in_ok-registry.ensures c.judge_read.ensures.verdict)
 
 pub returns-in_err-inventory-clause-apart : goal.returns-in_err-inventory-clause-apart

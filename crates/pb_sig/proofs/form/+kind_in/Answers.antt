@@ -1,16 +1,14 @@
-use Rattle.std.proofs.Common.{◌≡◌, ◌<◌, ◌++◌, ◌∷◌, [], List, Bool, true, false, Option, Some, option_map, BTreeMap, String, Global, string_bytes, arith, codes, sym, ap, subst, append_assoc, ◌∙◌}
-use Rattle.pb_semantics.specs.Data.{rec}
+use Rattle.std.proofs.Common.{◌≡◌, ◌++◌, ◌∷◌, [], true, false, Some, option_map, BTreeMap, String, Global, string_bytes, arith, codes, sym, ap, subst, append_assoc, ◌∙◌}
 use Rattle.pb_semantics.specs.Kind.{put_slot, spot}
 use Rattle.pb_language.specs.Rules.{is_variable_name}
-use Rattle.pb_value.specs.View.{view, fields_view, truth}
+use Rattle.pb_value.specs.View.{view, fields_view}
 use Rattle.pb_value.specs.KindView.{is_always, kind_view, slots_view}
 use Rattle.pb_value.specs.declared.kind.Kind.{Kind}
 use Rattle.pb_value.specs.declared.kind.Slot.{Slot}
-use Rattle.pb_value.specs.declared.value.Value.{Value}
 use Rattle.pb_value.proofs.Fields.{Entry}
 use Rattle.pb_value.proofs.Views.{view-fields}
 use Rattle.pb_sig.specs.Drafts.{slot_spot}
-use Rattle.pb_sig.specs.Signatures.{bound_in, inner_kind, kind_in, lone_in, shape_in, slots_in, spot_in}
+use Rattle.pb_sig.specs.Signatures.{bound_in, inner_kind, kind_in, lone_in, slots_in, spot_in}
 use Rattle.pb_sig.proofs.Fieldwise.{Ascending, slots_in-last, slots_in-nowhere, slots_in-unnamed}
 use Rattle.pb_sig.proofs.Forms.{inner_by, inner_kind-by, list_or, lone_in-small, pair_in-small, size, sizes, sizes-middle, spot_by, spot_in-by, spot_or}
 use Rattle.pb_sig.proofs.Refused.{Gives-none, Gives-nowhere, Gives-unsaid}

@@ -1,4 +1,4 @@
-use Rattle.std.proofs.Common.{◌≡◌, ◌++◌, ◌∷◌, [], List, Some, None, Vec, Global, option_map, map, string_bytes, sym, ap, append_assoc, ◌∙◌}
+use Rattle.std.proofs.Common.{◌≡◌, ◌++◌, ◌∷◌, [], Some, Vec, Global, option_map, map, string_bytes, sym, ap, append_assoc, ◌∙◌}
 use Rattle.std.proofs.lemmas.List.{map_push}
 use Rattle.pb_value.specs.View.{view, fields_view}
 use Rattle.pb_value.proofs.Fields.{Entry}

@@ -2,11 +2,12 @@ use Rattle.std.proofs.Common.{◌≡◌, ◌+◌, ◌<◌, ◌++◌, ◌∷◌, 
 use Rattle.std.proofs.lemmas.List.{map_push}
 use Rattle.pb_semantics.proofs.Bools.{and-both}
 use Rattle.pb_semantics.specs.Signature.{ModuleData}
-use Rattle.pb_value.specs.View.{view, items_view}
+use Rattle.pb_language.specs.Judgement.{is_lawful}
+use Rattle.pb_value.specs.View.{items_view}
 use Rattle.pb_sig.specs.Drafts.{draft_view}
-use Rattle.pb_sig.specs.ModuleView.{are_plain_modules, is_plain_module, known_view}
+use Rattle.pb_sig.specs.ModuleView.{are_lawful_modules, known_view}
 use Rattle.pb_sig.specs.Signatures.{Offence, judged_module, modules_after, then_more}
-use Rattle.pb_sig.proofs.Laws.{are_plain_modules-append}
+use Rattle.pb_sig.proofs.Laws.{are_lawful_modules-append}
 use Rattle.pb_sig.proofs.read.all_declared.Goals as goal
 
 pub loop-item-preserved : goal.loop-item-preserved
@@ -26,5 +27,5 @@ loop-item-preserved c =
     let judged : judged_module ms (Some draft) ≡ Ok m = ap (λ xs. judged_module (map known_view xs) (Some draft)) (sym c.as_slice.ensures.value) ∙ c.in_ok-module.ensures.given in record {
       given = ap (λ ks. modules_after ks rest) pushed
           ∙ sym (ap (λ xs. modules_after ms (items_view xs)) next ∙ ap (λ o. then_more (judged_module ms o) more) c.in_ok-draft.ensures ∙ ap (λ r. then_more r more) judged) ∙ c.loop-item.invariant.given;
-      plain = ap are_plain_modules pushed ∙ are_plain_modules-append ms (m ∷ []) c.loop-item.invariant.plain (and-both (is_plain_module m) true c.in_ok-module.ensures.plain refl);
+      lawful = ap are_lawful_modules pushed ∙ are_lawful_modules-append ms (m ∷ []) c.loop-item.invariant.lawful (and-both (is_lawful m) true c.in_ok-module.ensures.lawful refl);
     }

@@ -15,5 +15,5 @@ returns c =
     let s = own_scope (slots_view c.args.environment.now.entries) in
     let ps = argument_parts c.args.arguments.now in
     let found = sym c.find.ensures ∙ ap (option_map (λ m. known_view m.now)) c.in-Some.is in
-    let asked = action_fault-found s c.args.name.now (modules_of c.args.registry.now) (known_view c.in-Some.found.now) ps c.args.registry.now.plain found in
+    let asked = action_fault-found s c.args.name.now (modules_of c.args.registry.now) (known_view c.in-Some.found.now) ps c.args.registry.now.lawful found in
     subst (λ f. Gives (λ x. None) fault_found c.arguments_asked.result f) (ap (λ qs. arguments_fault s qs ps) c.params.ensures ∙ sym asked) c.arguments_asked.ensures

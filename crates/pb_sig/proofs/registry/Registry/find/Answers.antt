@@ -1,4 +1,4 @@
-use Rattle.std.proofs.Common.{◌≡◌, ◌+◌, ◌<◌, ◌∷◌, true, arith, drop, length, ap, sym, ◌∙◌, refl, add-one, drop-cons, string_bytes}
+use Rattle.std.proofs.Common.{◌≡◌, ◌+◌, ◌<◌, ◌∷◌, true, arith, drop, length, ap, sym, ◌∙◌, refl, add-one, drop-cons}
 use Rattle.std.specs.Str.{bytes_eq}
 use Rattle.pb_sig.specs.ModuleView.{known_view}
 use Rattle.pb_sig.proofs.registry.Registry.find.Goals as goal

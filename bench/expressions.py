@@ -49,7 +49,7 @@ def joined(length, operand):
 TEXTS = {
     "message": (message, ["read", "kind", "value"]),
     "condition": (condition, ["kind", "value"]),
-    "tests": (tests, ["kind", "value"]),
+    "condition of tests": (tests, ["kind", "value"]),
 }
 
 
@@ -100,23 +100,28 @@ def seconds(found, name, length, step):
     return found[name, length, step].seconds - found[name, length, ""].seconds
 
 
+def compare(name, large, small, most):
+    if large <= 0 or small <= 0:
+        print(f"{name}: too short to be measured")
+        return
+    at_most(name, large / small, most, f"{ms(large)} over {ms(small)}")
+
+
 def reading(found):
     load = median(float(printed) for printed in found["load"].printed)
-    read = seconds(found, "message", LONG, "read")
-    at_most("parse_template of 4 MB over json.load of as much", read / load, 3, f"{ms(read)} over {ms(load)}")
+    compare("parse_template of 4 MB over json.load of as much", seconds(found, "message", LONG, "read"), load, 3)
 
 
 def speed(found, name, step):
     _, count = TEXTS[name][0](LONG)
     taken = seconds(found, name, LONG, step)
-    rate = count * REPEATS[step] / taken
-    print(f"{NAMES[step]} of a {name} of {LONG:,} bytes: {rate:,.0f} steps per second ({count} steps); no bar")
+    rate = f"{count * REPEATS[step] / taken:,.0f} steps per second" if taken > 0 else "too short to be measured"
+    print(f"{NAMES[step]} of a {name} of {LONG:,} bytes: {rate} ({count} steps); no bar")
 
 
 def growth(found, name, step):
     large, small = seconds(found, name, LONG, step), seconds(found, name, LONG // 2, step)
-    detail = f"{ms(large)} over {ms(small)}"
-    at_most(f"{NAMES[step]} of a {name} of {LONG:,} bytes over {LONG // 2:,}", large / small, 2.2, detail)
+    compare(f"{NAMES[step]} of a {name} of {LONG:,} bytes over {LONG // 2:,}", large, small, 2.2)
 
 
 def main():

@@ -16,9 +16,10 @@ PROGRAM = TOP / "crates/pb_probe/out/pb_probe"
 LONG = 4096  # bytes of the longest text that a book may have
 READS = 1024  # of such a text: 4 MB
 REPEATS = {"read": READS, "kind": 2000, "value": 2000}
-NAMES = {"read": "parse_template", "kind": "kind_of", "value": "eval"}
+CALLS = {"read": "parse_template", "kind": "kind_of", "value": "eval"}
 LINES = {"stdout": "a", "stderr": "", "stdout_lines": ["a"], "stderr_lines": []}
-VALUES = {"out": LINES | {"changed": True, "failed": False, "rc": 0}} | {f"n{number:03}": number for number in range(LONG // 20)}
+OUT = LINES | {"changed": True, "failed": False, "rc": 0}
+VALUES = {"out": OUT} | {f"n{number:03}": number for number in range(LONG // 20)}
 
 
 # The texts, each of some steps.
@@ -116,12 +117,12 @@ def speed(found, name, step):
     _, count = TEXTS[name][0](LONG)
     taken = seconds(found, name, LONG, step)
     rate = f"{count * REPEATS[step] / taken:,.0f} steps per second" if taken > 0 else "too short to be measured"
-    print(f"{NAMES[step]} of a {name} of {LONG:,} bytes: {rate} ({count} steps); no bar")
+    print(f"{CALLS[step]} of a {name} of {LONG:,} bytes: {rate} ({count} steps); no bar")
 
 
 def growth(found, name, step):
     large, small = seconds(found, name, LONG, step), seconds(found, name, LONG // 2, step)
-    compare(f"{NAMES[step]} of a {name} of {LONG:,} bytes over {LONG // 2:,}", large, small, 2.2)
+    compare(f"{CALLS[step]} of a {name} of {LONG:,} bytes over {LONG // 2:,}", large, small, 2.2)
 
 
 def main():

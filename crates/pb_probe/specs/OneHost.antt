@@ -1,5 +1,5 @@
 -- What is known of the one host, which stands in the groups `all` and `ungrouped`.
-use Rattle.std.specs.Prelude.{List, [], ◌∷◌, false, codes}
+use Rattle.std.specs.Prelude.{[], ◌∷◌, false, codes}
 use Rattle.pb_semantics.specs.Kind.{Slots, no_slots}
 use Rattle.pb_language.specs.Expression.{Name}
 use Rattle.pb_language.specs.Scope.{Scope, nothing}

@@ -1,8 +1,8 @@
 -- What is seen of a value before any of its parts is read. What isn't of the outline is refused
 -- without memory.
-use Rattle.std.specs.Prelude.{ℕ, List, length, Bool, true, false, ◌&&◌, nat_le, Option, Some, None}
+use Rattle.std.specs.Prelude.{List, length, Bool, true, false, ◌&&◌, nat_le, Option, Some, None}
 use Rattle.std.specs.Prelude.{codes, is_some}
-use Rattle.pb_semantics.specs.Data.{Data, boolean, text, list, rec, null, count_of, Fields}
+use Rattle.pb_semantics.specs.Data.{Data, boolean, text, list, rec, null, count_of}
 use Rattle.pb_semantics.specs.Data.{field_value}
 use Rattle.pb_semantics.specs.Limits.{most_expression_bytes}
 use Rattle.pb_semantics.specs.Signature.{ModuleData}

@@ -1,4 +1,4 @@
-use Rattle.std.proofs.Common.{◌≡◌, ◌≤◌, ◌∙◌, ◌∷◌, [], Global, List, Some, Vec, arith, ap, length, sym, true}
+use Rattle.std.proofs.Common.{◌≡◌, ◌≤◌, ◌∙◌, ◌∷◌, [], Global, Some, Vec, arith, ap, length, sym}
 use Rattle.pb_semantics.specs.Data.{list}
 use Rattle.pb_semantics.proofs.Bools.{true-false}
 use Rattle.pb_language.specs.plain.Books.{plain_play}

@@ -1,8 +1,6 @@
-use Rattle.std.proofs.Common.{◌≡◌, ◌∙◌, Option, Some, None, Bool, true, false, is_some, arith, ap, sym, refl}
+use Rattle.std.proofs.Common.{◌≡◌, ◌∙◌, Option, Some, None, false, is_some, arith, ap, sym, refl}
 use Rattle.std.proofs.lemmas.Result.{err_from_is_err_and}
 use Rattle.pb_semantics.specs.Gives.{FaultGives}
-use Rattle.pb_semantics.specs.Signature.{ModuleData}
-use Rattle.pb_semantics.proofs.Bools.{untrue}
 use Rattle.pb_language.specs.Book.{Registry, Work}
 use Rattle.pb_language.specs.Expression.{Name, Parts, no_parts}
 use Rattle.pb_value.specs.View.{view, fields_view}

@@ -1,4 +1,4 @@
-use Rattle.std.proofs.Common.{false, true, not, bytes_eq, codes, ◌≡◌, ◌∙◌, ℕ, List, Global, String, Some, option_map, ap, string_bytes, sym}
+use Rattle.std.proofs.Common.{false, not, bytes_eq, codes, ◌≡◌, ◌∙◌, ℕ, List, Global, String, Some, option_map, ap, string_bytes, sym}
 use Rattle.pb_sig.specs.ModuleView.{known_view}
 use Rattle.pb_sig.specs.Modules.{module_at, modules_of}
 use Rattle.pb_sig.proofs.Found.{module_at-name, module_at-own}

@@ -13,5 +13,5 @@ pub mod Ascending
 pub mod Records
 pub mod BothTaught
 pub mod Seen
-pub mod Aliases
+pub mod Trees
 pub mod InOrder

@@ -22,9 +22,13 @@ pub struct Aliased<'v, V: Vars> {
 impl<'v, V: Vars> Model for Aliased<'v, V> {
     ghost use Rattle.std.specs.Prelude.{List, String};
     ghost use Rattle.std.specs.declared.alloc.Global.{Global};
+    ghost use Rattle.std.specs.Coded.{codes};
+    ghost use Rattle.pb_syntax.specs.contracts.expr.Expr as e;
     ghost use Rattle.pb_syntax.specs.declared.expr.Expr.{Expr};
 
     ghost Value = { V × List (String Global × Expr) };
+
+    ghost coded = { Prim.hlevel (codes, e.the_row.coded) };
 
     ghost use Rattle.pb_value.specs.Words.{fields_view};
     ghost use Rattle.pb_syntax.specs.ExprView.{parts_view};
@@ -98,7 +102,7 @@ fn with_next<'v, V: Vars>(
 ) -> Result<Aliased<'v, V>, AllocError>
     requires place { place < length names.now }
     requires known { known.1 ≡ take place names.now }
-    ensures { IfOk result (λ a. a ≡ (known.0, take (place + 1) names.now)) }
+    ensures { IfOk result (λ a. a ≡ (known.entry.0, take (place + 1) names.now)) }
 {
     let (name, tree) = &names[place];
     let worth = eval(alloc, tree, &known)?;

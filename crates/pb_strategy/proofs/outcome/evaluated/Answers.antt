@@ -8,7 +8,7 @@ use Rattle.pb_value.specs.Append.{append_fields}
 use Rattle.pb_syntax.specs.ExprView.{expr_view, parts_view}
 use Rattle.pb_expr.specs.OwnWorld.{own_world, shown}
 use Rattle.pb_syntax.specs.declared.expr.Expr.{Expr}
-use Rattle.pb_expr.proofs.Aliases.{no-names-worth}
+use Rattle.pb_expr.proofs.Trees.{no-names-worth}
 use Rattle.pb_expr.proofs.Ascending.{Ascending}
 use Rattle.pb_expr.proofs.Outcomes.{after_fields, fields-end}
 use Rattle.pb_expr.proofs.Exprs.{view-Opaque}

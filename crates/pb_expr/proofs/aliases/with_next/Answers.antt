@@ -35,7 +35,7 @@ invariant_of-result g c =
     let same : c.known.inside.names.now ≡ take c.args.place xs = rw (← c.known.view_is) at asked in
     let told : d ≡ shown (eval w (expanded (trees_in (parts_view c.known.inside.names.now)) (expr_view x.1))) = rw (← c.known.view_is) at worth in
     let stored : fields_view c.put_field.new.fields.entries ≡ put_field (string_bytes x.0) d fs =
-    c.in_ok-put_field.ensures ∙ ap (λ (s : String Global). put_field (string_bytes s) d fs) c.in_ok-clone.ensures.cases in
+    c.in_ok-put_field.ensures ∙ ap (λ (n : List ℕ). put_field n d fs) c.in_ok-clone.ensures.cases in
     subst (λ (more : Fields). AreWorth w (trees_in (parts_view (take (c.args.place + 1) xs))) more) (sym stored)
     (worth-next w xs c.args.place x fs d c.requires.place c.index-names-place.is
     (subst (λ (ys : List (String Global × Expr)). AreWorth w (trees_in (parts_view ys)) fs) same c.known.invariant)

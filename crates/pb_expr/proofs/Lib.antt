@@ -13,3 +13,5 @@ pub mod Ascending
 pub mod Records
 pub mod BothTaught
 pub mod Seen
+pub mod Trees
+pub mod InOrder

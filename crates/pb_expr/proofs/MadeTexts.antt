@@ -3,12 +3,14 @@ use Rattle.std.proofs.Common.{◌≡◌, ℕ, ◌+◌, ◌<◌, ◌≤◌, List,
 use Rattle.std.proofs.lemmas.List.{append-nil, drop_all}
 use Rattle.pb_semantics.specs.Data.{Data, Items, text, opaque, no_items, item}
 use Rattle.pb_semantics.specs.Render.{is_plain, rendered}
+use Rattle.pb_language.specs.Expansion.{expanded, all_expanded}
 use Rattle.pb_language.specs.Expression.{Expressions, no_expressions, expression}
 use Rattle.pb_language.specs.World.{World}
 use Rattle.pb_language.specs.Evaluation.{Outcome, value, stuck, wrong_sort, then_go, plain_text, with_text, joined_items, eval, eval_text}
 use Rattle.pb_value.specs.View.{view, items_view}
 use Rattle.pb_value.specs.declared.value.Value.{Value}
 use Rattle.pb_syntax.specs.ExprView.{expr_view, exprs_view}
+use Rattle.pb_expr.specs.Aliases.{Trees}
 use Rattle.pb_expr.specs.OwnWorld.{shown}
 use Rattle.pb_syntax.specs.declared.expr.Expr.{Expr}
 use Rattle.pb_expr.proofs.Turns.{drop-at}
@@ -62,20 +64,20 @@ part-spoilt : (s : List ℕ) (d : Data) (o p : Outcome) → d ≡ shown o → is
 part-spoilt s d (stuck e) p told spoilt = refl
 part-spoilt s d (value x) p told spoilt = ap (λ o. shown (after_text s o)) (put-spoilt x p (ap is_plain (sym told) ∙ spoilt))
 
-pub concat-turn : (w : World) (es : List Expr) (s : List ℕ) (i : ℕ) (e : Expr) (v : Value) → i < length es → e ≡ get_or es i e → view v ≡ shown (eval w (expr_view e)) → is_plain (view v) ≡ true
-    → after_text s (eval_text w (exprs_view (drop i es))) ≡ after_text (s ++ rendered (view v)) (eval_text w (exprs_view (drop (i + 1) es)))
-concat-turn w es s i e v lt is told plain =
-    ap (λ xs. after_text s (eval_text w (exprs_view xs))) (drop-at es i e lt is)
-    ∙ part-turn s (view v) (eval w (expr_view e)) (eval_text w (exprs_view (drop (i + 1) es))) told plain
+pub concat-turn : (w : World) (f : Trees) (es : List Expr) (s : List ℕ) (i : ℕ) (e : Expr) (v : Value) → i < length es → e ≡ get_or es i e → view v ≡ shown (eval w (expanded f (expr_view e))) → is_plain (view v) ≡ true
+    → after_text s (eval_text w (all_expanded f (exprs_view (drop i es)))) ≡ after_text (s ++ rendered (view v)) (eval_text w (all_expanded f (exprs_view (drop (i + 1) es))))
+concat-turn w f es s i e v lt is told plain =
+    ap (λ xs. after_text s (eval_text w (all_expanded f (exprs_view xs)))) (drop-at es i e lt is)
+    ∙ part-turn s (view v) (eval w (expanded f (expr_view e))) (eval_text w (all_expanded f (exprs_view (drop (i + 1) es)))) told plain
 
-pub concat-spoilt : (w : World) (es : List Expr) (s : List ℕ) (i : ℕ) (e : Expr) (v : Value) → i < length es → e ≡ get_or es i e → view v ≡ shown (eval w (expr_view e)) → is_plain (view v) ≡ false
-    → shown (after_text s (eval_text w (exprs_view (drop i es)))) ≡ opaque
-concat-spoilt w es s i e v lt is told spoilt =
-    ap (λ xs. shown (after_text s (eval_text w (exprs_view xs)))) (drop-at es i e lt is)
-    ∙ part-spoilt s (view v) (eval w (expr_view e)) (eval_text w (exprs_view (drop (i + 1) es))) told spoilt
+pub concat-spoilt : (w : World) (f : Trees) (es : List Expr) (s : List ℕ) (i : ℕ) (e : Expr) (v : Value) → i < length es → e ≡ get_or es i e → view v ≡ shown (eval w (expanded f (expr_view e))) → is_plain (view v) ≡ false
+    → shown (after_text s (eval_text w (all_expanded f (exprs_view (drop i es))))) ≡ opaque
+concat-spoilt w f es s i e v lt is told spoilt =
+    ap (λ xs. shown (after_text s (eval_text w (all_expanded f (exprs_view xs))))) (drop-at es i e lt is)
+    ∙ part-spoilt s (view v) (eval w (expanded f (expr_view e))) (eval_text w (all_expanded f (exprs_view (drop (i + 1) es)))) told spoilt
 
-pub concat-done : (w : World) (es : List Expr) (s : List ℕ) (i : ℕ) → length es ≤ i → shown (after_text s (eval_text w (exprs_view (drop i es)))) ≡ text s
-concat-done w es s i past = ap (λ xs. shown (after_text s (eval_text w (exprs_view xs)))) (drop_all i es past) ∙ ap text (append-nil s)
+pub concat-done : (w : World) (f : Trees) (es : List Expr) (s : List ℕ) (i : ℕ) → length es ≤ i → shown (after_text s (eval_text w (all_expanded f (exprs_view (drop i es))))) ≡ text s
+concat-done w f es s i past = ap (λ xs. shown (after_text s (eval_text w (all_expanded f (exprs_view xs))))) (drop_all i es past) ∙ ap text (append-nil s)
 
 -- the items of a list, of which the next has that text before it
 abbrev pub led : List ℕ → List ℕ → Items → Outcome

@@ -4,13 +4,15 @@ use Rattle.std.proofs.Math.Seq.{drop-cons}
 use Rattle.std.proofs.lemmas.List.{drop_all}
 use Rattle.pb_semantics.specs.Data.{Data, Fields, count_of, boolean, list, rec, opaque, no_fields, field}
 use Rattle.pb_language.specs.Evaluates.{is_unreadable}
-use Rattle.pb_language.specs.Expression.{Name, Status}
+use Rattle.pb_language.specs.Expansion.{expanded, all_expanded}
+use Rattle.pb_language.specs.Expression.{Name, Status, Expression, Parts, part}
 use Rattle.pb_language.specs.World.{World}
 use Rattle.pb_language.specs.Evaluation.{Outcome, Stuck, Look, there, absent, failing, is_there, is_value, status_of, field_count, value, stuck, no_field, or_stuck, then_go, given, value_else, or_else, found, read, value_below, eval, eval_all, eval_any, eval_items, eval_parts}
 use Rattle.pb_value.specs.Append.{append_fields}
 use Rattle.pb_value.specs.View.{view, items_view, fields_of, fields_view, truth}
 use Rattle.pb_value.specs.declared.value.Value.{Value}
-use Rattle.pb_syntax.specs.ExprView.{expr_view, exprs_view, parts_view, names_of}
+use Rattle.pb_syntax.specs.ExprView.{expr_view, exprs_view, names_of}
+use Rattle.pb_expr.specs.Aliases.{Trees}
 use Rattle.pb_expr.specs.OwnWorld.{end_of, field_in, shown, value_read}
 use Rattle.pb_syntax.specs.declared.expr.Expr.{Expr}
 use Rattle.pb_expr.proofs.Outcomes.{and-true, and-false, and-spoilt, or-true, or-false, or-spoilt, after_items, items-spoilt, items-step, items-end, after_fields, fields-spoilt, fields-step}
@@ -18,64 +20,64 @@ use Rattle.pb_expr.proofs.Outcomes.{and-true, and-false, and-spoilt, or-true, or
 pub drop-at : {A : Type 0} → (xs : List A) (i : ℕ) (x : A) → i < length xs → x ≡ get_or xs i x → drop i xs ≡ x ∷ drop (i + 1) xs
 drop-at xs i x h e = rw add-one (drop-cons xs i x h ∙ ap (λ y. y ∷ drop (suc i) xs) (sym e))
 
-pub all-turn : (w : World) (es : List Expr) (i : ℕ) (e : Expr) (v : Value) (t : Option Bool) → i < length es → e ≡ get_or es i e → view v ≡ shown (eval w (expr_view e))
-    → t ≡ truth (view v) → t ≡ Some true → eval_all w (exprs_view (drop i es)) ≡ eval_all w (exprs_view (drop (i + 1) es))
-all-turn w es i e v t lt is told found holds =
-    ap (λ xs. eval_all w (exprs_view xs)) (drop-at es i e lt is)
-    ∙ and-true w (eval w (expr_view e)) (exprs_view (drop (i + 1) es)) (ap truth (sym told) ∙ sym found ∙ holds)
+pub all-turn : (w : World) (f : Trees) (es : List Expr) (i : ℕ) (e : Expr) (v : Value) (t : Option Bool) → i < length es → e ≡ get_or es i e → view v ≡ shown (eval w (expanded f (expr_view e)))
+    → t ≡ truth (view v) → t ≡ Some true → eval_all w (all_expanded f (exprs_view (drop i es))) ≡ eval_all w (all_expanded f (exprs_view (drop (i + 1) es)))
+all-turn w f es i e v t lt is told found holds =
+    ap (λ xs. eval_all w (all_expanded f (exprs_view xs))) (drop-at es i e lt is)
+    ∙ and-true w (eval w (expanded f (expr_view e))) (all_expanded f (exprs_view (drop (i + 1) es))) (ap truth (sym told) ∙ sym found ∙ holds)
 
-pub all-stops : (w : World) (es : List Expr) (i : ℕ) (e : Expr) (v : Value) (t : Option Bool) → i < length es → e ≡ get_or es i e → view v ≡ shown (eval w (expr_view e))
-    → t ≡ truth (view v) → t ≡ Some false → shown (eval_all w (exprs_view (drop i es))) ≡ boolean false
-all-stops w es i e v t lt is told found holds =
-    ap (λ xs. shown (eval_all w (exprs_view xs))) (drop-at es i e lt is)
-    ∙ and-false (eval w (expr_view e)) (eval_all w (exprs_view (drop (i + 1) es))) (ap truth (sym told) ∙ sym found ∙ holds)
+pub all-stops : (w : World) (f : Trees) (es : List Expr) (i : ℕ) (e : Expr) (v : Value) (t : Option Bool) → i < length es → e ≡ get_or es i e → view v ≡ shown (eval w (expanded f (expr_view e)))
+    → t ≡ truth (view v) → t ≡ Some false → shown (eval_all w (all_expanded f (exprs_view (drop i es)))) ≡ boolean false
+all-stops w f es i e v t lt is told found holds =
+    ap (λ xs. shown (eval_all w (all_expanded f (exprs_view xs)))) (drop-at es i e lt is)
+    ∙ and-false (eval w (expanded f (expr_view e))) (eval_all w (all_expanded f (exprs_view (drop (i + 1) es)))) (ap truth (sym told) ∙ sym found ∙ holds)
 
-pub all-spoilt : (w : World) (es : List Expr) (i : ℕ) (e : Expr) (v : Value) (t : Option Bool) → i < length es → e ≡ get_or es i e → view v ≡ shown (eval w (expr_view e))
-    → t ≡ truth (view v) → t ≡ None → shown (eval_all w (exprs_view (drop i es))) ≡ opaque
-all-spoilt w es i e v t lt is told found holds =
-    ap (λ xs. shown (eval_all w (exprs_view xs))) (drop-at es i e lt is)
-    ∙ and-spoilt (eval w (expr_view e)) (eval_all w (exprs_view (drop (i + 1) es))) (ap truth (sym told) ∙ sym found ∙ holds)
+pub all-spoilt : (w : World) (f : Trees) (es : List Expr) (i : ℕ) (e : Expr) (v : Value) (t : Option Bool) → i < length es → e ≡ get_or es i e → view v ≡ shown (eval w (expanded f (expr_view e)))
+    → t ≡ truth (view v) → t ≡ None → shown (eval_all w (all_expanded f (exprs_view (drop i es)))) ≡ opaque
+all-spoilt w f es i e v t lt is told found holds =
+    ap (λ xs. shown (eval_all w (all_expanded f (exprs_view xs)))) (drop-at es i e lt is)
+    ∙ and-spoilt (eval w (expanded f (expr_view e))) (eval_all w (all_expanded f (exprs_view (drop (i + 1) es)))) (ap truth (sym told) ∙ sym found ∙ holds)
 
-pub all-done : (w : World) (es : List Expr) (i : ℕ) → length es ≤ i → shown (eval_all w (exprs_view (drop i es))) ≡ boolean true
-all-done w es i past = ap (λ xs. shown (eval_all w (exprs_view xs))) (drop_all i es past)
+pub all-done : (w : World) (f : Trees) (es : List Expr) (i : ℕ) → length es ≤ i → shown (eval_all w (all_expanded f (exprs_view (drop i es)))) ≡ boolean true
+all-done w f es i past = ap (λ xs. shown (eval_all w (all_expanded f (exprs_view xs)))) (drop_all i es past)
 
-pub any-turn : (w : World) (es : List Expr) (i : ℕ) (e : Expr) (v : Value) (t : Option Bool) → i < length es → e ≡ get_or es i e → view v ≡ shown (eval w (expr_view e))
-    → t ≡ truth (view v) → t ≡ Some false → eval_any w (exprs_view (drop i es)) ≡ eval_any w (exprs_view (drop (i + 1) es))
-any-turn w es i e v t lt is told found holds =
-    ap (λ xs. eval_any w (exprs_view xs)) (drop-at es i e lt is)
-    ∙ or-false w (eval w (expr_view e)) (exprs_view (drop (i + 1) es)) (ap truth (sym told) ∙ sym found ∙ holds)
+pub any-turn : (w : World) (f : Trees) (es : List Expr) (i : ℕ) (e : Expr) (v : Value) (t : Option Bool) → i < length es → e ≡ get_or es i e → view v ≡ shown (eval w (expanded f (expr_view e)))
+    → t ≡ truth (view v) → t ≡ Some false → eval_any w (all_expanded f (exprs_view (drop i es))) ≡ eval_any w (all_expanded f (exprs_view (drop (i + 1) es)))
+any-turn w f es i e v t lt is told found holds =
+    ap (λ xs. eval_any w (all_expanded f (exprs_view xs))) (drop-at es i e lt is)
+    ∙ or-false w (eval w (expanded f (expr_view e))) (all_expanded f (exprs_view (drop (i + 1) es))) (ap truth (sym told) ∙ sym found ∙ holds)
 
-pub any-stops : (w : World) (es : List Expr) (i : ℕ) (e : Expr) (v : Value) (t : Option Bool) → i < length es → e ≡ get_or es i e → view v ≡ shown (eval w (expr_view e))
-    → t ≡ truth (view v) → t ≡ Some true → shown (eval_any w (exprs_view (drop i es))) ≡ boolean true
-any-stops w es i e v t lt is told found holds =
-    ap (λ xs. shown (eval_any w (exprs_view xs))) (drop-at es i e lt is)
-    ∙ or-true (eval w (expr_view e)) (eval_any w (exprs_view (drop (i + 1) es))) (ap truth (sym told) ∙ sym found ∙ holds)
+pub any-stops : (w : World) (f : Trees) (es : List Expr) (i : ℕ) (e : Expr) (v : Value) (t : Option Bool) → i < length es → e ≡ get_or es i e → view v ≡ shown (eval w (expanded f (expr_view e)))
+    → t ≡ truth (view v) → t ≡ Some true → shown (eval_any w (all_expanded f (exprs_view (drop i es)))) ≡ boolean true
+any-stops w f es i e v t lt is told found holds =
+    ap (λ xs. shown (eval_any w (all_expanded f (exprs_view xs)))) (drop-at es i e lt is)
+    ∙ or-true (eval w (expanded f (expr_view e))) (eval_any w (all_expanded f (exprs_view (drop (i + 1) es)))) (ap truth (sym told) ∙ sym found ∙ holds)
 
-pub any-spoilt : (w : World) (es : List Expr) (i : ℕ) (e : Expr) (v : Value) (t : Option Bool) → i < length es → e ≡ get_or es i e → view v ≡ shown (eval w (expr_view e))
-    → t ≡ truth (view v) → t ≡ None → shown (eval_any w (exprs_view (drop i es))) ≡ opaque
-any-spoilt w es i e v t lt is told found holds =
-    ap (λ xs. shown (eval_any w (exprs_view xs))) (drop-at es i e lt is)
-    ∙ or-spoilt (eval w (expr_view e)) (eval_any w (exprs_view (drop (i + 1) es))) (ap truth (sym told) ∙ sym found ∙ holds)
+pub any-spoilt : (w : World) (f : Trees) (es : List Expr) (i : ℕ) (e : Expr) (v : Value) (t : Option Bool) → i < length es → e ≡ get_or es i e → view v ≡ shown (eval w (expanded f (expr_view e)))
+    → t ≡ truth (view v) → t ≡ None → shown (eval_any w (all_expanded f (exprs_view (drop i es)))) ≡ opaque
+any-spoilt w f es i e v t lt is told found holds =
+    ap (λ xs. shown (eval_any w (all_expanded f (exprs_view xs)))) (drop-at es i e lt is)
+    ∙ or-spoilt (eval w (expanded f (expr_view e))) (eval_any w (all_expanded f (exprs_view (drop (i + 1) es)))) (ap truth (sym told) ∙ sym found ∙ holds)
 
-pub any-done : (w : World) (es : List Expr) (i : ℕ) → length es ≤ i → shown (eval_any w (exprs_view (drop i es))) ≡ boolean false
-any-done w es i past = ap (λ xs. shown (eval_any w (exprs_view xs))) (drop_all i es past)
+pub any-done : (w : World) (f : Trees) (es : List Expr) (i : ℕ) → length es ≤ i → shown (eval_any w (all_expanded f (exprs_view (drop i es)))) ≡ boolean false
+any-done w f es i past = ap (λ xs. shown (eval_any w (all_expanded f (exprs_view xs)))) (drop_all i es past)
 
-pub list-turn : (w : World) (es : List Expr) (vs : List Value) (i : ℕ) (e : Expr) (v : Value) → i < length es → e ≡ get_or es i e → view v ≡ shown (eval w (expr_view e))
+pub list-turn : (w : World) (f : Trees) (es : List Expr) (vs : List Value) (i : ℕ) (e : Expr) (v : Value) → i < length es → e ≡ get_or es i e → view v ≡ shown (eval w (expanded f (expr_view e)))
     → is_unreadable (view v) ≡ false
-    → after_items (items_view vs) (eval_items w (exprs_view (drop i es))) ≡ after_items (items_view (vs ++ v ∷ [])) (eval_items w (exprs_view (drop (i + 1) es)))
-list-turn w es vs i e v lt is told readable =
-    ap (λ xs. after_items (items_view vs) (eval_items w (exprs_view xs))) (drop-at es i e lt is)
-    ∙ items-step vs v (eval w (expr_view e)) (eval_items w (exprs_view (drop (i + 1) es))) told (ap is_unreadable (sym told) ∙ readable)
+    → after_items (items_view vs) (eval_items w (all_expanded f (exprs_view (drop i es)))) ≡ after_items (items_view (vs ++ v ∷ [])) (eval_items w (all_expanded f (exprs_view (drop (i + 1) es))))
+list-turn w f es vs i e v lt is told readable =
+    ap (λ xs. after_items (items_view vs) (eval_items w (all_expanded f (exprs_view xs)))) (drop-at es i e lt is)
+    ∙ items-step vs v (eval w (expanded f (expr_view e))) (eval_items w (all_expanded f (exprs_view (drop (i + 1) es)))) told (ap is_unreadable (sym told) ∙ readable)
 
-pub list-spoilt : (w : World) (es : List Expr) (vs : List Value) (i : ℕ) (e : Expr) (v : Value) → i < length es → e ≡ get_or es i e → view v ≡ shown (eval w (expr_view e))
-    → is_unreadable (view v) ≡ true → shown (after_items (items_view vs) (eval_items w (exprs_view (drop i es)))) ≡ opaque
-list-spoilt w es vs i e v lt is told spoilt =
-    ap (λ xs. shown (after_items (items_view vs) (eval_items w (exprs_view xs)))) (drop-at es i e lt is)
-    ∙ items-spoilt (items_view vs) (eval w (expr_view e)) _ (ap is_unreadable (sym told) ∙ spoilt)
+pub list-spoilt : (w : World) (f : Trees) (es : List Expr) (vs : List Value) (i : ℕ) (e : Expr) (v : Value) → i < length es → e ≡ get_or es i e → view v ≡ shown (eval w (expanded f (expr_view e)))
+    → is_unreadable (view v) ≡ true → shown (after_items (items_view vs) (eval_items w (all_expanded f (exprs_view (drop i es))))) ≡ opaque
+list-spoilt w f es vs i e v lt is told spoilt =
+    ap (λ xs. shown (after_items (items_view vs) (eval_items w (all_expanded f (exprs_view xs))))) (drop-at es i e lt is)
+    ∙ items-spoilt (items_view vs) (eval w (expanded f (expr_view e))) _ (ap is_unreadable (sym told) ∙ spoilt)
 
-pub list-done : (w : World) (es : List Expr) (vs : List Value) (i : ℕ) → length es ≤ i → shown (after_items (items_view vs) (eval_items w (exprs_view (drop i es)))) ≡ list (items_view vs)
-list-done w es vs i past =
-    ap (λ xs. shown (after_items (items_view vs) (eval_items w (exprs_view xs)))) (drop_all i es past) ∙ ap shown (items-end (items_view vs))
+pub list-done : (w : World) (f : Trees) (es : List Expr) (vs : List Value) (i : ℕ) → length es ≤ i → shown (after_items (items_view vs) (eval_items w (all_expanded f (exprs_view (drop i es))))) ≡ list (items_view vs)
+list-done w f es vs i past =
+    ap (λ xs. shown (after_items (items_view vs) (eval_items w (all_expanded f (exprs_view xs))))) (drop_all i es past) ∙ ap shown (items-end (items_view vs))
 
 -- one more entry, whatever the entries stand for
 pub fields-last : (f : Expr → Data) (done : List (String Global × Expr)) (e : String Global × Expr)
@@ -83,15 +85,14 @@ pub fields-last : (f : Expr → Data) (done : List (String Global × Expr)) (e :
 fields-last f [] e = refl
 fields-last f (x ∷ done) e = ap (field (string_bytes x.0) (f x.1)) (fields-last f done e)
 
-pub record-turn : (w : World) (fs : Fields) (e : String Global × Expr) (left : List (String Global × Expr)) (v : Value) → view v ≡ shown (eval w (expr_view e.1))
+pub record-turn : (w : World) (fs : Fields) (n : Name) (e : Expression) (ps : Parts) (v : Value) → view v ≡ shown (eval w e)
     → is_unreadable (view v) ≡ false
-    → after_fields fs (eval_parts w (parts_view (e ∷ left))) ≡ after_fields (append_fields fs (field (string_bytes e.0) (shown (eval w (expr_view e.1))) no_fields)) (eval_parts w (parts_view left))
-record-turn w fs e left v told readable =
-    fields-step fs (string_bytes e.0) (eval w (expr_view e.1)) (eval_parts w (parts_view left)) (ap is_unreadable (sym told) ∙ readable)
+    → after_fields fs (eval_parts w (part n e ps)) ≡ after_fields (append_fields fs (field n (shown (eval w e)) no_fields)) (eval_parts w ps)
+record-turn w fs n e ps v told readable = fields-step fs n (eval w e) (eval_parts w ps) (ap is_unreadable (sym told) ∙ readable)
 
-pub record-spoilt : (w : World) (fs : Fields) (e : String Global × Expr) (left : List (String Global × Expr)) (v : Value) → view v ≡ shown (eval w (expr_view e.1))
-    → is_unreadable (view v) ≡ true → shown (after_fields fs (eval_parts w (parts_view (e ∷ left)))) ≡ opaque
-record-spoilt w fs e left v told spoilt = fields-spoilt fs (string_bytes e.0) (eval w (expr_view e.1)) _ (ap is_unreadable (sym told) ∙ spoilt)
+pub record-spoilt : (w : World) (fs : Fields) (n : Name) (e : Expression) (ps : Parts) (v : Value) → view v ≡ shown (eval w e)
+    → is_unreadable (view v) ≡ true → shown (after_fields fs (eval_parts w (part n e ps))) ≡ opaque
+record-spoilt w fs n e ps v told spoilt = fields-spoilt fs n (eval w e) _ (ap is_unreadable (sym told) ∙ spoilt)
 
 -- a step into a field that is there, and one into what isn't
 below-field : (n : Name) (ns : List Name) (d e : Data) → Some e ≡ field_in n d → value_below (n ∷ ns) d ≡ value_below ns e
@@ -129,8 +130,8 @@ found-there : (o : Outcome) → is_there [] (found (value_read o)) ≡ value (bo
 found-there (value d) = refl
 found-there (stuck s) = refl
 
-pub end-there : (ns : List Name) (l : Look) → is_there [] (end_of ns l) ≡ is_there ns l
-end-there ns (there d) = found-there (value_below ns d)
+pub end-there : (ns : List Name) (l : Look) → shown (is_there [] (end_of ns l)) ≡ shown (is_there ns l)
+end-there ns (there d) = ap shown (found-there (value_below ns d))
 end-there ns absent = refl
 end-there ns (failing s) = refl
 
@@ -147,8 +148,8 @@ found-or : (o p : Outcome) → or_else [] (found (value_read o)) p ≡ value_els
 found-or (value d) p = refl
 found-or (stuck s) p = refl
 
-end-or : (ns : List Name) (l : Look) (o : Outcome) → or_else [] (end_of ns l) o ≡ or_else ns l o
-end-or ns (there d) o = found-or (value_below ns d) o
+end-or : (ns : List Name) (l : Look) (o : Outcome) → shown (or_else [] (end_of ns l) o) ≡ shown (or_else ns l o)
+end-or ns (there d) o = ap shown (found-or (value_below ns d) o)
 end-or ns absent o = refl
 end-or ns (failing s) o = refl
 
@@ -159,15 +160,15 @@ given-shown (value d) = refl
 
 -- a path, and what stands for it where nothing is there
 pub or-there : (ns : List Name) (l : Look) (o : Outcome) (d : Data) → there d ≡ end_of ns l → d ≡ shown (or_else ns l o)
-or-there ns l o d h = ap (λ k. shown (or_else [] k o)) h ∙ ap shown (end-or ns l o)
+or-there ns l o d h = ap (λ k. shown (or_else [] k o)) h ∙ end-or ns l o
 
 pub or-absent : (ns : List Name) (l : Look) (o : Outcome) → absent ≡ end_of ns l → shown o ≡ shown (or_else ns l (then_go o given))
 or-absent ns l o h =
     sym (given-shown o)
-    ∙ ap (λ k. shown (or_else [] k (then_go o given))) h ∙ ap shown (end-or ns l (then_go o given))
+    ∙ ap (λ k. shown (or_else [] k (then_go o given))) h ∙ end-or ns l (then_go o given)
 
 pub or-failing : (ns : List Name) (l : Look) (o : Outcome) (s : Stuck) → failing s ≡ end_of ns l → opaque ≡ shown (or_else ns l o)
-or-failing ns l o s h = ap (λ k. shown (or_else [] k o)) h ∙ ap shown (end-or ns l o)
+or-failing ns l o s h = ap (λ k. shown (or_else [] k o)) h ∙ end-or ns l o
 
 -- how many items and fields there are
 pub items_count : (vs : List Value) → length vs ≡ count_of (items_view vs)

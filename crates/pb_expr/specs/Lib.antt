@@ -1,3 +1,4 @@
+pub mod Aliases
 pub mod OwnScope
 pub mod OwnWorld
 pub mod SpotFound

@@ -28,11 +28,11 @@ abbrev pub field_in : List ℕ → Data → Option Data
 field_in n (rec fs) = field_value n fs
 field_in n d = None
 
--- what stands at the end of the steps
+-- what stands at the end of the steps; the reason why nothing can be looked up isn't kept
 abbrev pub end_of : List Name → Look → Look
 end_of ns (there d) = found (value_read (value_below ns d))
 end_of ns absent = absent
-end_of ns (failing s) = failing s
+end_of ns (failing s) = failing wrong_sort
 
 abbrev pub look_view : MadeLook → Look
 look_view (looks.There v) = there (view v)

@@ -2,6 +2,8 @@
 ghost use Rattle.std.specs.Prelude.{[], ◌≡◌, IfOk, MatchOption, false, is_some, true};
 ghost use Rattle.pb_semantics.specs.Words.{field_value, is_part, list};
 ghost use Rattle.pb_language.specs.Evaluation.{is_there as there_found, look, then_go};
+ghost use Rattle.pb_language.specs.Expansion.{all_expanded, expanded, expanded_root};
+ghost use Rattle.pb_language.specs.Expansion.{parts_expanded};
 ghost use Rattle.pb_language.specs.Expression.{defined, path_status};
 ghost use Rattle.pb_language.specs.Words.{eval as outcome_of, eval_all, eval_any, eval_items};
 ghost use Rattle.pb_language.specs.Words.{eval_parts, eval_text, found_in, is_unreadable, path_or};
@@ -23,11 +25,12 @@ use std::collections::BTreeMap;
 /// The value of an expression, which shares what it can with the variables and the expression.
 ///
 /// It is to be asked of a fit expression. One that has no value, as one that reads a name that
-/// holds nothing, is `Opaque`, which is what may not be read.
+/// holds nothing, is `Opaque`, which is what may not be read. A name of `vars` stands for what its
+/// tree is worth.
 #[cycle(eval)]
 pub fn eval<V: Vars>(alloc: Global, expr: &Expr, vars: &V) -> Result<Value, AllocError>
     ensures { IfOk result (λ v. view v
-        ≡ shown (outcome_of (V.world vars.now) (expr_view expr.now))) }
+        ≡ shown (outcome_of (V.world vars.now) (expanded (V.trees vars.now) (expr_view expr.now)))) }
 {
     match expr {
         Expr::Literal(known) => known.clone(),
@@ -72,7 +75,8 @@ fn pair_of<V: Vars>(
 ) -> Result<(Value, Value), AllocError>
     ensures left { IfOk result (λ v. v.0 ≡ left) }
     ensures right { IfOk result
-        (λ v. view v.1 ≡ shown (outcome_of (V.world vars.now) (expr_view right.now))) }
+        (λ v. view v.1 ≡ shown (outcome_of (V.world vars.now)
+        (expanded (V.trees vars.now) (expr_view right.now)))) }
 {
     let right = eval(alloc, right, vars)?;
     Ok((left, right))
@@ -81,7 +85,8 @@ fn pair_of<V: Vars>(
 #[cycle(eval)]
 fn all_of<V: Vars>(alloc: Global, operands: &[Expr], vars: &V) -> Result<Value, AllocError>
     ensures { IfOk result (λ v. view v
-        ≡ shown (eval_all (V.world vars.now) (exprs_view operands.now))) }
+        ≡ shown (eval_all (V.world vars.now)
+        (all_expanded (V.trees vars.now) (exprs_view operands.now)))) }
 {
     for operand in operands {
         let found = eval(alloc, operand, vars)?;
@@ -97,7 +102,8 @@ fn all_of<V: Vars>(alloc: Global, operands: &[Expr], vars: &V) -> Result<Value, 
 #[cycle(eval)]
 fn any_of<V: Vars>(alloc: Global, operands: &[Expr], vars: &V) -> Result<Value, AllocError>
     ensures { IfOk result (λ v. view v
-        ≡ shown (eval_any (V.world vars.now) (exprs_view operands.now))) }
+        ≡ shown (eval_any (V.world vars.now)
+        (all_expanded (V.trees vars.now) (exprs_view operands.now)))) }
 {
     for operand in operands {
         let found = eval(alloc, operand, vars)?;
@@ -113,7 +119,8 @@ fn any_of<V: Vars>(alloc: Global, operands: &[Expr], vars: &V) -> Result<Value, 
 #[cycle(eval)]
 fn list_of<V: Vars>(alloc: Global, items: &[Expr], vars: &V) -> Result<Value, AllocError>
     ensures { IfOk result (λ v. view v
-        ≡ shown (eval_items (V.world vars.now) (exprs_view items.now))) }
+        ≡ shown (eval_items (V.world vars.now)
+        (all_expanded (V.trees vars.now) (exprs_view items.now)))) }
 {
     let mut values = Vec::new(alloc);
     for item in items {
@@ -133,7 +140,8 @@ fn record_of<V: Vars>(
     vars: &V,
 ) -> Result<Value, AllocError>
     ensures { IfOk result (λ v. view v
-        ≡ shown (eval_parts (V.world vars.now) (parts_view fields.now.entries))) }
+        ≡ shown (eval_parts (V.world vars.now)
+        (parts_expanded (V.trees vars.now) (parts_view fields.now.entries)))) }
 {
     let mut values = BTreeMap::new(alloc);
     for (name, field) in fields.iter() {
@@ -155,8 +163,8 @@ fn value_or<V: Vars>(
     vars: &V,
 ) -> Result<Value, AllocError>
     ensures { IfOk result (λ v. view v ≡ shown (outcome_of (V.world vars.now)
-        (path_or (root_view path.now.root) (names_of path.now.steps.items)
-        (expr_view other.now)))) }
+        (expanded (V.trees vars.now) (path_or (root_view path.now.root)
+        (names_of path.now.steps.items) (expr_view other.now))))) }
 {
     match look_at(alloc, path, vars)? {
         Look::There(value) => Ok(value),
@@ -169,7 +177,8 @@ fn value_or<V: Vars>(
 #[cycle(eval)]
 fn text_of<V: Vars>(alloc: Global, parts: &[Expr], vars: &V) -> Result<Value, AllocError>
     ensures { IfOk result (λ v. view v
-        ≡ shown (eval_text (V.world vars.now) (exprs_view parts.now))) }
+        ≡ shown (eval_text (V.world vars.now)
+        (all_expanded (V.trees vars.now) (exprs_view parts.now)))) }
 {
     let mut text = String::new(alloc);
     for part in parts {
@@ -184,7 +193,8 @@ fn text_of<V: Vars>(alloc: Global, parts: &[Expr], vars: &V) -> Result<Value, Al
 
 fn value_of_path<V: Vars>(alloc: Global, path: &Path, vars: &V) -> Result<Value, AllocError>
     ensures { IfOk result (λ v. view v ≡ shown (read (names_of path.now.steps.items)
-        (look (V.world vars.now) (root_view path.now.root)))) }
+        (look (V.world vars.now)
+        (expanded_root (V.trees vars.now) (root_view path.now.root))))) }
 {
     Ok(value_there(look_at(alloc, path, vars)?))
 }
@@ -201,7 +211,8 @@ fn value_there(end: Look) -> Value
 // Whether a value stands at the end of the path.
 fn is_defined<V: Vars>(alloc: Global, path: &Path, vars: &V) -> Result<Value, AllocError>
     ensures { IfOk result (λ v. view v ≡ shown (outcome_of (V.world vars.now)
-        (defined (root_view path.now.root) (names_of path.now.steps.items)))) }
+        (expanded (V.trees vars.now)
+        (defined (root_view path.now.root) (names_of path.now.steps.items))))) }
 {
     Ok(is_there(&look_at(alloc, path, vars)?))
 }
@@ -224,8 +235,8 @@ fn status_at<V: Vars>(
     vars: &V,
 ) -> Result<Value, AllocError>
     ensures { IfOk result (λ v. view v ≡ shown (outcome_of (V.world vars.now)
-        (path_status (status_view status) (root_view path.now.root)
-        (names_of path.now.steps.items)))) }
+        (expanded (V.trees vars.now) (path_status (status_view status)
+        (root_view path.now.root) (names_of path.now.steps.items))))) }
 {
     Ok(status_there(status, &look_at(alloc, path, vars)?))
 }

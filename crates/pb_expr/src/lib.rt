@@ -11,6 +11,7 @@
 //     let value = eval(alloc, &condition, &vars)?; // where it is fit
 #![tactic(auto)]
 
+pub mod aliases;
 mod both;
 pub mod change;
 pub mod defined;
@@ -33,6 +34,7 @@ pub mod unfit;
 pub mod vars;
 mod views;
 
+pub use aliases::{Aliased, values_of};
 pub use fit::{KindFault, kind_of};
 pub use known::Known;
 pub use pb_syntax::{

@@ -2,8 +2,10 @@
 ghost use Rattle.std.specs.Prelude.{◌≡◌, IfOk, option_map, string_bytes};
 ghost use Rattle.pb_semantics.specs.Words.{field_value};
 ghost use Rattle.pb_language.specs.Evaluation.{host_named, host_of, is_active as active_found};
-ghost use Rattle.pb_language.specs.Evaluation.{is_text_among, look, look_there, member_text, there};
-ghost use Rattle.pb_language.specs.Words.{found, value_below};
+ghost use Rattle.pb_language.specs.Evaluation.{is_text_among, look, look_there, member_text};
+ghost use Rattle.pb_language.specs.Evaluation.{readable, there};
+ghost use Rattle.pb_language.specs.Expansion.{expanded_root, root_named};
+ghost use Rattle.pb_language.specs.Words.{found, value, value_below};
 ghost use Rattle.pb_language.specs.World.{member_of};
 ghost use Rattle.pb_value.specs.Words.{view};
 ghost use Rattle.pb_syntax.specs.ExprView.{names_of, root_view, term_view};
@@ -22,14 +24,15 @@ pub(crate) enum Look {
     There(Value),
     /// Nothing.
     Absent,
-    /// What can't be looked up: the host is to be the one that `item` names, which is no text.
+    /// What can't be looked up: the host is to be the one that `item` names, which is no text, or
+    /// the name of `vars` has no value that may be read.
     Failing,
 }
 
 /// What stands at the end of the path.
 pub(crate) fn look_at<V: Vars>(alloc: Global, path: &Path, vars: &V) -> Result<Look, AllocError>
     ensures { IfOk result (λ l. look_view l ≡ end_of (names_of path.now.steps.items)
-        (look (V.world vars.now) (root_view path.now.root))) }
+        (look (V.world vars.now) (expanded_root (V.trees vars.now) (root_view path.now.root)))) }
 {
     match &path.root {
         Root::Variable(name) => look_at_own(name.as_str(), &path.steps, vars),
@@ -38,8 +41,30 @@ pub(crate) fn look_at<V: Vars>(alloc: Global, path: &Path, vars: &V) -> Result<L
     }
 }
 
-// From a variable of the host on.
+// From a name of `vars` or a variable of the host on.
 fn look_at_own<V: Vars>(name: &str, steps: &[String], vars: &V) -> Result<Look, AllocError>
+    ensures { IfOk result (λ l. look_view l ≡ end_of (names_of steps.now)
+        (look (V.world vars.now) (root_named name.now (V.trees vars.now name.now)))) }
+{
+    match vars.alias(name) {
+        Some(worth) => look_at_alias(worth, steps),
+        None => look_at_variable(name, steps, vars),
+    }
+}
+
+// From what the tree of a name of `vars` is worth on.
+fn look_at_alias(worth: &Value, steps: &[String]) -> Result<Look, AllocError>
+    ensures { IfOk result (λ l. look_view l
+        ≡ end_of (names_of steps.now) (readable (value (view worth.now)))) }
+{
+    match worth {
+        Value::Opaque => Ok(Look::Failing),
+        worth => look_below(worth, steps),
+    }
+}
+
+// From a variable of the host on.
+fn look_at_variable<V: Vars>(name: &str, steps: &[String], vars: &V) -> Result<Look, AllocError>
     ensures { IfOk result (λ l. look_view l ≡ end_of (names_of steps.now)
         (found (field_value name.now (V.world vars.now).mine))) }
 {

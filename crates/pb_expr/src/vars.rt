@@ -5,15 +5,26 @@ ghost use Rattle.pb_semantics.specs.Words.{field_value};
 ghost use Rattle.pb_language.specs.Words.{World};
 ghost use Rattle.pb_language.specs.World.{member_of, variables_of};
 ghost use Rattle.pb_value.specs.Words.{fields_view, view};
+ghost use Rattle.pb_expr.specs.Aliases.{Trees, no_trees, worth_of};
 ghost use Rattle.pb_expr.specs.OwnWorld.{own_world};
 
 use pb_value::{Fields, Value};
 
 /// The world that an expression is evaluated in: what the names of the host hold, and what the host
-/// knows of the other hosts, of the batch and of the groups.
+/// knows of the other hosts, of the batch and of the groups. With it go the names that are values
+/// of `vars`, each with what its tree is worth.
 pub trait Vars {
     /// The world that an expression is evaluated in.
     ghost world: { Self → World };
+
+    /// The whole tree of each name of `vars`.
+    ghost trees: { Self → Trees };
+
+    /// What the tree of a name of `vars` is worth, opaque where it has no value that may be read;
+    /// none where it is no such name. A name of `vars` hides a variable of that name.
+    fn alias(&self, name: &str) -> Option<&Value>
+        ensures { option_map (λ v. view v.now) result
+            ≡ worth_of (world self.now) (trees self.now name.now) };
 
     /// The value at a name of the host's own; none where nothing stands there.
     fn value(&self, name: &str) -> Option<&Value>
@@ -41,9 +52,16 @@ pub trait Vars {
             ≡ member_of group.now place (world self.now).groups };
 }
 
-/// The variables of a host alone: its name is the empty one, and it knows of no other host.
+/// The variables of a host alone: its name is the empty one, it knows of no other host, and there
+/// are no `vars`.
 impl Vars for Fields {
     ghost world = { λ m. own_world (fields_view m.entries) };
+
+    ghost trees = { λ _. no_trees };
+
+    fn alias(&self, _name: &str) -> Option<&Value> {
+        None
+    }
 
     fn value(&self, name: &str) -> Option<&Value> {
         self.get(name)

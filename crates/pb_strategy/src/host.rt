@@ -5,7 +5,7 @@ ghost use Rattle.indexmap.specs.IndexMap.{spare};
 ghost use Rattle.pb_semantics.specs.Words.{list};
 ghost use Rattle.pb_language.specs.Words.{goes_on, names_list, put_all};
 ghost use Rattle.pb_value.specs.Words.{fields_view, view};
-ghost use Rattle.pb_expr.specs.Words.{own_world};
+ghost use Rattle.pb_expr.specs.Words.{no_trees, own_world};
 ghost use Rattle.pb_strategy.specs.Endings.{came_of};
 ghost use Rattle.pb_strategy.specs.Jobs.{is_ticket, ticket_in};
 ghost use Rattle.pb_strategy.specs.OwnNames.{AreSame, names_fields, own_fields};
@@ -46,6 +46,12 @@ impl HostVars {
 
 impl Vars for HostVars {
     ghost world = { λ s. own_world (own_fields s) };
+
+    ghost trees = { λ _. no_trees };
+
+    fn alias(&self, _: &str) -> Option<&Value> {
+        None
+    }
 
     fn value(&self, name: &str) -> Option<&Value> {
         if name == "inventory_hostname" {

@@ -1,10 +1,11 @@
 // What expressions are worth that read other hosts, the batch and the groups: their trees are made
 // by hand.
 ghost use Rattle.pb_value.specs.Words.{fields_view};
+ghost use Rattle.pb_expr.specs.Words.{no_trees};
 ghost use Rattle.pb_tests.specs.TwoHosts.{two_hosts};
 
 use pb_expr::eval::eval;
-use pb_expr::{Expr, Member, Names, Path, Root, Status, Term, Vars};
+use pb_expr::{Expr, Member, Names, Path, Root, Status, Term, Vars, values_of};
 use pb_value::{Fields, Value, field_of, read_json};
 use std::alloc::Global;
 use std::test::Fail;
@@ -20,6 +21,12 @@ struct TwoHosts {
 impl Vars for TwoHosts {
     ghost world = { λ w. two_hosts (fields_view w.mine.entries) (fields_view w.first.entries)
         (fields_view w.second.entries) };
+
+    ghost trees = { λ _. no_trees };
+
+    fn alias(&self, _: &str) -> Option<&Value> {
+        None
+    }
 
     fn value(&self, name: &str) -> Option<&Value> {
         field_of(&self.mine, name)
@@ -80,7 +87,10 @@ fn world(alloc: Global, mine: &str) -> Result<TwoHosts, Fail> {
 
 // The expression has that value, and where the text is empty none.
 fn is_worth(alloc: Global, mine: &str, expr: &Expr, expected: &str) -> Result<(), Fail> {
-    let found = eval(alloc, expr, &world(alloc, mine)?)?;
+    is_found(alloc, eval(alloc, expr, &world(alloc, mine)?)?, expected)
+}
+
+fn is_found(alloc: Global, found: Value, expected: &str) -> Result<(), Fail> {
     if expected == "" {
         return match found {
             Value::Opaque => Ok(()),
@@ -240,4 +250,100 @@ fn chains_stop_early(rt: HostRuntime) -> Result<(), Fail> {
     is_worth(alloc, NONE, &Expr::And(chain(alloc, active)?), "")?;
     let known = Expr::InBatch(Term::This);
     is_worth(alloc, NONE, &Expr::Or(chain(alloc, known)?), "true")
+}
+
+// With these names of `vars`, the expression has that value.
+fn is_worth_over(
+    alloc: Global,
+    names: &[(String, Expr)],
+    expr: &Expr,
+    expected: &str,
+) -> Result<(), Fail> {
+    let world = world(alloc, r#"{"port": 79}"#)?;
+    let known = values_of(alloc, names, &world)?;
+    is_found(alloc, eval(alloc, expr, &known)?, expected)
+}
+
+// `name.step`, or without the step where it is empty.
+fn own(alloc: Global, name: &str, step: &str) -> Result<Path, Fail> {
+    let mut steps = Vec::new(alloc);
+    if step != "" {
+        steps.push(text(alloc, step)?)?;
+    }
+    let root = Root::Variable(text(alloc, name)?);
+    Ok(Path { root, steps })
+}
+
+// `name and name and ..`, seven times.
+fn seven_reads(alloc: Global, name: &str) -> Result<Expr, Fail> {
+    let mut reads = Vec::new(alloc);
+    for _ in 0..7 {
+        reads.push(Expr::Path(own(alloc, name, "")?))?;
+    }
+    Ok(Expr::And(reads))
+}
+
+const CHAIN: [&str; 12] = ["a", "b", "c", "d", "e", "f", "g", "h", "i", "j", "k", "l"];
+
+// Read along each way through the chain it would be read some ten thousand million times.
+#[test]
+fn each_name_is_worked_out_once(rt: HostRuntime) -> Result<(), Fail> {
+    let alloc = rt.alloc();
+    let mut names = Vec::new(alloc);
+    let mut before = "a";
+    names.push((text(alloc, before)?, Expr::Literal(Value::Bool(true))))?;
+    for name in &CHAIN[1..] {
+        names.push((text(alloc, name)?, seven_reads(alloc, before)?))?;
+        before = name;
+    }
+    is_worth_over(alloc, &names, &seven_reads(alloc, "h")?, "true")?;
+    is_worth_over(alloc, &names, &seven_reads(alloc, "l")?, "true")
+}
+
+// `port`, which hides the variable, with a field `web`, and `none`, which has no value.
+fn two_names(alloc: Global) -> Result<Vec<(String, Expr)>, Fail> {
+    let mut names = Vec::new(alloc);
+    let ports = Expr::Literal(read_json(alloc, br#"{"web": 8080}"#)?);
+    names.push((text(alloc, "port")?, ports))?;
+    let none = port(alloc, named(alloc, "gamma")?)?;
+    names.push((text(alloc, "none")?, none))?;
+    Ok(names)
+}
+
+// `path | default(5)`
+fn or_five(alloc: Global, path: Path) -> Result<Expr, Fail> {
+    let five = Box::new(alloc, Expr::Literal(Value::Int(5)))?;
+    Ok(Expr::PathOr(path, five))
+}
+
+#[test]
+fn names_with_a_value(rt: HostRuntime) -> Result<(), Fail> {
+    let alloc = rt.alloc();
+    let names = two_names(alloc)?;
+    let web = Expr::Path(own(alloc, "port", "web")?);
+    is_worth_over(alloc, &names, &web, "8080")?;
+    let defined = Expr::Defined(own(alloc, "port", "")?);
+    is_worth_over(alloc, &names, &defined, "true")?;
+    let missing = Expr::Defined(own(alloc, "port", "db")?);
+    is_worth_over(alloc, &names, &missing, "false")?;
+    let given = or_five(alloc, own(alloc, "port", "db")?)?;
+    is_worth_over(alloc, &names, &given, "5")?;
+    let others = port(alloc, named(alloc, "beta")?)?;
+    is_worth_over(alloc, &names, &others, "81")
+}
+
+#[test]
+fn names_without_a_value(rt: HostRuntime) -> Result<(), Fail> {
+    let alloc = rt.alloc();
+    let names = two_names(alloc)?;
+    let read = Expr::Path(own(alloc, "none", "")?);
+    is_worth_over(alloc, &names, &read, "")?;
+    let defined = Expr::Defined(own(alloc, "none", "")?);
+    is_worth_over(alloc, &names, &defined, "")?;
+    let given = or_five(alloc, own(alloc, "none", "")?)?;
+    is_worth_over(alloc, &names, &given, "")?;
+    let status = Expr::PathStatus(Status::Failed, own(alloc, "none", "")?);
+    is_worth_over(alloc, &names, &status, "")?;
+    let unknown = or_five(alloc, own(alloc, "gone", "")?)?;
+    is_worth_over(alloc, &names, &unknown, "5")
 }

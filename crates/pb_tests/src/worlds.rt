@@ -124,12 +124,18 @@ fn in_web(alloc: Global, place: usize) -> Result<Term, Fail> {
 
 // `hostvars[host].name.step`, or without the step where it is empty.
 fn path(alloc: Global, host: Term, name: &str, step: &str) -> Result<Path, Fail> {
+    let steps = step_alone(alloc, step)?;
+    let root = Root::Other(host, text(alloc, name)?);
+    Ok(Path { root, steps })
+}
+
+// The one step, or none where it is empty.
+fn step_alone(alloc: Global, step: &str) -> Result<Names, Fail> {
     let mut steps = Names::new(alloc);
     if step != "" {
         steps.push(text(alloc, step)?)?;
     }
-    let root = Root::Other(host, text(alloc, name)?);
-    Ok(Path { root, steps })
+    Ok(steps)
 }
 
 fn port(alloc: Global, host: Term) -> Result<Expr, Fail> {
@@ -266,10 +272,7 @@ fn is_worth_over(
 
 // `name.step`, or without the step where it is empty.
 fn own(alloc: Global, name: &str, step: &str) -> Result<Path, Fail> {
-    let mut steps = Vec::new(alloc);
-    if step != "" {
-        steps.push(text(alloc, step)?)?;
-    }
+    let steps = step_alone(alloc, step)?;
     let root = Root::Variable(text(alloc, name)?);
     Ok(Path { root, steps })
 }

@@ -29,8 +29,8 @@ use std::collections::BTreeMap;
 /// tree is worth.
 #[cycle(eval)]
 pub fn eval<V: Vars>(alloc: Global, expr: &Expr, vars: &V) -> Result<Value, AllocError>
-    ensures { IfOk result (λ v. view v
-        ≡ shown (outcome_of (V.world vars.now) (expanded (V.trees vars.now) (expr_view expr.now)))) }
+    ensures { IfOk result (λ v. view v ≡ shown (outcome_of (V.world vars.now)
+        (expanded (V.trees vars.now) (expr_view expr.now)))) }
 {
     match expr {
         Expr::Literal(known) => known.clone(),

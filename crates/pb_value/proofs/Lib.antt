@@ -7,4 +7,5 @@ pub mod Projections
 pub mod KindLemmas
 pub mod JoinLemmas
 pub mod GrowLemmas
+pub mod Adding
 mod Texts

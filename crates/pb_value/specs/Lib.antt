@@ -3,6 +3,7 @@ pub mod KindView
 pub mod Growing
 pub mod FromJson
 pub mod Found
+pub mod Added
 pub mod Append
 pub mod Words
 pub mod Weights

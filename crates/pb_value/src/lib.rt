@@ -8,6 +8,7 @@
 //     let text = render(&Value::Int(7))?; // 7
 #![tactic(auto)]
 
+mod adds;
 pub mod below;
 pub mod grow;
 pub mod join;

@@ -1,0 +1,22 @@
+-- What is known of a name where a kind is joined to another.
+use Rattle.std.specs.Prelude.{ℕ, List, Bool, true, false, Option, None, Some, String, string_bytes}
+use Rattle.std.specs.Prelude.{cond}
+use Rattle.std.specs.Str.{bytes_eq}
+use Rattle.std.specs.declared.alloc.Global.{Global}
+use denote.Ref.{Bor}
+use Rattle.pb_semantics.specs.Kind.{Spot, nowhere, spot}
+use Rattle.pb_semantics.specs.Join.{join_spot}
+use Rattle.pb_value.specs.KindView.{kind_view, is_always}
+use Rattle.pb_value.specs.declared.kind.Slot.{Slot}
+use Rattle.pb_value.specs.declared.kind.Kind.{Kind}
+
+-- what both know, of which the first leads or else comes second
+abbrev pub met_spot : Bool → Spot → Spot → Spot
+met_spot true s t = join_spot s t
+met_spot false s t = join_spot t s
+
+-- what an entry says of a name
+abbrev pub spot_of : List ℕ → Option (Bor (String Global) × Bor (Slot Kind)) → Spot
+spot_of n None = nowhere
+spot_of n (Some e) =
+    cond (bytes_eq n (string_bytes e.0.now)) (spot (is_always e.1.now.presence) (kind_view e.1.now.kind)) nowhere

@@ -7,9 +7,10 @@ ghost use Rattle.pb_semantics.specs.Words.{slot_at};
 ghost use Rattle.pb_value.specs.KindView.{is_always as is_certain, kind_view, slots_view};
 ghost use Rattle.pb_value.specs.Growing.{growing_view, joined_onto, kinds_view};
 
+use crate::adds::adds_nothing;
 use crate::below::{find, has_name};
 use crate::join::{join, larger};
-use crate::kind::{Kind, Presence, Slot, Slots, put_slot};
+use crate::kind::{Kind, Presence, Slot, Slots, put_slot, weight};
 use std::alloc::{AllocError, Global};
 use std::boxed::Box;
 use std::collections::{BTreeMap, BTreeSet};
@@ -57,6 +58,9 @@ pub fn grow(alloc: Global, kind: &Kind, leads: bool, joined: Growing) -> Result<
     ensures { IfOk result (λ g. growing_view g
         ≡ met leads (kind_view kind.now) (growing_view joined)) }
 {
+    if is_unchanged(kind, leads, &joined) {
+        return Ok(joined);
+    }
     let joined = open(alloc, joined)?;
     match (kind, joined) {
         (Kind::List(item, most), Growing::List(other, count)) => {
@@ -70,6 +74,19 @@ pub fn grow(alloc: Global, kind: &Kind, leads: bool, joined: Growing) -> Result<
             grow_known(alloc, record, kind, leads, kinds, certain)
         }
         (_, joined) => whole_join(alloc, kind, leads, &joined),
+    }
+}
+
+// Whether the kind adds nothing to a whole one, of which this is asked where it is of no other size.
+fn is_unchanged(kind: &Kind, leads: bool, joined: &Growing) -> bool
+    ensures { result ≡ true → met leads (kind_view kind.now) (growing_view joined.now)
+        ≡ growing_view joined.now }
+{
+    match joined {
+        Growing::Whole(whole, _) => {
+            !weight(kind).is_light_beside(weight(whole)) && adds_nothing(whole, kind, leads)
+        }
+        _ => false,
     }
 }
 

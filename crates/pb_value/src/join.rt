@@ -1,19 +1,26 @@
 // The least kind above two others.
-ghost use Rattle.std.specs.Prelude.{[], ◌&&◌, ◌∷◌, ◌≡◌, IfOk, OnOk, false, map, max, string_bytes};
+ghost use Rattle.std.specs.Prelude.{[], ◌&&◌, ◌∷◌, ◌≡◌, IfOk, OnOk, false, map, max, nat_le};
+ghost use Rattle.std.specs.Prelude.{string_bytes};
 ghost use Rattle.pb_semantics.specs.Words.{add_cases as both_cases, add_names, append_cases, hosts};
 ghost use Rattle.pb_semantics.specs.Words.{join as join_of, join_slots as both_slots, joined};
 ghost use Rattle.pb_semantics.specs.Words.{kind_with, new_cases, presence_with, put_slot};
 ghost use Rattle.pb_semantics.specs.Words.{record_with, recs, results, with_others};
 ghost use Rattle.pb_value.specs.KindView.{cases_view, is_always as is_certain, kind_view};
 ghost use Rattle.pb_value.specs.KindView.{slots_view};
+ghost use Rattle.pb_value.specs.KindWeight.{kind_weight};
 ghost use Rattle.pb_value.specs.Found.{spot_view};
 
+use crate::adds::adds_nothing;
 use crate::below::{find, has_field, is_covered};
-use crate::kind::{Case, Kind, Presence, Slot, Slots, put_slot};
+use crate::kind::{Case, Kind, Presence, Slot, Slots, put_slot, weight};
 use crate::weight::Weighed;
 use std::alloc::{AllocError, Global};
 use std::collections::{BTreeMap, BTreeSet};
 use std::sync::Arc;
+
+// How many lists and records nest at most in a kind of which is asked whether another adds to it:
+// each part is gone over once for each level that it stands in.
+const MOST_ASKED: u32 = 24;
 
 /// The least kind above both. It shares the fields and cases that only one of them has, and where
 /// one of them is `Never`, it is a copy of the other that shares all.
@@ -37,7 +44,7 @@ pub fn join(alloc: Global, first: &Kind, second: &Kind) -> Result<Kind, AllocErr
         (Kind::Host(_), Kind::Text) => Ok(Kind::Text),
         (Kind::Host(few), Kind::Host(more)) => join_hosts(alloc, few, more),
         (Kind::List(item, most), Kind::List(other, count)) => {
-            let item = join(alloc, item, other)?;
+            let item = join_part(alloc, item, other)?;
             Kind::of_item(alloc, item, larger(*most, *count))
         }
         (Kind::Rec(slots), Kind::Rec(others)) => join_records(alloc, slots, others),
@@ -49,6 +56,30 @@ pub fn join(alloc: Global, first: &Kind, second: &Kind) -> Result<Kind, AllocErr
         }
         _ => Ok(Kind::Any),
     }
+}
+
+// The join of parts of two kinds, which is one of the two where the other adds nothing to it.
+#[cycle(join)]
+fn join_part(alloc: Global, first: &Kind, second: &Kind) -> Result<Kind, AllocError>
+    ensures { IfOk result (λ k. kind_view k
+        ≡ join_of (kind_view first.now) (kind_view second.now)) }
+{
+    if !is_asked(first) {
+        join(alloc, first, second)
+    } else if adds_nothing(first, second, false) {
+        first.clone()
+    } else if adds_nothing(second, first, true) {
+        second.clone()
+    } else {
+        join(alloc, first, second)
+    }
+}
+
+// Deep kinds aren't asked as a whole, and their parts would be again.
+fn is_asked(kind: &Kind) -> bool
+    ensures { result ≡ nat_le (kind_weight kind.now).levels 24 }
+{
+    weight(kind).is_within(MOST_ASKED)
 }
 
 pub(crate) fn larger(first: usize, second: usize) -> usize
@@ -194,7 +225,7 @@ fn put_met(
     match found {
         None => put_uncertain(slots, name, kind),
         Some(other) => {
-            let kind = join(alloc, kind, &other.kind)?;
+            let kind = join_part(alloc, kind, &other.kind)?;
             let presence = both(presence, other.presence);
             put_slot(slots, name.clone()?, Slot { presence, kind })
         }

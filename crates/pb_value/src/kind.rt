@@ -195,7 +195,7 @@ impl Clone for Kind {
 }
 
 // What is read off it: nothing below it is looked at.
-fn weight(kind: &Kind) -> Weight
+pub(crate) fn weight(kind: &Kind) -> Weight
     ensures { result ≡ kind_weight kind.now }
 {
     match kind {

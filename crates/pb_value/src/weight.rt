@@ -1,5 +1,5 @@
 // How large and how deep a value or a kind is; what it shares counts as often as it stands there.
-ghost use Rattle.std.specs.Prelude.{◌<◌, ◌^◌, ◌≡◌, ◌≤◌, IfOk};
+ghost use Rattle.std.specs.Prelude.{◌/◌, ◌<◌, ◌^◌, ◌≡◌, ◌≤◌, IfOk, nat_le, nat_lt};
 ghost use Rattle.pb_semantics.specs.Words.{most_weight_levels};
 ghost use Rattle.pb_value.specs.Weights.{IsWithin, above, both, leaf, names_weight, nothing};
 ghost use Rattle.pb_value.specs.Weights.{text_weight};
@@ -55,6 +55,20 @@ impl Weight {
             leaves: 1 + names as u64,
             levels: 0,
         }
+    }
+
+    // Whether its leaves are fewer than an eighth of the other's.
+    pub(crate) fn is_light_beside(self, other: Weight) -> bool
+        ensures { result ≡ nat_lt self.leaves (other.leaves / 8) }
+    {
+        self.leaves < other.leaves / 8
+    }
+
+    // Whether at most so many lists and records nest.
+    pub(crate) fn is_within(self, levels: u32) -> bool
+        ensures { result ≡ nat_le self.levels levels }
+    {
+        self.levels <= levels
     }
 
     // The weight of both, unless it is past the most.

@@ -1,13 +1,22 @@
 -- A kind that adds nothing to another.
-use Rattle.std.proofs.Common.{◌≡◌, ℕ, Bor, List, [], ◌∷◌, Bool, true, false, Option, Some, None, is_some, cond, ◌&&◌, String, Global, string_bytes, bytes_eq, refl, sym, ap, ◌∙◌}
+use Rattle.std.proofs.Common.{◌≡◌, ℕ, Bor, List, [], ◌∷◌, Bool, true, false, Option, Some, None, is_some, cond, ◌&&◌, map, String, Global, string_bytes, string_cmp, nat_cmp, bytes_eq, Ordering, Less, Equal, Greater, refl, sym, ap, ap₂, ◌∙◌}
+use Rattle.std.specs.Ordering.{match_ordering, is_eq}
+use Rattle.std.specs.Cmp.Lexicographic.{slice_cmp, pointwise}
+use Rattle.std.specs.List.{AllByRecursion}
+use Rattle.std.specs.List.Sorted.{IsStrictlySortedBy}
+use Rattle.std.proofs.lemmas.Cmp.{nat_list_cmp_total}
+use Rattle.std.proofs.lemmas.Map.Text.{is_eq-slice_cmp}
 use Rattle.std.specs.Option.{MatchOption}
-use Rattle.pb_semantics.specs.Kind.{KindData, Slots, Cases, Shape, Spot, no_slots, slot, no_cases, one, results, nowhere, spot, slot_at, is_there}
-use Rattle.pb_semantics.specs.Join.{join, join_spot, new_cases, add_cases}
-use Rattle.pb_semantics.specs.Below.{all_cases, is_covered}
+use Rattle.pb_semantics.specs.Kind.{KindData, Slots, Cases, Shape, Spot, no_slots, slot, no_cases, one, hosts, results, nowhere, spot, slot_at, put_slot, is_there}
+use Rattle.pb_semantics.specs.Join.{join, join_spot, new_cases, put_name, add_names}
+use Rattle.pb_semantics.specs.Keeps.{is_among}
+use Rattle.pb_semantics.specs.Below.{all_cases, is_covered, are_among}
 use Rattle.pb_semantics.specs.Grown.{met, met_slots}
-use Rattle.pb_semantics.proofs.Bools.{untrue}
+use Rattle.pb_semantics.proofs.Bools.{untrue, and-left, and-right}
 use Rattle.pb_semantics.proofs.Names.{same_name}
-use Rattle.pb_semantics.proofs.Ascents.{Before, Ascend, before_unlisted, same_slots, ascend_met, at_met}
+use Rattle.pb_semantics.proofs.PutSlots.{at_put}
+use Rattle.pb_semantics.proofs.Hosts.{own_among}
+use Rattle.pb_semantics.proofs.Ascents.{Before, Ascend, before_unlisted, same_slots, ascend_met, ascend_put, at_met}
 use Rattle.pb_value.specs.KindView.{kind_view, slots_view, is_always}
 use Rattle.pb_value.specs.Found.{spot_view}
 use Rattle.pb_value.specs.Added.{met_spot, spot_of}
@@ -95,3 +104,67 @@ none_new cs (one m sh fl k ds) h = none_step (is_covered m sh fl k cs) m sh fl k
 
 pub same_results : (cs ds : Cases) (q r : KindData) → all_cases (λ m sh fl k. is_covered m sh fl k cs) ds ≡ true → join r q ≡ r → join (results cs r) (results ds q) ≡ results cs r
 same_results cs ds q r h e = rw (none_new cs ds h, append_none cs, e) refl
+
+put_step : (q : Bool) (a : Bool) (k : KindData) (s : Spot) → (q ≡ true → s ≡ spot a k) → cond q (spot a k) s ≡ s
+put_step true a k s f = sym (f refl)
+put_step false a k s f = refl
+
+-- what stands there is put there
+pub put_there : (n : List ℕ) (a : Bool) (k : KindData) (us : Slots) → Ascend us → slot_at n us ≡ spot a k → put_slot n a k us ≡ us
+put_there n a k us h e = same_slots (put_slot n a k us) us (ascend_put n a k us h) h
+    (λ p. at_put p n a k us ∙ put_step (bytes_eq p n) a k (slot_at p us) (λ w. ap (λ x. slot_at x us) (same_name p n w) ∙ e))
+
+-- names in the order of their bytes
+abbrev Below : List ℕ → List (List ℕ) → Type 0
+Below n [] = Unit {0}
+Below n (m ∷ ms) = (slice_cmp nat_cmp n m ≡ Less) × Below n ms
+
+abbrev Rising : List (List ℕ) → Type 0
+Rising [] = Unit {0}
+Rising (n ∷ ns) = Below n ns × Rising ns
+
+below_names : (n : String Global) (ns : List (String Global)) → AllByRecursion (λ y. string_cmp n y ≡ Less) ns → Below (string_bytes n) (map (λ m. string_bytes m) ns)
+below_names n [] h = tt
+below_names n (m ∷ ns) h = (h.0, below_names n ns h.1)
+
+rising_names : (ns : List (String Global)) → IsStrictlySortedBy string_cmp ns → Rising (map (λ m. string_bytes m) ns)
+unfolding IsStrictlySortedBy
+rising_names [] h = tt
+rising_names (n ∷ ns) h = (below_names n ns h.0, rising_names ns h.1)
+
+not_among : (n m : List ℕ) (ms : List (List ℕ)) → slice_cmp nat_cmp n m ≡ Less → Below m ms → is_among n ms ≡ false
+not_among n m [] h b = refl
+not_among n m (p ∷ ms) h b =
+    let less : slice_cmp nat_cmp n p ≡ Less = nat_list_cmp_total.trans n m p h b.0 in
+    rw (sym (is_eq-slice_cmp n p) ∙ ap is_eq less, not_among n m ms h b.1) refl
+
+put_name_step : (o : Ordering) (n m : List ℕ) (ms us : List (List ℕ)) → slice_cmp nat_cmp n m ≡ o → Below m ms → is_among n (m ∷ ms) ≡ true → (is_among n ms ≡ true → us ≡ ms)
+    → match_ordering o (n ∷ m ∷ ms) (m ∷ ms) (m ∷ us) ≡ m ∷ ms
+put_name_step Less n m ms us e b h f = untrue (rw (sym (is_eq-slice_cmp n m) ∙ ap is_eq e, not_among n m ms e b) at h)
+put_name_step Equal n m ms us e b h f = refl
+put_name_step Greater n m ms us e b h f = ap (λ x. m ∷ x) (f (rw (sym (is_eq-slice_cmp n m) ∙ ap is_eq e) at h))
+
+put_among : (n : List ℕ) (ms : List (List ℕ)) → Rising ms → is_among n ms ≡ true → put_name n ms ≡ ms
+put_among n [] r h = untrue h
+put_among n (m ∷ ms) r h = put_name_step (slice_cmp nat_cmp n m) n m ms (put_name n ms) refl r.0 h (put_among n ms r.1)
+
+add_among : (ns ms : List (List ℕ)) → Rising ms → are_among ns ms ≡ true → add_names ns ms ≡ ms
+add_among [] ms r h = refl
+add_among (n ∷ ns) ms r h =
+    ap (add_names ns) (put_among n ms r (and-left (is_among n ms) (are_among ns ms) h)) ∙ add_among ns ms r (and-right (is_among n ms) (are_among ns ms) h)
+
+same_keys : (ns ms : List (String Global)) → pointwise (λ n m. bytes_eq (string_bytes n) (string_bytes m)) ns ms ≡ true → map (λ n. string_bytes n) ms ≡ map (λ n. string_bytes n) ns
+same_keys [] [] h = refl
+same_keys [] (m ∷ ms) h = untrue h
+same_keys (n ∷ ns) [] h = untrue h
+same_keys (n ∷ ns) (m ∷ ms) h =
+    let q = bytes_eq (string_bytes n) (string_bytes m) in
+    let r = pointwise (λ n m. bytes_eq (string_bytes n) (string_bytes m)) ns ms in
+    ap₂ (λ x xs. x ∷ xs) (sym (same_name (string_bytes n) (string_bytes m) (and-left q r h))) (same_keys ns ms (and-right q r h))
+
+pub same_hosts : (b : Bool) (ns ms : List (String Global)) → IsStrictlySortedBy string_cmp ns → pointwise (λ n m. bytes_eq (string_bytes n) (string_bytes m)) ns ms ≡ true
+    → met b (hosts (map (λ n. string_bytes n) ms)) (hosts (map (λ n. string_bytes n) ns)) ≡ hosts (map (λ n. string_bytes n) ns)
+same_hosts b ns ms h e = rw (same_keys ns ms e) (own b) where
+  own : (b : Bool) → met b (hosts (map (λ n. string_bytes n) ns)) (hosts (map (λ n. string_bytes n) ns)) ≡ hosts (map (λ n. string_bytes n) ns)
+  own true = ap hosts (add_among (map (λ n. string_bytes n) ns) (map (λ n. string_bytes n) ns) (rising_names ns h) (own_among (map (λ n. string_bytes n) ns)))
+  own false = ap hosts (add_among (map (λ n. string_bytes n) ns) (map (λ n. string_bytes n) ns) (rising_names ns h) (own_among (map (λ n. string_bytes n) ns)))

@@ -1,6 +1,6 @@
 // Whether a kind adds nothing to another that it is joined to.
-ghost use Rattle.std.specs.Prelude.{◌≡◌, true};
-ghost use Rattle.pb_semantics.specs.Words.{Cases, met, met_slots, recs, results, spot};
+ghost use Rattle.std.specs.Prelude.{◌≡◌, map, string_bytes, true};
+ghost use Rattle.pb_semantics.specs.Words.{Cases, hosts, met, met_slots, recs, results, spot};
 ghost use Rattle.pb_value.specs.KindView.{cases_view, is_always as is_certain, kind_view, slots_view};
 ghost use Rattle.pb_semantics.specs.Kind.{KindData};
 ghost use Rattle.pb_value.specs.Added.{met_spot, spot_of};
@@ -8,6 +8,7 @@ ghost use Rattle.pb_value.specs.Found.{spot_view};
 
 use crate::below::covers_all;
 use crate::kind::{Case, Kind, Presence, Slot, Slots};
+use std::collections::BTreeSet;
 
 /// Where it holds, the least kind above both is the one that is joined to. It makes nothing, and
 /// goes over both at once; where it doesn't hold, that kind may still be the least.
@@ -24,6 +25,7 @@ pub(crate) fn adds_nothing(joined: &Kind, kind: &Kind, leads: bool) -> bool
         (Kind::Int, Kind::Int) => true,
         (Kind::Text, Kind::Text) => true,
         (Kind::Text, Kind::Host(_)) => true,
+        (Kind::Host(names), Kind::Host(others)) => adds_no_hosts(names, others, leads),
         (Kind::List(item, most), Kind::List(other, count)) => {
             *count <= *most && adds_nothing(item, other, leads)
         }
@@ -34,6 +36,17 @@ pub(crate) fn adds_nothing(joined: &Kind, kind: &Kind, leads: bool) -> bool
         }
         _ => false,
     }
+}
+
+// The same of names of hosts, where both have the same ones.
+fn adds_no_hosts(joined: &BTreeSet<String>, names: &BTreeSet<String>, leads: bool) -> bool
+    ensures { result ≡ true → met leads (hosts (map (λ n. string_bytes n) names.now.keys))
+        (hosts (map (λ n. string_bytes n) joined.now.keys))
+        ≡ hosts (map (λ n. string_bytes n) joined.now.keys) }
+{
+    // What a set says of its order.
+    let _ = joined.len();
+    joined == names
 }
 
 // The same of cases, beside what is known of all of them.

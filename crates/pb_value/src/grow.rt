@@ -292,12 +292,30 @@ fn put_grown(
         (slot_at (string_bytes name.now) (kinds_view kinds.old.entries)))
         (kinds_view kinds.old.entries)) }
 {
+    if has_above(kinds, name, kind, leads) {
+        return Ok(());
+    }
     match kinds.insert(name.clone()?, Growing::Whole(kind.clone()?, 0))? {
         Some(other) => {
             let grown = grow(alloc, kind, leads, other)?;
             put(kinds, name, grown)
         }
         None => Ok(()),
+    }
+}
+
+// Whether a field's kind adds nothing to the one that stands there.
+fn has_above(kinds: &Kinds, name: &String, kind: &Kind, leads: bool) -> bool
+    ensures { result ≡ true → with_slot (string_bytes name.now) true
+        (kind_with (kind_view kind.now) (λ m. met leads (kind_view kind.now) m)
+        (slot_at (string_bytes name.now) (kinds_view kinds.now.entries)))
+        (kinds_view kinds.now.entries) ≡ kinds_view kinds.now.entries }
+{
+    // What a map says of its order.
+    let _ = kinds.len();
+    match kinds.get(name.as_str()) {
+        Some(there) => is_unchanged(kind, leads, there),
+        None => false,
     }
 }
 

@@ -1,12 +1,13 @@
--- What is known of a name where a kind is joined to another.
-use Rattle.std.specs.Prelude.{ℕ, List, Bool, true, false, Option, None, Some, String, string_bytes}
-use Rattle.std.specs.Prelude.{cond}
+-- What is known of a name, or of results, where a kind is joined to another.
+use Rattle.std.specs.Prelude.{◌≡◌, ℕ, List, Bool, true, false, Option, None, Some, String, cond}
+use Rattle.std.specs.Prelude.{string_bytes}
 use Rattle.std.specs.Str.{bytes_eq}
 use Rattle.std.specs.declared.alloc.Global.{Global}
 use denote.Ref.{Bor}
-use Rattle.pb_semantics.specs.Kind.{Spot, nowhere, spot}
+use Rattle.pb_semantics.specs.Kind.{Cases, KindData, Spot, nowhere, results, spot}
 use Rattle.pb_semantics.specs.Join.{join_spot}
-use Rattle.pb_value.specs.KindView.{kind_view, is_always}
+use Rattle.pb_semantics.specs.Grown.{met}
+use Rattle.pb_value.specs.Found.{spot_view}
 use Rattle.pb_value.specs.declared.kind.Slot.{Slot}
 use Rattle.pb_value.specs.declared.kind.Kind.{Kind}
 
@@ -18,5 +19,9 @@ met_spot false s t = join_spot t s
 -- what an entry says of a name
 abbrev pub spot_of : List ℕ → Option (Bor (String Global) × Bor (Slot Kind)) → Spot
 spot_of n None = nowhere
-spot_of n (Some e) =
-    cond (bytes_eq n (string_bytes e.0.now)) (spot (is_always e.1.now.presence) (kind_view e.1.now.kind)) nowhere
+spot_of n (Some e) = cond (bytes_eq n (string_bytes e.0.now)) (spot_view (Some e.1)) nowhere
+
+-- a result of the second cases adds nothing to one of the first where its record adds nothing
+abbrev pub NoneNew : Bool → Cases → Cases → Type 0
+NoneNew b cs ds =
+    (q r : KindData) → met b q r ≡ r → met b (results ds q) (results cs r) ≡ results cs r

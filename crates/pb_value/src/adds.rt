@@ -1,9 +1,9 @@
 // Whether a kind adds nothing to another that it is joined to.
 ghost use Rattle.std.specs.Prelude.{◌≡◌, map, string_bytes, true};
 ghost use Rattle.pb_semantics.specs.Words.{Cases, hosts, met, met_slots, recs, results, spot};
-ghost use Rattle.pb_value.specs.KindView.{cases_view, is_always as is_certain, kind_view, slots_view};
-ghost use Rattle.pb_semantics.specs.Kind.{KindData};
-ghost use Rattle.pb_value.specs.Added.{met_spot, spot_of};
+ghost use Rattle.pb_value.specs.KindView.{cases_view, is_always as is_certain, kind_view};
+ghost use Rattle.pb_value.specs.KindView.{slots_view};
+ghost use Rattle.pb_value.specs.Added.{NoneNew, met_spot, spot_of};
 ghost use Rattle.pb_value.specs.Found.{spot_view};
 
 use crate::below::covers_all;
@@ -51,9 +51,7 @@ fn adds_no_hosts(joined: &BTreeSet<String>, names: &BTreeSet<String>, leads: boo
 
 // The same of cases, beside what is known of all of them.
 fn adds_no_cases(joined: &[Case<Kind>], cases: &[Case<Kind>], leads: bool) -> bool
-    ensures { result ≡ true → (q r : KindData) → met leads q r ≡ r
-        → met leads (results (cases_view cases.now) q) (results (cases_view joined.now) r)
-        ≡ results (cases_view joined.now) r }
+    ensures { result ≡ true → NoneNew leads (cases_view joined.now) (cases_view cases.now) }
 {
     !leads && covers_all(joined, cases)
 }

@@ -77,7 +77,8 @@ pub fn grow(alloc: Global, kind: &Kind, leads: bool, joined: Growing) -> Result<
     }
 }
 
-// Whether the kind adds nothing to a whole one, of which this is asked where it is of no other size.
+// Whether the kind adds nothing to a whole one. That isn't asked of one that is much lighter, since
+// asking goes over the whole one, and opening it doesn't, each time.
 fn is_unchanged(kind: &Kind, leads: bool, joined: &Growing) -> bool
     ensures { result ≡ true → met leads (kind_view kind.now) (growing_view joined.now)
         ≡ growing_view joined.now }

@@ -330,7 +330,6 @@ def grown_values():
 # What a book may cost: processor time and memory, and how they grow with it.
 
 MOST_SECONDS = 2
-MOST_SECONDS_SHARED = 16  # where a kind is joined as often as it stands in what shares it
 MOST_MEGABYTES = 2_048
 MOST_GROWTH = 2.5  # where a book is twice as large
 GLIMPSE = 0.05  # a time that says nothing of its growth
@@ -398,29 +397,23 @@ def hostile_books():
         "lists-compare": doubled(40, as_list) + [shown("{{ a40 == a40 }}")],
         "list-of-records": listed_records(4_000),
         "fields-line-by-line": fields_by_line(2_000),
-    }
-    shared = {
+        "lines-of-a-variable": lines_of_a_variable(400),
         "one-record-twice": twenty + [shown(["{{ a20 }}"] * 2)],
         "one-record-set-twice": twenty + [{"set_fact": {"z": "{{ a20 }}"}}, {"set_fact": {"z": "{{ a20 }}"}, **maybe}],
     }
     return [
-        Cost(f"hostile-{name}-{words[0]}", words, within(seconds), {**FILES, "book": book_of(tasks)})
-        for rows, seconds in [(books, MOST_SECONDS), (shared, MOST_SECONDS_SHARED)]
-        for name, tasks in rows.items()
+        Cost(f"hostile-{name}-{words[0]}", words, within_bars, {**FILES, "book": book_of(tasks)})
+        for name, tasks in books.items()
         for words in [CHECK, RUN]
     ]
 
 
-def within(seconds):
-    """Wants an answer within that processor time."""
-
-    def judge(outcome):
-        is_answer = outcome.status in (0, 1, 3)
-        if is_answer and outcome.seconds <= seconds and outcome.megabytes <= MOST_MEGABYTES:
-            return ""
-        return f"an answer in {seconds} s and {MOST_MEGABYTES} MB"
-
-    return judge
+def within_bars(outcome):
+    """Wants an answer within the processor time and the memory."""
+    is_answer = outcome.status in (0, 1, 3)
+    if is_answer and outcome.seconds <= MOST_SECONDS and outcome.megabytes <= MOST_MEGABYTES:
+        return ""
+    return f"an answer in {MOST_SECONDS} s and {MOST_MEGABYTES} MB"
 
 
 def growths():
@@ -428,6 +421,7 @@ def growths():
         ("list-of-records", listed_records, 4_000),
         ("fields-line-by-line", fields_by_line, 2_000),
         ("lines-of-many-fields", lines_of_many_fields, 200),
+        ("lines-of-a-variable", lines_of_a_variable, 200),
     ]
     return [
         Growth(
@@ -474,6 +468,13 @@ def lines_of_many_fields(lines):
     many = {f"f{n}": 1 for n in range(20_000)}
     added = {"set_fact": {"x": {"g": 1}}, "when": "inventory_hostname == 'h1'"}
     return [{"set_fact": {"x": many}}] + [added] * lines
+
+
+def lines_of_a_variable(lines):
+    """A variable that so many lines may set to a record of 20,000 fields, which is another variable's."""
+    many = {f"f{n}": 1 for n in range(20_000)}
+    added = {"set_fact": {"x": "{{ y }}"}, "when": "inventory_hostname == 'h1'"}
+    return [{"set_fact": {"y": many}}, {"set_fact": {"x": {}}}] + [added] * lines
 
 
 def book_of(tasks):

@@ -153,7 +153,7 @@ add_among [] ms r h = refl
 add_among (n ∷ ns) ms r h =
     ap (add_names ns) (put_among n ms r (and-left (is_among n ms) (are_among ns ms) h)) ∙ add_among ns ms r (and-right (is_among n ms) (are_among ns ms) h)
 
-same_keys : (ns ms : List (String Global)) → pointwise (λ n m. bytes_eq (string_bytes n) (string_bytes m)) ns ms ≡ true → map (λ n. string_bytes n) ms ≡ map (λ n. string_bytes n) ns
+pub same_keys : (ns ms : List (String Global)) → pointwise (λ n m. bytes_eq (string_bytes n) (string_bytes m)) ns ms ≡ true → map (λ n. string_bytes n) ms ≡ map (λ n. string_bytes n) ns
 same_keys [] [] h = refl
 same_keys [] (m ∷ ms) h = untrue h
 same_keys (n ∷ ns) [] h = untrue h

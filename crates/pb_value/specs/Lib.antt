@@ -4,6 +4,7 @@ pub mod Growing
 pub mod FromJson
 pub mod Found
 pub mod Added
+pub mod Joins
 pub mod Append
 pub mod Words
 pub mod Weights

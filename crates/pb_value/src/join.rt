@@ -1,6 +1,6 @@
 // The least kind above two others.
-ghost use Rattle.std.specs.Prelude.{[], ◌&&◌, ◌∷◌, ◌≡◌, IfOk, OnOk, false, map, max, nat_le};
-ghost use Rattle.std.specs.Prelude.{string_bytes};
+ghost use Rattle.std.specs.Prelude.{[], ◌&&◌, ◌∷◌, ◌≡◌, IfOk, IfSome, OnOk, Some, false, map};
+ghost use Rattle.std.specs.Prelude.{max, nat_le, string_bytes};
 ghost use Rattle.pb_semantics.specs.Words.{add_cases as both_cases, add_names, append_cases, hosts};
 ghost use Rattle.pb_semantics.specs.Words.{join as join_of, join_slots as both_slots, joined};
 ghost use Rattle.pb_semantics.specs.Words.{kind_with, new_cases, presence_with, put_slot};
@@ -9,10 +9,12 @@ ghost use Rattle.pb_value.specs.KindView.{cases_view, is_always as is_certain, k
 ghost use Rattle.pb_value.specs.KindView.{slots_view};
 ghost use Rattle.pb_value.specs.KindWeight.{kind_weight};
 ghost use Rattle.pb_value.specs.Found.{spot_view};
+ghost use Rattle.pb_value.specs.Joins.{IsMet};
 
 use crate::adds::adds_nothing;
 use crate::below::{find, has_field, is_covered};
 use crate::kind::{Case, Kind, Presence, Slot, Slots, put_slot, weight};
+use crate::same::is_same;
 use crate::weight::Weighed;
 use std::alloc::{AllocError, Global};
 use std::collections::{BTreeMap, BTreeSet};
@@ -21,6 +23,14 @@ use std::sync::Arc;
 // How many lists and records nest at most in a kind of which is asked whether another adds to it:
 // each part is gone over once for each level that it stands in.
 const MOST_ASKED: u32 = 24;
+
+// Two kinds that were joined, and what came of it.
+#[derive(Drop)]
+pub(crate) struct Met {
+    first: Kind,
+    second: Kind,
+    joined: Kind,
+}
 
 /// The least kind above both. It shares the fields and cases that only one of them has, and where
 /// one of them is `Never`, it is a copy of the other that shares all.
@@ -199,9 +209,18 @@ fn meet_slots(alloc: Global, first: &Slots, second: &Slots) -> Result<Slots, All
         ≡ joined (slots_view first.now.entries) (slots_view second.now.entries)) }
 {
     let mut all = BTreeMap::new(alloc);
+    let mut last = None;
     for (name, slot) in first.iter() {
         let found = find(second, name.as_str());
-        put_met(alloc, &slot.kind, slot.presence, found, &mut all, name)?;
+        put_met(
+            alloc,
+            &slot.kind,
+            slot.presence,
+            found,
+            &mut all,
+            name,
+            &mut last,
+        )?;
     }
     Ok(all)
 }
@@ -215,21 +234,74 @@ fn put_met(
     found: Option<&Slot<Kind>>,
     slots: &mut Slots,
     name: &String,
+    last: &mut Option<Met>,
 ) -> Result<(), AllocError>
-    ensures { OnOk result (slots_view slots.new.entries ≡ put_slot (string_bytes name.now)
+    ensures slots { IsMet last.old → OnOk result (slots_view slots.new.entries
+        ≡ put_slot (string_bytes name.now)
         (presence_with (is_certain presence) (spot_view found.entry))
         (kind_with (kind_view kind.now) (λ m. join_of (kind_view kind.now) m)
         (spot_view found.entry))
         (slots_view slots.old.entries)) }
+    ensures last { IsMet last.old → OnOk result (IsMet last.new) }
 {
     match found {
         None => put_uncertain(slots, name, kind),
         Some(other) => {
-            let kind = join_part(alloc, kind, &other.kind)?;
+            let kind = join_after(alloc, kind, &other.kind, last)?;
             let presence = both(presence, other.presence);
             put_slot(slots, name.clone()?, Slot { presence, kind })
         }
     }
+}
+
+// The join of two kinds, which is the last one where both are the same as there.
+#[cycle(join)]
+fn join_after(
+    alloc: Global,
+    first: &Kind,
+    second: &Kind,
+    last: &mut Option<Met>,
+) -> Result<Kind, AllocError>
+    ensures kind { IsMet last.old → IfOk result (λ k. kind_view k
+        ≡ join_of (kind_view first.now) (kind_view second.now)) }
+    ensures last { IsMet last.old → OnOk result (IsMet last.new) }
+{
+    if weight(first).is_within(0) {
+        return join_part(alloc, first, second);
+    }
+    if let Some(kind) = met_again(last, first, second)? {
+        return Ok(kind);
+    }
+    let kind = join_part(alloc, first, second)?;
+    *last = Some(met_of(first, second, &kind)?);
+    Ok(kind)
+}
+
+// What the last join came to, where both kinds are the same as there.
+fn met_again(last: &Option<Met>, first: &Kind, second: &Kind) -> Result<Option<Kind>, AllocError>
+    ensures { IsMet last.now → IfOk result (λ o. IfSome o (λ k. kind_view k
+        ≡ join_of (kind_view first.now) (kind_view second.now))) }
+{
+    match last {
+        Some(met) if is_same(&met.first, first) && is_same(&met.second, second) => {
+            Ok(Some(met.joined.clone()?))
+        }
+        _ => Ok(None),
+    }
+}
+
+fn met_of(first: &Kind, second: &Kind, joined: &Kind) -> Result<Met, AllocError>
+    ensures { kind_view joined.now ≡ join_of (kind_view first.now) (kind_view second.now)
+        → IfOk result (λ m. IsMet (Some m)) }
+{
+    let first = first.clone()?;
+    let second = second.clone()?;
+    let joined = joined.clone()?;
+    Ok(Met {
+        first,
+        second,
+        joined,
+    })
 }
 
 fn both(first: Presence, second: Presence) -> Presence

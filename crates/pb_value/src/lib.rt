@@ -18,6 +18,7 @@ mod number;
 pub mod project;
 pub mod read;
 pub mod render;
+mod same;
 pub mod value;
 pub mod weight;
 

@@ -1,5 +1,5 @@
 // How large and how deep a value or a kind is; what it shares counts as often as it stands there.
-ghost use Rattle.std.specs.Prelude.{◌/◌, ◌<◌, ◌^◌, ◌≡◌, ◌≤◌, IfOk, nat_le, nat_lt};
+ghost use Rattle.std.specs.Prelude.{◌&&◌, ◌/◌, ◌<◌, ◌^◌, ◌≡◌, ◌≤◌, IfOk, nat_eq, nat_le, nat_lt};
 ghost use Rattle.pb_semantics.specs.Words.{most_weight_levels};
 ghost use Rattle.pb_value.specs.Weights.{IsWithin, above, both, leaf, names_weight, nothing};
 ghost use Rattle.pb_value.specs.Weights.{text_weight};
@@ -69,6 +69,13 @@ impl Weight {
         ensures { result ≡ nat_le self.levels levels }
     {
         self.levels <= levels
+    }
+
+    // Whether both have as many leaves and levels.
+    pub(crate) fn is(self, other: Weight) -> bool
+        ensures { result ≡ (nat_eq self.leaves other.leaves && nat_eq self.levels other.levels) }
+    {
+        self.leaves == other.leaves && self.levels == other.levels
     }
 
     // The weight of both, unless it is past the most.

@@ -78,5 +78,5 @@ meet_slots-returns t c =
     let l = c.loop-name in
     let ts = slots_view c.args.second.now.entries in
     let left : l.name-iterator ≡ [] = c.in-None.ensures.steps.0 in
-    sym (l.invariant ∙ ap (λ (es : List SlotEntry). built (slots_view es) ts (slots_view l.all.entries)) left)
+    sym (l.invariant.0 ∙ ap (λ (es : List SlotEntry). built (slots_view es) ts (slots_view l.all.entries)) left)
     ∙ built_joined c.args.first.now.entries ts c.iter-name-items.ensures.ordered

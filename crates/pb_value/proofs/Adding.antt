@@ -8,7 +8,7 @@ use Rattle.std.proofs.lemmas.Cmp.{nat_list_cmp_total}
 use Rattle.std.proofs.lemmas.Map.Text.{is_eq-slice_cmp}
 use Rattle.std.specs.Option.{MatchOption}
 use Rattle.pb_semantics.specs.Kind.{KindData, Slots, Cases, Shape, Spot, no_slots, slot, no_cases, one, hosts, results, nowhere, spot, slot_at, put_slot, is_there}
-use Rattle.pb_semantics.specs.Join.{join, join_spot, new_cases, put_name, add_names}
+use Rattle.pb_semantics.specs.Join.{join, new_cases, put_name, add_names}
 use Rattle.pb_semantics.specs.Keeps.{is_among}
 use Rattle.pb_semantics.specs.Below.{all_cases, is_covered, are_among}
 use Rattle.pb_semantics.specs.Grown.{met, met_slots}

@@ -4,7 +4,7 @@ use Rattle.std.specs.Prelude.{string_bytes}
 use Rattle.std.specs.Str.{bytes_eq}
 use Rattle.std.specs.declared.alloc.Global.{Global}
 use denote.Ref.{Bor}
-use Rattle.pb_semantics.specs.Kind.{Cases, KindData, Spot, nowhere, results, spot}
+use Rattle.pb_semantics.specs.Kind.{Cases, KindData, Spot, nowhere, results}
 use Rattle.pb_semantics.specs.Join.{join_spot}
 use Rattle.pb_semantics.specs.Grown.{met}
 use Rattle.pb_value.specs.Found.{spot_view}

@@ -1,13 +1,12 @@
-use Rattle.std.proofs.Common.{◌≡◌, Bool, true, false, String, Global, string_bytes, is_some, not, refl, sym, ap, ◌∙◌}
+use Rattle.std.proofs.Common.{◌≡◌, true, false, string_bytes, is_some, not, sym, ap, ◌∙◌}
 use Rattle.pb_semantics.specs.Kind.{no_slots, spot, recs}
-use Rattle.pb_semantics.specs.Grown.{met}
 use Rattle.pb_semantics.proofs.Ascents.{met_recs, met_result}
 use Rattle.pb_value.specs.KindView.{kind_view, slots_view, cases_view, is_always}
 use Rattle.pb_value.specs.Added.{met_spot, spot_of}
 use Rattle.pb_value.specs.Found.{spot_view}
 use Rattle.pb_value.proofs.Views.{kind_view-Rec, kind_view-Result}
 use Rattle.pb_value.proofs.GrowLemmas.{ascend_slots}
-use Rattle.pb_value.proofs.Adding.{Adds, left_view, left_next, left_none, adds_met, adds_none, adds_same, adds_other}
+use Rattle.pb_value.proofs.Adding.{left_view, left_next, left_none, adds_met, adds_none, adds_same, adds_other}
 use Rattle.pb_value.proofs.adds.+adds.Goals as goal
 
 pub adds_no_record-returns-in-Rec : goal.adds_no_record-returns-in-Rec

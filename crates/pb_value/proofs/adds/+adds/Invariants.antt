@@ -1,4 +1,3 @@
-use Rattle.std.proofs.Common.{◌≡◌}
 use Rattle.pb_value.specs.KindView.{slots_view}
 use Rattle.pb_semantics.proofs.Ascents.{Ascend}
 use Rattle.pb_value.proofs.Adding.{Adds, left_view}

@@ -1,4 +1,4 @@
-use Rattle.std.proofs.Common.{◌≡◌, sym, ap, ◌∙◌}
+use Rattle.std.proofs.Common.{◌≡◌, ap, ◌∙◌}
 use Rattle.pb_semantics.specs.Kind.{recs}
 use Rattle.pb_value.proofs.KindLemmas.{kind_view-Host}
 use Rattle.pb_value.proofs.Views.{kind_view-Rec}

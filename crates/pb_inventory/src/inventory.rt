@@ -91,7 +91,7 @@ impl Inventory {
         }
     }
 
-    /// The inventory of one host, which stands in no group of its own.
+    // The inventory of one host, which stands in no group of its own.
     pub(crate) fn of_one(alloc: Global, name: String) -> Result<Inventory, AllocError>
         ensures { IfOk result (λ i. inventory_view i ≡ one_host (string_bytes name)) }
     {

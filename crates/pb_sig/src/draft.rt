@@ -6,8 +6,8 @@ ghost use Rattle.pb_value.specs.Words.{slots_view};
 use crate::signature::Parameter;
 use pb_value::Slots;
 
-/// A module as a file describes it, of which no more is known than that its shapes hold no result
-/// and have each name once.
+// A module as a file describes it, of which no more is known than that its shapes hold no result
+// and have each name once.
 #[derive(Drop)]
 pub(crate) struct Draft {
     pub(crate) name: String,

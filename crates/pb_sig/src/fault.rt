@@ -47,7 +47,7 @@ impl<T: Drop> From<AllocFailed<T>> for SignatureFault {
     }
 }
 
-/// Why a value isn't what is read of it.
+// Why a value isn't what is read of it.
 #[derive(Debug, Drop)]
 pub(crate) enum FormFault {
     Form,

@@ -49,7 +49,7 @@ pub trait Module {
         ensures { option_map (λ n. n.now) result ≡ (meaning self.now).free };
 }
 
-/// The name, in a block that its copies share.
+// The name, in a block that its copies share.
 pub(crate) fn shared_name(alloc: Global, name: &str) -> Result<Arc<String>, AllocError>
     ensures { IfOk result (λ s. string_bytes s.value ≡ name.now) }
 {

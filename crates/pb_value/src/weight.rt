@@ -7,7 +7,7 @@ ghost use Rattle.pb_value.specs.Weights.{text_weight};
 use std::alloc::AllocError;
 use std::ops::Deref;
 
-/// How many lists and records nest at most.
+// How many lists and records nest at most.
 const MOST_LEVELS: u32 = 512;
 
 /// The leaves, with a 64th of the bytes of texts and names, and how many lists and records nest.

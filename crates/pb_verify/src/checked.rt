@@ -84,7 +84,7 @@ impl Checked {
     ghost use Rattle.pb_verify.specs.Judges.{is_accepted, run_of_accepted};
     ghost use Rattle.pb_verify.specs.Known.{HasTable, IsKnownAs, known_spot};
 
-    /// What was accepted.
+    // What was accepted.
     pub(crate) fn of(alloc: Global, accepted: Accepted) -> Result<Checked, AllocError>
         requires accepted { is_accepted accepted ≡ true }
         requires known { names_known (modules_of accepted.registry) (plays_of accepted.book)

@@ -1,6 +1,8 @@
 -- Whether two trees are the same.
 use Rattle.std.specs.Prelude.{List, [], ◌∷◌, Bool, true, false, ◌&&◌, nat_eq, Option, Some, None}
 use Rattle.std.specs.Str.{bytes_eq}
+use Rattle.pb_semantics.specs.Data.{Data, Items, Fields, list, rec, opaque, no_items, item}
+use Rattle.pb_semantics.specs.Data.{no_fields, field}
 use Rattle.pb_semantics.specs.Equal.{data_eq}
 use Rattle.pb_language.specs.Expression.{Name, Comparison, equal, less, at_most, more, at_least}
 use Rattle.pb_language.specs.Expression.{Status, is_failed, is_changed, is_skipped, Term}
@@ -11,6 +13,24 @@ use Rattle.pb_language.specs.Expression.{undefinable, path_status, value_status,
 use Rattle.pb_language.specs.Expression.{length_of, joined_by, concatenation, list_of, record_of}
 use Rattle.pb_language.specs.Expression.{Root, variable, alias, other, member, Expressions}
 use Rattle.pb_language.specs.Expression.{no_expressions, expression, Parts, no_parts, part}
+
+-- what may not be read stands for itself
+abbrev mutual
+  pub same_data : Data → Data → Bool
+  same_data opaque opaque = true
+  same_data (list ds) (list es) = same_items ds es
+  same_data (rec fs) (rec gs) = same_fields fs gs
+  same_data d e = data_eq d e
+
+  pub same_items : Items → Items → Bool
+  same_items no_items no_items = true
+  same_items (item d ds) (item e es) = same_data d e && same_items ds es
+  same_items ds es = false
+
+  pub same_fields : Fields → Fields → Bool
+  same_fields no_fields no_fields = true
+  same_fields (field n d fs) (field m e gs) = bytes_eq n m && (same_data d e && same_fields fs gs)
+  same_fields fs gs = false
 
 abbrev pub same_names : List Name → List Name → Bool
 same_names [] [] = true
@@ -45,7 +65,7 @@ same_option o p = false
 
 abbrev mutual
   pub same_expression : Expression → Expression → Bool
-  same_expression (literal d) (literal e) = data_eq d e
+  same_expression (literal d) (literal e) = same_data d e
   same_expression (path r ns) (path q ms) = same_root r q && same_names ns ms
   same_expression (hostvars_alone o) (hostvars_alone p) = same_option o p
   same_expression (negation e) (negation f) = same_expression e f

@@ -247,7 +247,7 @@ mutual
   own_expression (list_of es) = own_expressions es
   own_expression (record_of ps) = own_parts ps
 
-  own_root : (r : Root) → same_root r r ≡ true
+  pub own_root : (r : Root) → same_root r r ≡ true
   own_root (variable n) = own_name n
   own_root (alias n e) = both (bytes_eq n n) (same_expression e e) (own_name n) (own_expression e)
   own_root (other t x) = both (same_term t t) (bytes_eq x x) (own_term t) (own_name x)

@@ -2,7 +2,7 @@
 use Rattle.std.proofs.Common.{◌≡◌, ℕ, suc, ◌+◌, ◌<◌, List, [], ◌∷◌, ◌++◌, length, drop, get_or, String, Global, string_bytes, Bool, true, false, ◌&&◌, Option, Some, None, refl, sym, ap, ◌∙◌}
 use Rattle.pb_semantics.specs.Kind.{KindData, Slots, Spot, never, recs, nowhere, spot, slot_at}
 use Rattle.pb_semantics.specs.Join.{join}
-use Rattle.pb_language.specs.Expression.{Name, Expressions, expression}
+use Rattle.pb_language.specs.Expression.{Name, Expression, Expressions, expression}
 use Rattle.pb_language.specs.Scope.{Scope, spot_kind, below_spot}
 use Rattle.pb_language.specs.Kinds.{path_spot, step_spot, count, kind_of, default_kind, shown_spot}
 use Rattle.pb_language.specs.Fit.{Fault, perhaps_missing, first, is_boolean, field_fault, steps_fault, fault, chain_fault, are_booleans}
@@ -28,18 +28,18 @@ first-none None = refl
 first-none (Some x) = refl
 
 -- a chain knows at each operand what those before it taught
-pub chain-turn : (f g u : Option Fault) (c d : Scope) (e : Expr) (es : Expressions) (b : Bool) → g ≡ fault c (expr_view e) → u ≡ first f g → d ≡ narrow c (expr_view e) b
-    → first f (chain_fault c (expression (expr_view e) es) b) ≡ first u (chain_fault d es b)
+pub chain-turn : (f g u : Option Fault) (c d : Scope) (e : Expression) (es : Expressions) (b : Bool) → g ≡ fault c e → u ≡ first f g → d ≡ narrow c e b
+    → first f (chain_fault c (expression e es) b) ≡ first u (chain_fault d es b)
 chain-turn f g u c d e es b found is later =
-    ap (λ x. first f (first x (chain_fault (narrow c (expr_view e) b) es b))) (sym found)
-    ∙ fault-turn f g (chain_fault (narrow c (expr_view e) b) es b) u is
+    ap (λ x. first f (first x (chain_fault (narrow c e b) es b))) (sym found)
+    ∙ fault-turn f g (chain_fault (narrow c e b) es b) u is
     ∙ ap (λ s. first u (chain_fault s es b)) (sym later)
 
-pub booleans-turn : (a q : Bool) (k : KindData) (c d : Scope) (e : Expr) (es : Expressions) (b : Bool) → q ≡ is_boolean k → k ≡ kind_of c (expr_view e) → d ≡ narrow c (expr_view e) b
-    → a && are_booleans c (expression (expr_view e) es) b ≡ (a && q) && are_booleans d es b
+pub booleans-turn : (a q : Bool) (k : KindData) (c d : Scope) (e : Expression) (es : Expressions) (b : Bool) → q ≡ is_boolean k → k ≡ kind_of c e → d ≡ narrow c e b
+    → a && are_booleans c (expression e es) b ≡ (a && q) && are_booleans d es b
 booleans-turn false q k c d e es b h i is = refl
 booleans-turn true q k c d e es b h i is =
-    ap (λ m. is_boolean m && are_booleans (narrow c (expr_view e) b) es b) (sym i) ∙ ap (λ x. x && are_booleans (narrow c (expr_view e) b) es b) (sym h)
+    ap (λ m. is_boolean m && are_booleans (narrow c e b) es b) (sym i) ∙ ap (λ x. x && are_booleans (narrow c e b) es b) (sym h)
     ∙ ap (λ s. q && are_booleans s es b) (sym is)
 
 pub count-exprs : (es : List Expr) → count (exprs_view es) ≡ length es

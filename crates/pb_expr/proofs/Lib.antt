@@ -15,3 +15,6 @@ pub mod BothTaught
 pub mod Seen
 pub mod Trees
 pub mod InOrder
+pub mod NamedRoots
+pub mod FoundParts
+pub mod AskedTrees

@@ -6,6 +6,8 @@ use Rattle.std.specs.Cmp.Lexicographic.{slice_cmp}
 use Rattle.std.specs.List.Sorted.{IsStrictlySortedBy}
 use Rattle.std.specs.Ordering.{is_eq, ordering_reverse}
 use Rattle.pb_semantics.specs.Kind.{KindData, Slots, no_slots, slot, put_slot}
+use Rattle.pb_language.specs.Expansion.{expanded, parts_expanded}
+use Rattle.pb_expr.specs.Aliases.{Trees}
 use Rattle.pb_language.specs.Scope.{Scope, without_slot, with_slot}
 use Rattle.pb_language.specs.Kinds.{known_kind, known_slots, kind_of, parts_slots}
 use Rattle.pb_value.specs.View.{view, fields_view}
@@ -48,7 +50,10 @@ unfolding IsStrictlySortedBy
 known_slots-ascending [] h = refl
 known_slots-ascending (e ∷ es) h = ap (λ ss. with_slot (string_bytes e.0) true (known_kind (view e.1)) ss) (known_slots-ascending es h.1) ∙ with_slot-first (λ v. known_kind (view v)) e es h.0
 
-pub parts_slots-ascending : (c : Scope) (es : List (String Global × Expr)) → Ascending es → parts_slots c (parts_view es) ≡ slots_from (λ e. kind_of c (expr_view e)) es
+pub parts_slots-ascending : (c : Scope) (f : Trees) (es : List (String Global × Expr)) → Ascending es
+    → parts_slots c (parts_expanded f (parts_view es)) ≡ slots_from (λ e. kind_of c (expanded f (expr_view e))) es
 unfolding IsStrictlySortedBy
-parts_slots-ascending c [] h = refl
-parts_slots-ascending c (e ∷ es) h = ap (λ ss. with_slot (string_bytes e.0) true (kind_of c (expr_view e.1)) ss) (parts_slots-ascending c es h.1) ∙ with_slot-first (λ x. kind_of c (expr_view x)) e es h.0
+parts_slots-ascending c f [] h = refl
+parts_slots-ascending c f (e ∷ es) h =
+    ap (λ ss. with_slot (string_bytes e.0) true (kind_of c (expanded f (expr_view e.1))) ss) (parts_slots-ascending c f es h.1)
+    ∙ with_slot-first (λ x. kind_of c (expanded f (expr_view x))) e es h.0

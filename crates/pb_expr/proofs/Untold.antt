@@ -7,14 +7,15 @@ use Rattle.pb_language.specs.Expression.{Name, Root, variable, alias, other, mem
 use Rattle.pb_language.specs.World.{member_of}
 use Rattle.pb_language.specs.Scope.{Scope, Present, each_spot, has_view, host_spot, put_view, resolved, unnamed, view_of, with_taught}
 use Rattle.pb_language.specs.Narrow.{teach, teach_host, teach_member}
+use Rattle.pb_expr.specs.Before.{Before}
 use Rattle.pb_expr.specs.TaughtView.{scope_view, untaught}
 use Rattle.pb_expr.specs.declared.scope.Taught.{Taught}
 
-pub each-untold : (k : Scope) (t : Taught) (on : Bool) (x : Name) (gs : List Name) → each_spot (untaught k) on x gs ≡ each_spot (unnamed (scope_view k t)) on x gs
+pub each-untold : (k : Before) (t : Taught) (on : Bool) (x : Name) (gs : List Name) → each_spot (untaught k.scope) on x gs ≡ each_spot (unnamed (scope_view k t)) on x gs
 each-untold k t on x [] = refl
-each-untold k t on x (g ∷ gs) = ap (join_spot (host_spot (untaught k) on x g)) (each-untold k t on x gs)
+each-untold k t on x (g ∷ gs) = ap (join_spot (host_spot (untaught k.scope) on x g)) (each-untold k t on x gs)
 
-pub resolved-taught : (k : Scope) (t : Taught) (r : Root) → resolved (scope_view k t) r ≡ resolved k r
+pub resolved-taught : (k : Before) (t : Taught) (r : Root) → resolved (scope_view k t) r ≡ resolved k.scope r
 resolved-taught k t (variable n) = refl
 resolved-taught k t (alias n e) = refl
 resolved-taught k t (other (named_host g) x) = refl

@@ -3,6 +3,7 @@ use Rattle.std.proofs.Common.{◌≡◌, List, [], ◌∷◌, ◌++◌, length, 
 use Rattle.pb_language.specs.Expression.{Name, Status, Expression, path_status, Root, Expressions, no_expressions, expression}
 use Rattle.pb_language.specs.Narrow.{answers, cases_with, changed_at, changed_spot, narrow, narrow_some, on_results, teach}
 use Rattle.pb_language.specs.Scope.{Scope, both_scopes}
+use Rattle.pb_expr.specs.Before.{Before}
 use Rattle.pb_expr.specs.TaughtView.{scope_view, scopes_view, taught_by}
 use Rattle.pb_expr.specs.declared.scope.Taught.{Taught}
 
@@ -33,22 +34,22 @@ pub met-last : (ds : List Scope) (d e : Scope) → met_by (ds ++ d ∷ []) e ≡
 met-last [] d e = refl
 met-last (f ∷ ds) d e = ap (both_scopes f) (met-last ds d e)
 
-scopes-last : (m : Scope) (ws : List Taught) (w : Taught) → scopes_view m (ws ++ w ∷ []) ≡ scopes_view m ws ++ scope_view m w ∷ []
+scopes-last : (m : Before) (ws : List Taught) (w : Taught) → scopes_view m (ws ++ w ∷ []) ≡ scopes_view m ws ++ scope_view m w ∷ []
 scopes-last m [] w = refl
 scopes-last m (v ∷ ws) w = ap (λ ds. scope_view m v ∷ ds) (scopes-last m ws w)
 
 -- the last of the ways is taken, and met with all behind it
-pub last-taken : (m : Scope) (us ws : List Taught) (w : Taught) (c : Scope) → us ≡ ws ++ w ∷ [] → taught_by (scopes_view m us) c ≡ met_by (scopes_view m ws) (scope_view m w)
+pub last-taken : (m : Before) (us ws : List Taught) (w : Taught) (c : Scope) → us ≡ ws ++ w ∷ [] → taught_by (scopes_view m us) c ≡ met_by (scopes_view m ws) (scope_view m w)
 last-taken m us ws w c is = ap (λ vs. taught_by (scopes_view m vs) c) is ∙ ap (λ ds. taught_by ds c) (scopes-last m ws w) ∙ taught-last (scopes_view m ws) (scope_view m w) c
 
-pub way-met : (m : Scope) (us ws : List Taught) (w all next : Taught) → us ≡ ws ++ w ∷ [] → scope_view m next ≡ both_scopes (scope_view m w) (scope_view m all)
+pub way-met : (m : Before) (us ws : List Taught) (w all next : Taught) → us ≡ ws ++ w ∷ [] → scope_view m next ≡ both_scopes (scope_view m w) (scope_view m all)
     → met_by (scopes_view m us) (scope_view m all) ≡ met_by (scopes_view m ws) (scope_view m next)
 way-met m us ws w all next is met =
     ap (λ vs. met_by (scopes_view m vs) (scope_view m all)) is ∙ ap (λ ds. met_by ds (scope_view m all)) (scopes-last m ws w)
     ∙ met-last (scopes_view m ws) (scope_view m w) (scope_view m all) ∙ ap (met_by (scopes_view m ws)) (sym met)
 
 -- a way more
-pub ways-turn : (m : Scope) (us ws : List Taught) (way here next : Taught) (e : Expression) (es : Expressions) (b : Bool)
+pub ways-turn : (m : Before) (us ws : List Taught) (way here next : Taught) (e : Expression) (es : Expressions) (b : Bool)
     → scope_view m way ≡ narrow (scope_view m here) e b → scope_view m next ≡ narrow (scope_view m here) e (not b) → ws ≡ us ++ way ∷ []
     → scopes_view m us ++ ways (scope_view m here) (expression e es) b ≡ scopes_view m ws ++ ways (scope_view m next) es b
 ways-turn m us ws way here next e es b is then pushed =
@@ -58,7 +59,7 @@ ways-turn m us ws way here next e es b is then pushed =
     ∙ ap (λ ds. ds ++ rest) (sym (scopes-last m us way) ∙ ap (scopes_view m) (sym pushed))
 
 -- where there is a way, what was known before them isn't asked
-pub same-last : (m : Scope) (us ws : List Taught) (way : Taught) (c d : Scope) → ws ≡ us ++ way ∷ [] → taught_by (scopes_view m ws) c ≡ taught_by (scopes_view m ws) d
+pub same-last : (m : Before) (us ws : List Taught) (way : Taught) (c d : Scope) → ws ≡ us ++ way ∷ [] → taught_by (scopes_view m ws) c ≡ taught_by (scopes_view m ws) d
 same-last m us ws way c d pushed = last-taken m ws us way c pushed ∙ sym (last-taken m ws us way d pushed)
 
 pub no-entries : {A : Type 0} → (es : List A) → length es ≡ 0 → es ≡ []

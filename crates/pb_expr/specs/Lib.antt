@@ -1,9 +1,11 @@
 pub mod Aliases
+pub mod Before
 pub mod OwnScope
 pub mod OwnWorld
 pub mod SpotFound
 pub mod TaughtView
 pub mod ChangeView
 pub mod FitView
+pub mod Found
 pub mod Joined
 pub mod Words

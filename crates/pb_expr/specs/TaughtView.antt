@@ -3,41 +3,52 @@ use Rattle.std.specs.Prelude.{List, [], ◌∷◌, map, false, Option, Some, Non
 use Rattle.std.specs.declared.alloc.Global.{Global}
 use Rattle.std.specs.declared.collections.btree_map.BTreeMap.{BTreeMap}
 use Rattle.std.specs.declared.sync.Arc.{Arc}
-use Rattle.pb_semantics.specs.Kind.{Spot, no_slots, nowhere, spot}
-use Rattle.pb_language.specs.Scope.{Scope, Present, View, nothing, both_scopes}
+use Rattle.pb_semantics.specs.Kind.{KindData, Spot, no_slots, nowhere, spot}
+use Rattle.pb_language.specs.Expansion.{expanded_root}
+use Rattle.pb_language.specs.Expression.{Name, Expression}
+use Rattle.pb_language.specs.Scope.{Scope, Learned, Present, View, nothing, taught, both_scopes}
 use Rattle.pb_value.specs.KindView.{is_always, kind_view, slots_view}
 use Rattle.pb_value.specs.declared.kind.Kind.{Kind}
 use Rattle.pb_value.specs.declared.kind.Slot.{Slot}
 use Rattle.pb_syntax.specs.ExprView.{names_of, root_view}
 use Rattle.pb_syntax.specs.declared.expr.Path.{Path}
+use Rattle.pb_expr.specs.declared.scope.Learned.{Learned as MadeLearned}
 use Rattle.pb_expr.specs.declared.scope.Taught.{Taught}
+use Rattle.pb_expr.specs.Aliases.{Trees}
+use Rattle.pb_expr.specs.Before.{Before}
 
-abbrev pub present_view : Path → Present
-present_view p = record { root = root_view p.root; steps = names_of p.steps.items }
+abbrev pub present_view : Trees → Path → Present
+present_view f p = record { root = expanded_root f (root_view p.root); steps = names_of p.steps.items }
 
-abbrev pub presents_view : List (Arc Path Global) → List Present
-presents_view ps = map (λ p. present_view p.value) ps
+abbrev pub presents_view : Trees → List (Arc Path Global) → List Present
+presents_view f ps = map (λ p. present_view f p.value) ps
+
+-- what a test taught of the value of a name of `vars`, which has that tree
+abbrev pub with_learned : Name → Option Expression → KindData → Learned → Learned
+with_learned n None k l = l
+with_learned n (Some e) k l = taught n e k l
+
+abbrev pub learned_view : Trees → List MadeLearned → Learned
+learned_view f [] = nothing
+learned_view f (l ∷ ls) =
+    with_learned (string_bytes l.name) (f (string_bytes l.name)) (kind_view l.kind)
+    (learned_view f ls)
 
 abbrev pub views_view : List (String Global × BTreeMap (String Global) (Slot Kind) Global)
     → List View
 views_view vs = map (λ v. record { host = string_bytes v.0; slots = slots_view v.1.entries }) vs
 
--- what is known where that was taught; no test teaches of a value of `vars` yet
-abbrev pub scope_view : Scope → Taught → Scope
-scope_view c t = record c {
+-- what is known where that was taught
+abbrev pub scope_view : Before → Taught → Scope
+scope_view b t = record b.scope {
   own_slots = slots_view t.slots.entries;
   views = views_view t.views.entries;
-  learned = nothing;
-  present = presents_view t.paths.items;
+  learned = learned_view b.trees t.learned.items;
+  present = presents_view b.trees t.paths.items;
   active = names_of t.active.items;
   item_slots = slots_view t.item_slots.entries;
   item_active = t.item_active;
 }
-
--- what is known where more may have been taught than that
-abbrev pub here_view : Scope → Taught → Option Taught → Scope
-here_view c t None = scope_view c t
-here_view c t (Some more) = scope_view c more
 
 -- what is known, where no test has taught anything
 abbrev pub untaught : Scope → Scope
@@ -56,8 +67,8 @@ abbrev pub slot_given : Option (Slot Kind) → Spot
 slot_given None = nowhere
 slot_given (Some s) = spot (is_always s.presence) (kind_view s.kind)
 
-abbrev pub scopes_view : Scope → List Taught → List Scope
-scopes_view c ts = map (λ t. scope_view c t) ts
+abbrev pub scopes_view : Before → List Taught → List Scope
+scopes_view b ts = map (λ t. scope_view b t) ts
 
 -- what each of the ways teaches, where there is one
 abbrev pub taught_by : List Scope → Scope → Scope

@@ -1,17 +1,22 @@
 // What a test changes of what is known of the value at a root.
-ghost use Rattle.std.specs.Prelude.{◌≡◌, IfOk, string_bytes};
-ghost use Rattle.pb_language.specs.Expression.{item_host, other, variable};
+ghost use Rattle.std.specs.Prelude.{◌≡◌, IfOk, Some, option_map, string_bytes};
+ghost use Rattle.pb_language.specs.Expansion.{expanded_root};
+ghost use Rattle.pb_language.specs.Expression.{Expression, alias, item_host, other, variable};
+ghost use Rattle.pb_language.specs.Kinds.{kind_of};
 ghost use Rattle.pb_language.specs.Narrow.{teach, teach_host};
 ghost use Rattle.pb_language.specs.Scope.{is_certain, spot_kind};
 ghost use Rattle.pb_value.specs.Words.{is_always, kind_view};
 ghost use Rattle.pb_syntax.specs.ExprView.{names_of, root_view};
+ghost use Rattle.pb_expr.specs.Before.{Before};
 ghost use Rattle.pb_expr.specs.ChangeView.{change_view};
+ghost use Rattle.pb_expr.specs.Found.{alias_tree};
 ghost use Rattle.pb_expr.specs.TaughtView.{scope_view, slot_given};
 
 use crate::defined::defined_at;
+use crate::inferred::Inferred;
 use crate::known::Known;
 use crate::roots::item_slot;
-use crate::scope::{Taught, own_slot};
+use crate::scope::{Learned, Taught, alias_kind, own_slot};
 use crate::teach::answered_at;
 use crate::views::{copied, host_slot, place_slot, teach_host};
 use pb_syntax::{Path, Root, Status, Term};
@@ -27,16 +32,66 @@ pub enum Change {
     Answered(Status, bool),
 }
 
-// What is taught of the value at the root of the path.
+// What is taught of the value at the root of the path; what was found of its tree is given where it
+// is a name of `vars`.
 pub(crate) fn teach<K: Known>(
     alloc: Global,
     change: Change,
     path: &Path,
     known: &K,
     taught: Taught,
+    alias: Option<Inferred>,
 ) -> Result<Taught, AllocError>
-    ensures { let k = K.scope known.now in
-        IfOk result (λ t. scope_view k t ≡ teach (scope_view k taught)
+    requires { let b = K.before known.now in
+        option_map (λ i. kind_view i.kind) alias ≡ option_map (kind_of (scope_view b taught))
+        (alias_tree (expanded_root b.trees (root_view path.now.root))) }
+    ensures { let b = K.before known.now in
+        IfOk result (λ t. scope_view b t ≡ teach (scope_view b taught)
+        (change_view change (names_of path.now.steps.items))
+        (expanded_root b.trees (root_view path.now.root))) }
+{
+    match (&path.root, alias) {
+        (Root::Variable(name), Some(found)) => {
+            teach_alias(alloc, change, path, name, taught, found.kind)
+        }
+        _ => teach_plain(alloc, change, path, known, taught),
+    }
+}
+
+// What is taught of the value of a name of `vars`, whose tree has that kind.
+fn teach_alias(
+    alloc: Global,
+    change: Change,
+    path: &Path,
+    name: &String,
+    taught: Taught,
+    kind: Kind,
+) -> Result<Taught, AllocError>
+    ensures { IfOk result (λ t. (b : Before) (e : Expression)
+        → b.trees (string_bytes name.now) ≡ Some e
+        → kind_view kind ≡ kind_of (scope_view b taught) e
+        → scope_view b t ≡ teach (scope_view b taught)
+        (change_view change (names_of path.now.steps.items)) (alias (string_bytes name.now) e)) }
+{
+    let known = alias_kind(&taught.learned, name.as_str(), kind)?;
+    let slot = changed(alloc, change, &path.steps, Some(Slot::always(known)))?;
+    let name = name.clone()?;
+    let kind = slot.kind;
+    let mut taught = taught;
+    taught.learned.insert(0, Learned { name, kind })?;
+    Ok(taught)
+}
+
+// What is taught of the value at a root that is no name of `vars`.
+fn teach_plain<K: Known>(
+    alloc: Global,
+    change: Change,
+    path: &Path,
+    known: &K,
+    taught: Taught,
+) -> Result<Taught, AllocError>
+    ensures { let b = K.before known.now in
+        IfOk result (λ t. scope_view b t ≡ teach (scope_view b taught)
         (change_view change (names_of path.now.steps.items)) (root_view path.now.root)) }
 {
     match &path.root {
@@ -70,7 +125,7 @@ fn teach_own<K: Known>(
     known: &K,
     taught: Taught,
 ) -> Result<Taught, AllocError>
-    ensures { let k = K.scope known.now in
+    ensures { let k = K.before known.now in
         IfOk result (λ t. scope_view k t ≡ teach (scope_view k taught)
         (change_view change (names_of path.now.steps.items)) (variable (string_bytes name.now))) }
 {
@@ -89,7 +144,7 @@ fn teach_item<K: Known>(
     known: &K,
     taught: Taught,
 ) -> Result<Taught, AllocError>
-    ensures { let k = K.scope known.now in
+    ensures { let k = K.before known.now in
         IfOk result (λ t. scope_view k t ≡ teach (scope_view k taught)
         (change_view change (names_of path.now.steps.items))
         (other item_host (string_bytes name.now))) }
@@ -110,7 +165,7 @@ fn teach_there<K: Known>(
     known: &K,
     taught: Taught,
 ) -> Result<Taught, AllocError>
-    ensures { let k = K.scope known.now in
+    ensures { let k = K.before known.now in
         IfOk result (λ t. scope_view k t ≡ teach_host (scope_view k taught)
         (change_view change (names_of path.now.steps.items)) (string_bytes name.now) host.now) }
 {

@@ -1,7 +1,8 @@
 // What is found of a form by what is found of its operands, whose faults come before its own.
-ghost use Rattle.std.specs.Prelude.{◌&&◌, ◌||◌, ◌≡◌, Some, not, option_map};
+ghost use Rattle.std.specs.Prelude.{◌&&◌, ◌||◌, ◌≡◌, IfOk, Some, length as count, not};
+ghost use Rattle.std.specs.Prelude.{option_map};
 ghost use Rattle.pb_semantics.specs.Kind.{ints};
-ghost use Rattle.pb_semantics.specs.Words.{booleans, texts};
+ghost use Rattle.pb_semantics.specs.Words.{booleans, lists, texts};
 ghost use Rattle.pb_language.specs.Words.{asks, can_compare, can_find, equal, first};
 ghost use Rattle.pb_language.specs.Words.{has_length as can_be_counted, is_any as is_anything};
 ghost use Rattle.pb_language.specs.Words.{is_boolean, is_plain_list as is_plain_list_kind};
@@ -10,12 +11,15 @@ ghost use Rattle.pb_language.specs.Words.{wrong_kind};
 ghost use Rattle.pb_value.specs.Words.{kind_view};
 ghost use Rattle.pb_syntax.specs.ExprView.{comparison_view};
 ghost use Rattle.pb_expr.specs.FitView.{fault_view};
+ghost use Rattle.pb_expr.specs.Found.{are_bools, are_plain_kinds, fault_in, faults_in};
+ghost use Rattle.pb_expr.specs.Found.{joined_in, part_fault, part_faults_in};
 
-use crate::inference::Inferred;
-use crate::kinds::{has_length, holds_any, is_int, is_plain_list, is_result, is_text};
+use crate::inferred::Inferred;
+use crate::kinds::{has_length, holds_any, is_int, is_plain, is_plain_list, is_result, is_text};
 use crate::unfit::{Unfit, asked_of, first_of};
 use pb_syntax::Comparison;
-use pb_value::Kind;
+use pb_value::{Kind, join_all};
+use std::alloc::{AllocError, Global};
 
 // A form of that kind, where the fault of its operands comes before what it asks of them.
 pub(crate) fn asked(before: Option<Unfit>, is_fit: bool, kind: Kind) -> Inferred
@@ -166,4 +170,58 @@ pub(crate) fn joined(operands: (Inferred, Inferred)) -> Inferred
 {
     let is_fit = is_plain_list(&operands.0.kind) && is_text(&operands.1.kind);
     asked_both(operands.0.unfit, operands.1.unfit, is_fit, Kind::Text)
+}
+
+// Of a chain of truth values.
+pub(crate) fn truths(operands: &[Inferred]) -> Inferred
+    ensures kind { kind_view result.kind ≡ booleans }
+    ensures fault { fault_in result
+        ≡ first (faults_in operands.now) (asks wrong_kind (are_bools operands.now)) }
+{
+    let mut unfit = None;
+    let mut are_bool = true;
+    for operand in operands {
+        unfit = first_of(unfit, operand.unfit);
+        are_bool = are_bool & operand.kind.is_bool();
+    }
+    asked(unfit, are_bool, Kind::Bool)
+}
+
+// Of a text of several parts.
+pub(crate) fn texts(parts: &[Inferred]) -> Inferred
+    ensures kind { kind_view result.kind ≡ texts }
+    ensures fault { fault_in result
+        ≡ first (faults_in parts.now) (asks wrong_kind (are_plain_kinds parts.now)) }
+{
+    let mut unfit = None;
+    let mut are_plain = true;
+    for part in parts {
+        unfit = first_of(unfit, part.unfit);
+        are_plain = are_plain & is_plain(&part.kind);
+    }
+    asked(unfit, are_plain, Kind::Text)
+}
+
+// Of a list of these items.
+pub(crate) fn items(alloc: Global, items: &[Inferred]) -> Result<Inferred, AllocError>
+    ensures kind { IfOk result
+        (λ f. kind_view f.kind ≡ lists (joined_in items.now) (count items.now)) }
+    ensures fault { IfOk result (λ f. fault_in f ≡ part_faults_in items.now) }
+{
+    let mut kinds = Vec::new(alloc);
+    let mut unfit = None;
+    for item in items {
+        unfit = first_of(unfit, part_unfit(item));
+        kinds.push(item.kind.clone()?)?;
+    }
+    let joined = join_all(alloc, &kinds)?;
+    let kind = Kind::of_item(alloc, joined, items.len())?;
+    Ok(Inferred { kind, unfit })
+}
+
+// What an item or a field is asked for, which isn't `Any`.
+fn part_unfit(part: &Inferred) -> Option<Unfit>
+    ensures { option_map fault_view result ≡ part_fault part.now }
+{
+    first_of(part.unfit, asked_of(!part.kind.is_any(), Unfit::WrongKind))
 }

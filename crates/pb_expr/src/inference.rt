@@ -1,92 +1,129 @@
-// What is found of an expression, fit or not: its kind and its first fault.
-ghost use Rattle.std.specs.Prelude.{◌≡◌, Bool, IfOk, None, Some, not, option_map};
-ghost use Rattle.pb_semantics.specs.Words.{booleans, lists, recs, texts};
-ghost use Rattle.pb_language.specs.Expression.{path as path_of};
-ghost use Rattle.pb_language.specs.Fit.{active_fault, term_fault, tested_fault};
-ghost use Rattle.pb_language.specs.Kinds.{shown_spot};
-ghost use Rattle.pb_language.specs.Narrow.{narrow};
-ghost use Rattle.pb_language.specs.Scope.{is_present as is_shown};
-ghost use Rattle.pb_language.specs.Words.{are_booleans, are_plain, asks, chain_fault, count};
-ghost use Rattle.pb_language.specs.Words.{default_kind, fault, fields_fault, first};
-ghost use Rattle.pb_language.specs.Words.{is_any as is_anything, items_fault, items_kind};
-ghost use Rattle.pb_language.specs.Words.{kind_of as kind_found, parts_fault, parts_slots};
-ghost use Rattle.pb_language.specs.Words.{path_or, path_spot, root_spot, wrong_kind};
+// What is found of an expression, its kind and its first fault, and what its answer teaches.
+ghost use Rattle.std.specs.Prelude.{◌≡◌, IfOk, None, OnOk, option_map};
+ghost use Rattle.pb_semantics.specs.Words.{recs};
+ghost use Rattle.pb_language.specs.Expansion.{all_expanded, expanded, expanded_root};
+ghost use Rattle.pb_language.specs.Expansion.{parts_expanded};
+ghost use Rattle.pb_language.specs.Fit.{active_fault, term_fault};
+ghost use Rattle.pb_language.specs.Kinds.{path_spot, shown_spot};
+ghost use Rattle.pb_language.specs.Narrow.{any_teaches, narrow, narrow_each, narrow_some};
+ghost use Rattle.pb_language.specs.Narrow.{where_taught};
+ghost use Rattle.pb_language.specs.Scope.{is_present as is_shown, spot_kind};
+ghost use Rattle.pb_language.specs.Words.{are_booleans, asks, chain_fault, default_kind, fault};
+ghost use Rattle.pb_language.specs.Words.{fields_fault, first, kind_of as kind_found};
+ghost use Rattle.pb_language.specs.Words.{parts_slots, steps_fault, wrong_kind};
+ghost use Rattle.pb_language.specs.Fit.{path_fault};
+ghost use Rattle.pb_semantics.specs.Words.{booleans};
 ghost use Rattle.pb_value.specs.Words.{kind_view};
 ghost use Rattle.pb_syntax.specs.ExprView.{expr_view, exprs_view, names_of, parts_view};
 ghost use Rattle.pb_syntax.specs.ExprView.{root_view, term_view};
 ghost use Rattle.pb_expr.specs.FitView.{fault_view};
-ghost use Rattle.pb_expr.specs.TaughtView.{here_view, scope_view};
+ghost use Rattle.pb_expr.specs.Found.{AreFound, IsRight, alias_tree, fault_in};
+ghost use Rattle.pb_expr.specs.TaughtView.{scope_view, slot_given};
 
+use crate::asked::{Asked, Here, Inquiry, here_anew};
 use crate::forms;
-use crate::kinds::{is_plain, kind_at_end, kind_or};
+use crate::inferred::{Inferred, found_copied};
+use crate::kinds::{kind_at_end, kind_or};
 use crate::known::Known;
 use crate::literal::{literal_kind, put_certain};
-use crate::narrow::{narrow_later, taught_here};
-use crate::roots::root_slot;
+use crate::narrow::{any_teaches, show, show_active, show_status, taught_by_all};
+use crate::roots::{AtRoot, alias_of, at_root};
 use crate::scope::{Taught, is_present};
 use crate::steps::path_unfit;
-use crate::unfit::{Unfit, active_unfit, first_of, term_unfit, tested_unfit};
+use crate::unfit::{Unfit, active_unfit, first_of, term_unfit};
 use pb_syntax::{Expr, Path, Root, Term};
-use pb_value::{Kind, join_all};
+use pb_value::Kind;
 use std::alloc::{AllocError, Global};
 use std::collections::BTreeMap;
-
-// What is found of an expression, fit or not.
-#[derive(Drop)]
-pub(crate) struct Inferred {
-    // The kind of each value that it can have.
-    pub kind: Kind,
-    // The first fault from left to right, operands before the form round them.
-    pub unfit: Option<Unfit>,
-}
 
 // What is found of an expression by what is known of variables and what tests have taught.
 #[cycle(infer)]
 pub(crate) fn infer<K: Known>(
     alloc: Global,
     expr: &Expr,
-    known: &K,
+    inquiry: &Inquiry<'_, K>,
     taught: &Taught,
+    asked: &mut Asked,
 ) -> Result<Inferred, AllocError>
-    ensures kind { IfOk result (λ f. kind_view f.kind
-        ≡ kind_found (scope_view (K.scope known.now) taught.now) (expr_view expr.now)) }
-    ensures fault { IfOk result (λ f. option_map fault_view f.unfit
-        ≡ fault (scope_view (K.scope known.now) taught.now) (expr_view expr.now)) }
+    requires { IsRight (K.before inquiry.now.known.now) taught.now asked.old }
+    ensures kind { let b = K.before inquiry.now.known.now in
+        IfOk result (λ f. kind_view f.kind
+        ≡ kind_found (scope_view b taught.now) (expanded b.trees (expr_view expr.now))) }
+    ensures fault { let b = K.before inquiry.now.known.now in
+        IfOk result (λ f. fault_in f
+        ≡ fault (scope_view b taught.now) (expanded b.trees (expr_view expr.now))) }
+    ensures right { OnOk result
+        (IsRight (K.before inquiry.now.known.now) taught.now asked.new) }
 {
     match expr {
         Expr::Literal(value) => fit(literal_kind(alloc, value)?),
-        Expr::Path(path) => of_path(alloc, path, known, taught),
+        Expr::Path(path) => {
+            let alias = of_alias(alloc, &path.root, inquiry, taught, asked)?;
+            let at = at_root(alloc, &path.root, inquiry.known, taught, alias)?;
+            of_path(path, inquiry.known, taught, at)
+        }
         Expr::Hostvars(_) => unfit(Kind::Never, Some(Unfit::WrongKind)),
-        Expr::Not(operand) => Ok(forms::negation(infer(alloc, operand, known, taught)?)),
-        Expr::And(operands) => of_chain(alloc, operands, true, known, taught),
-        Expr::Or(operands) => of_chain(alloc, operands, false, known, taught),
+        Expr::Not(operand) => {
+            Ok(forms::negation(infer(alloc, operand, inquiry, taught, asked)?))
+        }
+        Expr::And(operands) => of_operands(alloc, operands, true, inquiry, taught, asked),
+        Expr::Or(operands) => of_operands(alloc, operands, false, inquiry, taught, asked),
         Expr::Compare(comparison, left, right) => {
-            let left = infer(alloc, left, known, taught)?;
-            let operands = pair_of(alloc, right, known, taught, left)?;
-            Ok(forms::comparison(*comparison, operands))
+            let left = infer(alloc, left, inquiry, taught, asked)?;
+            let right = infer(alloc, right, inquiry, taught, asked)?;
+            Ok(forms::comparison(*comparison, (left, right)))
         }
         Expr::In(part, whole) => {
-            let part = infer(alloc, part, known, taught)?;
-            Ok(forms::membership(pair_of(alloc, whole, known, taught, part)?))
+            let part = infer(alloc, part, inquiry, taught, asked)?;
+            let whole = infer(alloc, whole, inquiry, taught, asked)?;
+            Ok(forms::membership((part, whole)))
         }
-        Expr::InBatch(term) => unfit(Kind::Bool, in_batch_unfit(known, taught, term)),
-        Expr::Defined(path) => unfit(Kind::Bool, tested_unfit(known, taught, &path.root)),
-        Expr::Undefinable(of) => Ok(forms::undefinable(infer(alloc, of, known, taught)?)),
-        Expr::PathStatus(_, path) => Ok(forms::status(of_path(alloc, path, known, taught)?)),
-        Expr::Status(_, of) => Ok(forms::status(infer(alloc, of, known, taught)?)),
-        Expr::PathOr(path, other) => of_default(alloc, path, other, known, taught),
+        Expr::InBatch(term) => unfit(Kind::Bool, in_batch_unfit(inquiry.known, taught, term)),
+        Expr::Defined(path) => {
+            let alias = of_alias(alloc, &path.root, inquiry, taught, asked)?;
+            let at = at_root(alloc, &path.root, inquiry.known, taught, alias)?;
+            unfit(Kind::Bool, at.tested)
+        }
+        Expr::Undefinable(of) => {
+            Ok(forms::undefinable(infer(alloc, of, inquiry, taught, asked)?))
+        }
+        Expr::PathStatus(_, path) => {
+            let alias = of_alias(alloc, &path.root, inquiry, taught, asked)?;
+            let at = at_root(alloc, &path.root, inquiry.known, taught, alias)?;
+            Ok(forms::status(of_path(path, inquiry.known, taught, at)?))
+        }
+        Expr::Status(_, of) => Ok(forms::status(infer(alloc, of, inquiry, taught, asked)?)),
+        Expr::PathOr(path, other) => {
+            let alias = of_alias(alloc, &path.root, inquiry, taught, asked)?;
+            let at = at_root(alloc, &path.root, inquiry.known, taught, alias)?;
+            let other = infer(alloc, other, inquiry, taught, asked)?;
+            path_or_else(
+                alloc,
+                path,
+                inquiry.known,
+                taught,
+                at,
+                forms::not_any(other),
+            )
+        }
         Expr::ValueOr(value, other) => {
-            let value = infer(alloc, value, known, taught)?;
-            Ok(forms::value_or(pair_of(alloc, other, known, taught, value)?))
+            let value = infer(alloc, value, inquiry, taught, asked)?;
+            let other = infer(alloc, other, inquiry, taught, asked)?;
+            Ok(forms::value_or((value, other)))
         }
-        Expr::Length(of) => Ok(forms::length(infer(alloc, of, known, taught)?)),
+        Expr::Length(of) => Ok(forms::length(infer(alloc, of, inquiry, taught, asked)?)),
         Expr::Join(items, between) => {
-            let items = infer(alloc, items, known, taught)?;
-            Ok(forms::joined(pair_of(alloc, between, known, taught, items)?))
+            let items = infer(alloc, items, inquiry, taught, asked)?;
+            let between = infer(alloc, between, inquiry, taught, asked)?;
+            Ok(forms::joined((items, between)))
         }
-        Expr::Concat(parts) => of_texts(alloc, parts, known, taught),
-        Expr::List(items) => of_items(alloc, items, known, taught),
-        Expr::Record(fields) => of_fields(alloc, fields, known, taught),
+        Expr::Concat(parts) => {
+            Ok(forms::texts(&infer_each(alloc, parts, inquiry, taught, asked)?))
+        }
+        Expr::List(items) => {
+            forms::items(alloc, &infer_each(alloc, items, inquiry, taught, asked)?)
+        }
+        Expr::Record(fields) => of_fields(alloc, fields, inquiry, taught, asked),
     }
 }
 
@@ -104,94 +141,142 @@ fn unfit(kind: Kind, unfit: Option<Unfit>) -> Result<Inferred, AllocError>
     Ok(Inferred { kind, unfit })
 }
 
-// What is found of the left operand, and of the right one.
+// What is found of the tree of a root that is a name of `vars`, where the root is one.
 #[cycle(infer)]
-fn pair_of<K: Known>(
+fn of_alias<K: Known>(
     alloc: Global,
-    right: &Expr,
-    known: &K,
+    root: &Root,
+    inquiry: &Inquiry<'_, K>,
     taught: &Taught,
-    left: Inferred,
-) -> Result<(Inferred, Inferred), AllocError>
-    ensures left { IfOk result (λ f. f.0 ≡ left) }
-    ensures kind { IfOk result (λ f. kind_view f.1.kind
-        ≡ kind_found (scope_view (K.scope known.now) taught.now) (expr_view right.now)) }
-    ensures fault { IfOk result (λ f. option_map fault_view f.1.unfit
-        ≡ fault (scope_view (K.scope known.now) taught.now) (expr_view right.now)) }
+    asked: &mut Asked,
+) -> Result<Option<Inferred>, AllocError>
+    requires { IsRight (K.before inquiry.now.known.now) taught.now asked.old }
+    ensures kind { let b = K.before inquiry.now.known.now in
+        IfOk result (λ a. option_map (λ i. kind_view i.kind) a
+        ≡ option_map (kind_found (scope_view b taught.now))
+        (alias_tree (expanded_root b.trees (root_view root.now)))) }
+    ensures fault { let b = K.before inquiry.now.known.now in
+        IfOk result (λ a. option_map fault_in a
+        ≡ option_map (fault (scope_view b taught.now))
+        (alias_tree (expanded_root b.trees (root_view root.now)))) }
+    ensures right { OnOk result
+        (IsRight (K.before inquiry.now.known.now) taught.now asked.new) }
 {
-    let right = infer(alloc, right, known, taught)?;
-    Ok((left, right))
+    let Some((name, tree)) = alias_of(inquiry.known, root) else {
+        return Ok(None);
+    };
+    if let Some(found) = asked.find(name.as_str()) {
+        return Ok(Some(found_copied(found)?));
+    }
+    let deeper = inquiry.deeper()?;
+    let found = infer(alloc, tree, &deeper, taught, asked)?;
+    asked.put(name, &found)?;
+    Ok(Some(found))
 }
 
-// Of a chain in which each operand is asked where those before it had that answer.
+// What is found of each of them.
+#[cycle(infer)]
+fn infer_each<K: Known>(
+    alloc: Global,
+    exprs: &[Expr],
+    inquiry: &Inquiry<'_, K>,
+    taught: &Taught,
+    asked: &mut Asked,
+) -> Result<Vec<Inferred>, AllocError>
+    requires { IsRight (K.before inquiry.now.known.now) taught.now asked.old }
+    ensures found { let b = K.before inquiry.now.known.now in
+        IfOk result (λ is. AreFound (scope_view b taught.now)
+        (all_expanded b.trees (exprs_view exprs.now)) is.items) }
+    ensures right { OnOk result
+        (IsRight (K.before inquiry.now.known.now) taught.now asked.new) }
+{
+    let mut all = Vec::new(alloc);
+    for expr in exprs {
+        let found = infer(alloc, expr, inquiry, taught, asked)?;
+        all.push(found)?;
+    }
+    Ok(all)
+}
+
+// Of a chain in which each operand is asked where those before it had that answer; what is taught
+// is copied only where an operand may teach.
+#[cycle(infer)]
+fn of_operands<K: Known>(
+    alloc: Global,
+    operands: &[Expr],
+    answer: bool,
+    inquiry: &Inquiry<'_, K>,
+    taught: &Taught,
+    asked: &mut Asked,
+) -> Result<Inferred, AllocError>
+    requires { IsRight (K.before inquiry.now.known.now) taught.now asked.old }
+    ensures kind { IfOk result (λ f. kind_view f.kind ≡ booleans) }
+    ensures fault { let b = K.before inquiry.now.known.now in
+        let c = scope_view b taught.now in
+        let es = all_expanded b.trees (exprs_view operands.now) in
+        IfOk result (λ f. fault_in f
+        ≡ first (chain_fault c es answer) (asks wrong_kind (are_booleans c es answer))) }
+    ensures right { OnOk result
+        (IsRight (K.before inquiry.now.known.now) taught.now asked.new) }
+{
+    if any_teaches(operands) {
+        let here = Here::copy(alloc, taught, asked)?;
+        of_chain(alloc, operands, answer, inquiry, here)
+    } else {
+        Ok(forms::truths(&infer_each(alloc, operands, inquiry, taught, asked)?))
+    }
+}
+
 #[cycle(infer)]
 fn of_chain<K: Known>(
     alloc: Global,
     operands: &[Expr],
     answer: bool,
-    known: &K,
-    taught: &Taught,
+    inquiry: &Inquiry<'_, K>,
+    before: Here,
 ) -> Result<Inferred, AllocError>
+    requires { IsRight (K.before inquiry.now.known.now) before.taught before.asked }
     ensures kind { IfOk result (λ f. kind_view f.kind ≡ booleans) }
-    ensures fault { let c = scope_view (K.scope known.now) taught.now in
-        let es = exprs_view operands.now in
-        IfOk result (λ f. option_map fault_view f.unfit
+    ensures fault { let b = K.before inquiry.now.known.now in
+        let c = scope_view b before.taught in
+        let es = all_expanded b.trees (exprs_view operands.now) in
+        IfOk result (λ f. fault_in f
         ≡ first (chain_fault c es answer) (asks wrong_kind (are_booleans c es answer))) }
 {
-    let mut more = None;
+    let mut here = before;
     let mut unfit = None;
     let mut are_bool = true;
     for operand in operands {
-        let found = infer(alloc, operand, known, taught_here(taught, &more))?;
+        let found = infer(alloc, operand, inquiry, &here.taught, &mut here.asked)?;
         unfit = first_of(unfit, found.unfit);
         are_bool = are_bool & found.kind.is_bool();
-        more = narrow_later(alloc, operand, answer, known, taught, more)?;
+        here = narrow_here(alloc, operand, answer, inquiry, here)?;
     }
     Ok(forms::asked(unfit, are_bool, Kind::Bool))
-}
-
-#[cycle(infer)]
-fn of_items<K: Known>(
-    alloc: Global,
-    items: &[Expr],
-    known: &K,
-    taught: &Taught,
-) -> Result<Inferred, AllocError>
-    ensures kind { let c = scope_view (K.scope known.now) taught.now in
-        let es = exprs_view items.now in
-        IfOk result (λ f. kind_view f.kind ≡ lists (items_kind c es) (count es)) }
-    ensures fault { IfOk result (λ f. option_map fault_view f.unfit
-        ≡ items_fault (scope_view (K.scope known.now) taught.now) (exprs_view items.now)) }
-{
-    let mut kinds = Vec::new(alloc);
-    let mut unfit = None;
-    for item in items {
-        let found = of_part(alloc, item, known, taught)?;
-        unfit = first_of(unfit, found.unfit);
-        kinds.push(found.kind)?;
-    }
-    let joined = join_all(alloc, &kinds)?;
-    let kind = Kind::of_item(alloc, joined, items.len())?;
-    Ok(Inferred { kind, unfit })
 }
 
 #[cycle(infer)]
 fn of_fields<K: Known>(
     alloc: Global,
     fields: &BTreeMap<String, Expr>,
-    known: &K,
+    inquiry: &Inquiry<'_, K>,
     taught: &Taught,
+    asked: &mut Asked,
 ) -> Result<Inferred, AllocError>
-    ensures kind { let c = scope_view (K.scope known.now) taught.now in
-        IfOk result (λ f. kind_view f.kind ≡ recs (parts_slots c (parts_view fields.now.entries))) }
-    ensures fault { let c = scope_view (K.scope known.now) taught.now in
-        IfOk result (λ f. option_map fault_view f.unfit
-        ≡ fields_fault c (parts_view fields.now.entries)) }
+    requires { IsRight (K.before inquiry.now.known.now) taught.now asked.old }
+    ensures kind { let b = K.before inquiry.now.known.now in
+        IfOk result (λ f. kind_view f.kind ≡ recs (parts_slots (scope_view b taught.now)
+        (parts_expanded b.trees (parts_view fields.now.entries)))) }
+    ensures fault { let b = K.before inquiry.now.known.now in
+        IfOk result (λ f. fault_in f ≡ fields_fault (scope_view b taught.now)
+        (parts_expanded b.trees (parts_view fields.now.entries))) }
+    ensures right { OnOk result
+        (IsRight (K.before inquiry.now.known.now) taught.now asked.new) }
 {
     let mut kinds = BTreeMap::new(alloc);
     let mut unfit = None;
     for (name, field) in fields.iter() {
-        let found = of_part(alloc, field, known, taught)?;
+        let found = forms::not_any(infer(alloc, field, inquiry, taught, asked)?);
         unfit = first_of(unfit, found.unfit);
         put_certain(&mut kinds, name, found.kind)?;
     }
@@ -199,116 +284,163 @@ fn of_fields<K: Known>(
     Ok(Inferred { kind, unfit })
 }
 
-// Of an item or a field, which isn't `Any`.
+// What is taught once the expression, too, had that answer.
 #[cycle(infer)]
-fn of_part<K: Known>(
+pub(crate) fn narrow_here<K: Known>(
     alloc: Global,
     expr: &Expr,
-    known: &K,
-    taught: &Taught,
-) -> Result<Inferred, AllocError>
-    ensures kind { IfOk result (λ f. kind_view f.kind
-        ≡ kind_found (scope_view (K.scope known.now) taught.now) (expr_view expr.now)) }
-    ensures fault { let c = scope_view (K.scope known.now) taught.now in
-        let e = expr_view expr.now in
-        IfOk result (λ f. option_map fault_view f.unfit
-        ≡ first (fault c e) (asks wrong_kind (not (is_anything (kind_found c e))))) }
+    answer: bool,
+    inquiry: &Inquiry<'_, K>,
+    here: Here,
+) -> Result<Here, AllocError>
+    requires { IsRight (K.before inquiry.now.known.now) here.taught here.asked }
+    ensures taught { let b = K.before inquiry.now.known.now in
+        IfOk result (λ h. scope_view b h.taught
+        ≡ narrow (scope_view b here.taught) (expanded b.trees (expr_view expr.now)) answer) }
+    ensures right { IfOk result
+        (λ h. IsRight (K.before inquiry.now.known.now) h.taught h.asked) }
 {
-    Ok(forms::not_any(infer(alloc, expr, known, taught)?))
+    match expr {
+        Expr::Not(operand) => narrow_here(alloc, operand, !answer, inquiry, here),
+        Expr::And(operands) if answer => narrow_each(alloc, operands, answer, inquiry, here),
+        Expr::And(operands) => narrow_some(alloc, operands, answer, inquiry, here),
+        Expr::Or(operands) if answer => narrow_some(alloc, operands, answer, inquiry, here),
+        Expr::Or(operands) => narrow_each(alloc, operands, answer, inquiry, here),
+        Expr::InBatch(term) if answer => {
+            let taught = show_active(alloc, term, inquiry.known, here.taught)?;
+            Ok(here_anew(alloc, taught))
+        }
+        Expr::Defined(path) if answer => {
+            let mut here = here;
+            let alias = of_alias(alloc, &path.root, inquiry, &here.taught, &mut here.asked)?;
+            let taught = show(alloc, path, inquiry.known, here.taught, alias)?;
+            Ok(here_anew(alloc, taught))
+        }
+        Expr::PathStatus(status, path) => {
+            let mut here = here;
+            let alias = of_alias(alloc, &path.root, inquiry, &here.taught, &mut here.asked)?;
+            let taught = show_status(
+                alloc,
+                (*status, answer),
+                path,
+                inquiry.known,
+                here.taught,
+                alias,
+            )?;
+            Ok(here_anew(alloc, taught))
+        }
+        Expr::InBatch(_) | Expr::Hostvars(_) => Ok(here),
+        Expr::Literal(_) | Expr::Path(_) | Expr::Compare(_, _, _) | Expr::In(_, _) => Ok(here),
+        Expr::Defined(_) | Expr::Undefinable(_) | Expr::Status(_, _) => Ok(here),
+        Expr::PathOr(_, _) | Expr::ValueOr(_, _) | Expr::Length(_) => Ok(here),
+        Expr::Join(_, _) | Expr::Concat(_) | Expr::List(_) | Expr::Record(_) => Ok(here),
+    }
 }
 
-// Of a text of several parts.
+// Each operand had that answer.
 #[cycle(infer)]
-fn of_texts<K: Known>(
+fn narrow_each<K: Known>(
     alloc: Global,
-    parts: &[Expr],
-    known: &K,
-    taught: &Taught,
-) -> Result<Inferred, AllocError>
-    ensures kind { IfOk result (λ f. kind_view f.kind ≡ texts) }
-    ensures fault { let c = scope_view (K.scope known.now) taught.now in
-        let es = exprs_view parts.now in
-        IfOk result (λ f. option_map fault_view f.unfit
-        ≡ first (parts_fault c es) (asks wrong_kind (are_plain c es))) }
+    operands: &[Expr],
+    answer: bool,
+    inquiry: &Inquiry<'_, K>,
+    before: Here,
+) -> Result<Here, AllocError>
+    requires { IsRight (K.before inquiry.now.known.now) before.taught before.asked }
+    ensures taught { let b = K.before inquiry.now.known.now in
+        IfOk result (λ h. scope_view b h.taught ≡ narrow_each (scope_view b before.taught)
+        (all_expanded b.trees (exprs_view operands.now)) answer) }
+    ensures right { IfOk result
+        (λ h. IsRight (K.before inquiry.now.known.now) h.taught h.asked) }
 {
-    let mut unfit = None;
-    let mut are_plain = true;
-    for part in parts {
-        let found = infer(alloc, part, known, taught)?;
-        unfit = first_of(unfit, found.unfit);
-        are_plain = are_plain & is_plain(&found.kind);
+    let mut here = before;
+    for operand in operands {
+        here = narrow_here(alloc, operand, answer, inquiry, here)?;
     }
-    Ok(forms::asked(unfit, are_plain, Kind::Text))
+    Ok(here)
+}
+
+// One of the operands had that answer, and those before it hadn't; where none teaches anything
+// nothing is looked at.
+#[cycle(infer)]
+fn narrow_some<K: Known>(
+    alloc: Global,
+    operands: &[Expr],
+    answer: bool,
+    inquiry: &Inquiry<'_, K>,
+    before: Here,
+) -> Result<Here, AllocError>
+    requires { IsRight (K.before inquiry.now.known.now) before.taught before.asked }
+    ensures taught { let b = K.before inquiry.now.known.now in
+        let c = scope_view b before.taught in
+        let es = all_expanded b.trees (exprs_view operands.now) in
+        IfOk result (λ h. scope_view b h.taught
+        ≡ where_taught (any_teaches es) (narrow_some c es answer) c) }
+    ensures right { IfOk result
+        (λ h. IsRight (K.before inquiry.now.known.now) h.taught h.asked) }
+{
+    if !any_teaches(operands) {
+        return Ok(before);
+    }
+    let mut ways = Vec::new(alloc);
+    let mut here = before;
+    for operand in operands {
+        let way = inquiry.way(alloc, &here)?;
+        let way = narrow_here(alloc, operand, answer, inquiry, way)?;
+        ways.push(way.taught)?;
+        here = narrow_here(alloc, operand, !answer, inquiry, here)?;
+    }
+    let taught = taught_by_all(alloc, ways, here.taught)?;
+    Ok(here_anew(alloc, taught))
 }
 
 // Of the value at the end of the path, or of the other where there may be none.
-#[cycle(infer)]
-fn of_default<K: Known>(
-    alloc: Global,
-    path: &Path,
-    other: &Expr,
-    known: &K,
-    taught: &Taught,
-) -> Result<Inferred, AllocError>
-    ensures kind { let c = scope_view (K.scope known.now) taught.now in
-        IfOk result (λ f. kind_view f.kind ≡ kind_found c
-        (path_or (root_view path.now.root) (names_of path.now.steps.items)
-        (expr_view other.now))) }
-    ensures fault { let c = scope_view (K.scope known.now) taught.now in
-        IfOk result (λ f. option_map fault_view f.unfit ≡ fault c
-        (path_or (root_view path.now.root) (names_of path.now.steps.items)
-        (expr_view other.now))) }
-{
-    let other = of_part(alloc, other, known, taught)?;
-    path_or_else(alloc, path, known, taught, other)
-}
-
 fn path_or_else<K: Known>(
     alloc: Global,
     path: &Path,
     known: &K,
     taught: &Taught,
+    at: AtRoot,
     other: Inferred,
 ) -> Result<Inferred, AllocError>
-    ensures kind { let c = scope_view (K.scope known.now) taught.now in
-        let r = root_view path.now.root in
+    ensures kind { let b = K.before known.now in
+        let r = expanded_root b.trees (root_view path.now.root) in
         let ns = names_of path.now.steps.items in
-        IfOk result (λ f. kind_view f.kind ≡ default_kind
-        (shown_spot (is_shown c r ns) (path_spot ns (root_spot c r))) (kind_view other.kind)) }
-    ensures fault { let c = scope_view (K.scope known.now) taught.now in
-        IfOk result (λ f. option_map fault_view f.unfit
-        ≡ first (tested_fault c (root_view path.now.root))
-        (option_map fault_view other.unfit)) }
+        IfOk result (λ f. kind_view f.kind
+        ≡ default_kind (shown_spot (is_shown (scope_view b taught.now) r ns)
+        (path_spot ns (slot_given at.slot))) (kind_view other.kind)) }
+    ensures fault { IfOk result (λ f. fault_in f
+        ≡ first (option_map fault_view at.tested) (fault_in other)) }
 {
-    let unfit = first_of(tested_unfit(known, taught, &path.root), other.unfit);
-    let slot = root_slot(alloc, &path.root, known, taught)?;
+    let unfit = first_of(at.tested, other.unfit);
     let is_shown = is_present(known, taught, path);
-    let kind = kind_or(alloc, &slot, &path.steps, is_shown, other.kind)?;
+    let kind = kind_or(alloc, &at.slot, &path.steps, is_shown, other.kind)?;
     Ok(Inferred { kind, unfit })
 }
 
 // Of the value at the end of a path.
 fn of_path<K: Known>(
-    alloc: Global,
     path: &Path,
     known: &K,
     taught: &Taught,
+    at: AtRoot,
 ) -> Result<Inferred, AllocError>
-    ensures kind { let c = scope_view (K.scope known.now) taught.now in
-        IfOk result (λ f. kind_view f.kind ≡ kind_found c
-        (path_of (root_view path.now.root) (names_of path.now.steps.items))) }
-    ensures fault { let c = scope_view (K.scope known.now) taught.now in
-        IfOk result (λ f. option_map fault_view f.unfit ≡ fault c
-        (path_of (root_view path.now.root) (names_of path.now.steps.items))) }
+    ensures kind { IfOk result (λ f. kind_view f.kind
+        ≡ spot_kind (path_spot (names_of path.now.steps.items) (slot_given at.slot))) }
+    ensures fault { let b = K.before known.now in
+        let r = expanded_root b.trees (root_view path.now.root) in
+        let ns = names_of path.now.steps.items in
+        IfOk result (λ f. fault_in f ≡ path_fault (is_shown (scope_view b taught.now) r ns)
+        (option_map fault_view at.tested) (option_map fault_view at.read)
+        (steps_fault ns (spot_kind (slot_given at.slot)))) }
 {
-    let slot = root_slot(alloc, &path.root, known, taught)?;
-    let unfit = path_unfit(known, taught, path, &slot);
-    let kind = kind_at_end(&slot, &path.steps)?;
+    let unfit = path_unfit(known, taught, path, &at);
+    let kind = kind_at_end(&at.slot, &path.steps)?;
     Ok(Inferred { kind, unfit })
 }
 
 fn in_batch_unfit<K: Known>(known: &K, taught: &Taught, term: &Term) -> Option<Unfit>
-    ensures { let c = scope_view (K.scope known.now) taught.now in
+    ensures { let c = scope_view (K.before known.now) taught.now in
         option_map fault_view result
         ≡ first (term_fault c (term_view term.now)) (active_fault c (term_view term.now)) }
 {

@@ -12,6 +12,7 @@
 #![tactic(auto)]
 
 pub mod aliases;
+mod asked;
 mod both;
 pub mod change;
 pub mod defined;
@@ -21,6 +22,7 @@ mod filter;
 pub mod fit;
 mod forms;
 mod inference;
+mod inferred;
 mod kinds;
 pub mod known;
 mod literal;

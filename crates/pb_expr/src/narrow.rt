@@ -1,15 +1,23 @@
 // What the answer of a test teaches of what is known.
-ghost use Rattle.std.specs.Prelude.{◌∷◌, ◌≡◌, IfOk, string_bytes};
+ghost use Rattle.std.specs.Prelude.{◌∷◌, ◌≡◌, IfOk, option_map, string_bytes};
+ghost use Rattle.pb_language.specs.Expansion.{all_expanded, expanded, expanded_root};
+ghost use Rattle.pb_language.specs.Kinds.{kind_of};
 ghost use Rattle.pb_language.specs.Narrow.{answers, any_teaches, cases_with, changed_at};
-ghost use Rattle.pb_language.specs.Narrow.{changed_spot, narrow, narrow_each, narrow_some};
-ghost use Rattle.pb_language.specs.Narrow.{on_results, teach, teach_active, teach_present};
-ghost use Rattle.pb_language.specs.Narrow.{teaches, where_taught};
-ghost use Rattle.pb_language.specs.Scope.{Scope, resolved, resolved_term};
+ghost use Rattle.pb_language.specs.Narrow.{changed_spot, narrow, on_results, teach, teach_active};
+ghost use Rattle.pb_language.specs.Narrow.{teach_present, teaches};
+ghost use Rattle.pb_language.specs.Scope.{resolved, resolved_term};
+ghost use Rattle.pb_value.specs.Words.{kind_view};
 ghost use Rattle.pb_syntax.specs.ExprView.{expr_view, exprs_view, names_of, root_view};
 ghost use Rattle.pb_syntax.specs.ExprView.{status_view, term_view};
-ghost use Rattle.pb_expr.specs.TaughtView.{here_view, scope_view, scopes_view, taught_by};
+ghost use Rattle.pb_expr.specs.Aliases.{Trees};
+ghost use Rattle.pb_expr.specs.Before.{Before};
+ghost use Rattle.pb_expr.specs.Found.{alias_tree};
+ghost use Rattle.pb_expr.specs.TaughtView.{scope_view, scopes_view, taught_by};
 
+use crate::asked::{all_turns, here_anew, inquiry_of};
 use crate::change::{Change, teach};
+use crate::inference::narrow_here;
+use crate::inferred::Inferred;
 use crate::known::Known;
 use crate::scope::{Taught, both, names_copied};
 use pb_syntax::{Expr, Member, Path, Root, Status, Term};
@@ -23,8 +31,8 @@ use std::sync::Arc;
 ///
 /// # Errors
 ///
-/// Want of memory.
-#[cycle(narrow)]
+/// Want of memory, also where a chain of names of `vars` has more than 8 of them, and past 65,536
+/// trees of such names that are asked and ways that are taken.
 pub fn narrow<K: Known>(
     alloc: Global,
     expr: &Expr,
@@ -32,135 +40,24 @@ pub fn narrow<K: Known>(
     known: &K,
     taught: Taught,
 ) -> Result<Taught, AllocError>
-    ensures { IfOk result (λ t. scope_view (K.scope known.now) t
-        ≡ narrow (scope_view (K.scope known.now) taught) (expr_view expr.now) answer) }
+    ensures { let b = K.before known.now in
+        IfOk result (λ t. scope_view b t
+        ≡ narrow (scope_view b taught) (expanded b.trees (expr_view expr.now)) answer) }
 {
-    match expr {
-        Expr::Not(operand) => narrow(alloc, operand, !answer, known, taught),
-        Expr::And(operands) if answer => narrow_each(alloc, operands, answer, known, taught),
-        Expr::And(operands) => narrow_any(alloc, operands, answer, known, taught),
-        Expr::Or(operands) if answer => narrow_any(alloc, operands, answer, known, taught),
-        Expr::Or(operands) => narrow_each(alloc, operands, answer, known, taught),
-        Expr::InBatch(term) if answer => show_active(alloc, term, known, taught),
-        Expr::Defined(path) if answer => show(alloc, path, known, taught),
-        Expr::PathStatus(status, path) => {
-            show_status(alloc, *status, answer, path, known, taught)
-        }
-        Expr::InBatch(_) | Expr::Hostvars(_) => Ok(taught),
-        Expr::Literal(_) | Expr::Path(_) | Expr::Compare(_, _, _) | Expr::In(_, _) => Ok(taught),
-        Expr::Defined(_) | Expr::Undefinable(_) | Expr::Status(_, _) => Ok(taught),
-        Expr::PathOr(_, _) | Expr::ValueOr(_, _) | Expr::Length(_) => Ok(taught),
-        Expr::Join(_, _) | Expr::Concat(_) | Expr::List(_) | Expr::Record(_) => Ok(taught),
-    }
-}
-
-// What is taught here: more than was given, where there is a copy with more.
-pub(crate) fn taught_here<'t>(taught: &'t Taught, more: &'t Option<Taught>) -> &'t Taught
-    ensures { (c : Scope) → scope_view c result.now ≡ here_view c taught.now more.now }
-{
-    match more {
-        Some(more) => more,
-        None => taught,
-    }
-}
-
-// What is taught after an operand of a chain, which takes a copy only where the operand may teach.
-pub(crate) fn narrow_later<K: Known>(
-    alloc: Global,
-    operand: &Expr,
-    answer: bool,
-    known: &K,
-    taught: &Taught,
-    more: Option<Taught>,
-) -> Result<Option<Taught>, AllocError>
-    ensures { let c = K.scope known.now in
-        IfOk result (λ m. here_view c taught.now m
-        ≡ narrow (here_view c taught.now more) (expr_view operand.now) answer) }
-{
-    if teaches(operand) {
-        let here = own_taught(alloc, taught, more)?;
-        return Ok(Some(narrow(alloc, operand, answer, known, here)?));
-    }
-    Ok(more)
-}
-
-// What is taught here, to be changed.
-fn own_taught(alloc: Global, taught: &Taught, more: Option<Taught>) -> Result<Taught, AllocError>
-    ensures { IfOk result (λ t. (c : Scope) → scope_view c t ≡ here_view c taught.now more) }
-{
-    match more {
-        Some(more) => Ok(more),
-        None => taught.copy(alloc),
-    }
-}
-
-// Each operand had that answer.
-#[cycle(narrow)]
-fn narrow_each<K: Known>(
-    alloc: Global,
-    operands: &[Expr],
-    answer: bool,
-    known: &K,
-    taught: Taught,
-) -> Result<Taught, AllocError>
-    ensures { IfOk result (λ t. scope_view (K.scope known.now) t
-        ≡ narrow_each (scope_view (K.scope known.now) taught) (exprs_view operands.now) answer) }
-{
-    let mut here = taught;
-    for operand in operands {
-        here = narrow(alloc, operand, answer, known, here)?;
-    }
-    Ok(here)
-}
-
-// Some operand had that answer; where none teaches anything nothing is looked at.
-#[cycle(narrow)]
-fn narrow_any<K: Known>(
-    alloc: Global,
-    operands: &[Expr],
-    answer: bool,
-    known: &K,
-    taught: Taught,
-) -> Result<Taught, AllocError>
-    ensures { IfOk result (λ t. scope_view (K.scope known.now) t
-        ≡ where_taught (any_teaches (exprs_view operands.now))
-        (narrow_some (scope_view (K.scope known.now) taught) (exprs_view operands.now) answer)
-        (scope_view (K.scope known.now) taught)) }
-{
-    if any_teaches(operands) {
-        narrow_some(alloc, operands, answer, known, taught)
-    } else {
-        Ok(taught)
-    }
-}
-
-// One of the operands had that answer, and those before it hadn't.
-#[cycle(narrow)]
-fn narrow_some<K: Known>(
-    alloc: Global,
-    operands: &[Expr],
-    answer: bool,
-    known: &K,
-    taught: Taught,
-) -> Result<Taught, AllocError>
-    ensures { IfOk result (λ t. scope_view (K.scope known.now) t
-        ≡ narrow_some (scope_view (K.scope known.now) taught) (exprs_view operands.now) answer) }
-{
-    let mut ways = Vec::new(alloc);
-    let mut here = taught;
-    for operand in operands {
-        let before = here.copy(alloc)?;
-        let way = narrow(alloc, operand, answer, known, before)?;
-        ways.push(way)?;
-        here = narrow(alloc, operand, !answer, known, here)?;
-    }
-    taught_by_all(alloc, ways, here)
+    let turns = all_turns();
+    let inquiry = inquiry_of(known, &turns);
+    let here = narrow_here(alloc, expr, answer, &inquiry, here_anew(alloc, taught))?;
+    Ok(here.taught)
 }
 
 // What all ways teach; where there is no way, what was taught before.
-fn taught_by_all(alloc: Global, ways: Vec<Taught>, before: Taught) -> Result<Taught, AllocError>
-    ensures { IfOk result (λ t. (c : Scope) → scope_view c t
-        ≡ taught_by (scopes_view c ways.items) (scope_view c before)) }
+pub(crate) fn taught_by_all(
+    alloc: Global,
+    ways: Vec<Taught>,
+    before: Taught,
+) -> Result<Taught, AllocError>
+    ensures { IfOk result (λ t. (b : Before) → scope_view b t
+        ≡ taught_by (scopes_view b ways.items) (scope_view b before)) }
 {
     let mut ways = ways;
     let Some(last) = ways.pop() else {
@@ -176,7 +73,7 @@ fn taught_by_all(alloc: Global, ways: Vec<Taught>, before: Taught) -> Result<Tau
 // Whether the answer of the expression may teach something.
 #[cycle(teaches)]
 fn teaches(expr: &Expr) -> bool
-    ensures { result ≡ teaches (expr_view expr.now) }
+    ensures { (f : Trees) → result ≡ teaches (expanded f (expr_view expr.now)) }
 {
     match expr {
         Expr::Not(operand) => teaches(operand),
@@ -191,8 +88,8 @@ fn teaches(expr: &Expr) -> bool
 }
 
 #[cycle(teaches)]
-fn any_teaches(operands: &[Expr]) -> bool
-    ensures { result ≡ any_teaches (exprs_view operands.now) }
+pub(crate) fn any_teaches(operands: &[Expr]) -> bool
+    ensures { (f : Trees) → result ≡ any_teaches (all_expanded f (exprs_view operands.now)) }
 {
     for operand in operands {
         if teaches(operand) {
@@ -202,37 +99,52 @@ fn any_teaches(operands: &[Expr]) -> bool
     false
 }
 
-// The test of that status at the end of the path had that answer.
-fn show_status<K: Known>(
+// The test of a status at the end of the path had that answer; what was found of the root's tree is
+// given where it is a name of `vars`.
+pub(crate) fn show_status<K: Known>(
     alloc: Global,
-    status: Status,
-    answer: bool,
+    test: (Status, bool),
     path: &Path,
     known: &K,
     taught: Taught,
+    alias: Option<Inferred>,
 ) -> Result<Taught, AllocError>
-    ensures { let k = K.scope known.now in
-        IfOk result (λ t. scope_view k t ≡ teach (scope_view k taught)
+    requires { let b = K.before known.now in
+        option_map (λ i. kind_view i.kind) alias ≡ option_map (kind_of (scope_view b taught))
+        (alias_tree (expanded_root b.trees (root_view path.now.root))) }
+    ensures { let b = K.before known.now in
+        IfOk result (λ t. scope_view b t ≡ teach (scope_view b taught)
         (changed_spot (changed_at (names_of path.now.steps.items)
-        (on_results (cases_with (answers (status_view status) answer)))))
-        (root_view path.now.root)) }
+        (on_results (cases_with (answers (status_view test.0) test.1)))))
+        (expanded_root b.trees (root_view path.now.root))) }
 {
-    teach(alloc, Change::Answered(status, answer), path, known, taught)
+    teach(
+        alloc,
+        Change::Answered(test.0, test.1),
+        path,
+        known,
+        taught,
+        alias,
+    )
 }
 
 // The path was tested to be there.
-fn show<K: Known>(
+pub(crate) fn show<K: Known>(
     alloc: Global,
     path: &Path,
     known: &K,
     taught: Taught,
+    alias: Option<Inferred>,
 ) -> Result<Taught, AllocError>
-    ensures { let k = K.scope known.now in
-        IfOk result (λ t. scope_view k t ≡ teach_present (scope_view k taught)
-        (root_view path.now.root) (names_of path.now.steps.items)) }
+    requires { let b = K.before known.now in
+        option_map (λ i. kind_view i.kind) alias ≡ option_map (kind_of (scope_view b taught))
+        (alias_tree (expanded_root b.trees (root_view path.now.root))) }
+    ensures { let b = K.before known.now in
+        IfOk result (λ t. scope_view b t ≡ teach_present (scope_view b taught)
+        (expanded_root b.trees (root_view path.now.root)) (names_of path.now.steps.items)) }
 {
     let shown = Arc::new(alloc, shown_path(alloc, path, known)?)?;
-    let mut taught = teach(alloc, Change::There, path, known, taught)?;
+    let mut taught = teach(alloc, Change::There, path, known, taught, alias)?;
     taught.paths.insert(0, shown)?;
     Ok(taught)
 }
@@ -240,7 +152,7 @@ fn show<K: Known>(
 // The path, with its host by its name where that is known.
 fn shown_path<K: Known>(alloc: Global, path: &Path, known: &K) -> Result<Path, AllocError>
     ensures root { IfOk result (λ p. root_view p.root
-        ≡ resolved (K.scope known.now) (root_view path.now.root)) }
+        ≡ resolved (K.before known.now).scope (root_view path.now.root)) }
     ensures steps { IfOk result
         (λ p. names_of p.steps.items ≡ names_of path.now.steps.items) }
 {
@@ -251,7 +163,7 @@ fn shown_path<K: Known>(alloc: Global, path: &Path, known: &K) -> Result<Path, A
 
 fn shown_root<K: Known>(alloc: Global, root: &Root, known: &K) -> Result<Root, AllocError>
     ensures { IfOk result
-        (λ r. root_view r ≡ resolved (K.scope known.now) (root_view root.now)) }
+        (λ r. root_view r ≡ resolved (K.before known.now).scope (root_view root.now)) }
 {
     match root {
         Root::Variable(name) => Ok(Root::Variable(name.clone()?)),
@@ -265,7 +177,7 @@ fn shown_root<K: Known>(alloc: Global, root: &Root, known: &K) -> Result<Root, A
 
 fn shown_term<K: Known>(alloc: Global, term: &Term, known: &K) -> Result<Term, AllocError>
     ensures { IfOk result
-        (λ t. term_view t ≡ resolved_term (K.scope known.now) (term_view term.now)) }
+        (λ t. term_view t ≡ resolved_term (K.before known.now).scope (term_view term.now)) }
 {
     match term {
         Term::Named(name) => Ok(Term::Named(name.clone()?)),
@@ -289,13 +201,13 @@ fn member_copied(member: &Member) -> Result<Member, AllocError>
 }
 
 // The host was tested to be active in the batch.
-fn show_active<K: Known>(
+pub(crate) fn show_active<K: Known>(
     alloc: Global,
     term: &Term,
     known: &K,
     taught: Taught,
 ) -> Result<Taught, AllocError>
-    ensures { let k = K.scope known.now in
+    ensures { let k = K.before known.now in
         IfOk result (λ t. scope_view k t
         ≡ teach_active (scope_view k taught) (term_view term.now)) }
 {
@@ -315,8 +227,8 @@ fn show_active<K: Known>(
 }
 
 fn add_active(alloc: Global, host: &str, taught: Taught) -> Result<Taught, AllocError>
-    ensures { IfOk result (λ t. (c : Scope) → scope_view c t
-        ≡ record (scope_view c taught) { active = host.now ∷ (scope_view c taught).active }) }
+    ensures { IfOk result (λ t. (b : Before) → scope_view b t
+        ≡ record (scope_view b taught) { active = host.now ∷ (scope_view b taught).active }) }
 {
     let mut taught = taught;
     taught.active.insert(0, String::from_str(alloc, host)?)?;

@@ -1,28 +1,40 @@
 // What tests have taught of what is known where an expression is asked for.
-ghost use Rattle.std.specs.Prelude.{◌&&◌, ◌≡◌, IfOk, OnOk, nat_eq, string_bytes};
+ghost use Rattle.std.specs.Prelude.{◌&&◌, ◌≡◌, IfOk, OnOk, Some, nat_eq, option_map};
+ghost use Rattle.std.specs.Prelude.{string_bytes, unwrap_or};
 ghost use Rattle.std.specs.BTreeMap.{IsOrdered};
 ghost use Rattle.std.specs.Str.{bytes_eq};
 ghost use Rattle.std.specs.String.{string_cmp};
 ghost use Rattle.pb_semantics.specs.Keeps.{is_among};
 ghost use Rattle.pb_semantics.specs.Words.{put_slot};
-ghost use Rattle.pb_language.specs.Expression.{group_member, named_host};
+ghost use Rattle.pb_language.specs.Expansion.{expanded_root};
+ghost use Rattle.pb_language.specs.Expression.{Expression, group_member, named_host};
 ghost use Rattle.pb_language.specs.Same.{same_root, same_term};
-ghost use Rattle.pb_language.specs.Scope.{Scope, begins_with, both_names, both_present};
+ghost use Rattle.pb_language.specs.Scope.{begins_with, both_learned, both_names, both_present};
 ghost use Rattle.pb_language.specs.Scope.{both_scopes, is_present as is_shown, is_present_path};
-ghost use Rattle.pb_language.specs.Scope.{own_spot, resolved, resolved_term};
+ghost use Rattle.pb_language.specs.Scope.{learned_kind, own_spot, resolved, resolved_term};
 ghost use Rattle.pb_value.specs.Words.{is_always, kind_view, slots_view, spot_view};
 ghost use Rattle.pb_syntax.specs.ExprView.{names_of, root_view, term_view};
-ghost use Rattle.pb_expr.specs.TaughtView.{presents_view, scope_view, untaught};
+ghost use Rattle.pb_expr.specs.Aliases.{Trees};
+ghost use Rattle.pb_expr.specs.Before.{Before};
+ghost use Rattle.pb_expr.specs.TaughtView.{learned_view, presents_view, scope_view, untaught};
 
 use crate::both::{both_slots, both_views, views_copied};
 use crate::known::Known;
 use indexmap::IndexMap;
 use pb_syntax::{Member, Names, Path, Root, Term};
 use pb_value::below::find;
+use pb_value::join::join;
 use pb_value::{Kind, Slot, Slots, put_slot};
 use std::alloc::{AllocError, Global};
 use std::collections::BTreeMap;
 use std::sync::Arc;
+
+/// What a test taught of the value of a name of `vars`.
+#[derive(Drop)]
+pub struct Learned {
+    pub name: String,
+    pub kind: Kind,
+}
 
 /// What tests have taught, which lies over what was known before them.
 #[derive(Drop)]
@@ -31,6 +43,8 @@ pub struct Taught {
     pub slots: Slots,
     /// Of variables of hosts by their names.
     pub views: IndexMap<String, Slots>,
+    /// Of values of names of `vars`, the last one first.
+    pub learned: Vec<Learned>,
     /// The paths that were tested to be there, the last one first.
     pub paths: Vec<Arc<Path>>,
     /// The hosts that are known to be active in the batch, the last one first.
@@ -44,11 +58,12 @@ pub struct Taught {
 impl Taught {
     /// Where no test has been made.
     pub fn nothing(alloc: Global) -> Taught
-        ensures { (c : Scope) → scope_view c result ≡ untaught c }
+        ensures { (b : Before) → scope_view b result ≡ untaught b.scope }
     {
         Taught {
             slots: BTreeMap::new(alloc),
             views: IndexMap::new(alloc),
+            learned: Vec::new(alloc),
             paths: Vec::new(alloc),
             active: Names::new(alloc),
             item_slots: BTreeMap::new(alloc),
@@ -62,11 +77,12 @@ impl Taught {
     ///
     /// Want of memory.
     pub fn copy(&self, alloc: Global) -> Result<Taught, AllocError>
-        ensures { IfOk result (λ t. (c : Scope) → scope_view c t ≡ scope_view c self.now) }
+        ensures { IfOk result (λ t. (b : Before) → scope_view b t ≡ scope_view b self.now) }
     {
         Ok(Taught {
             slots: slots_copied(alloc, &self.slots)?,
             views: views_copied(alloc, &self.views)?,
+            learned: learned_copied(alloc, &self.learned)?,
             paths: paths_copied(alloc, &self.paths)?,
             active: names_copied(alloc, &self.active)?,
             item_slots: slots_copied(alloc, &self.item_slots)?,
@@ -105,8 +121,22 @@ pub(crate) fn slot_copied(slot: &Slot<Kind>) -> Result<Slot<Kind>, AllocError>
     })
 }
 
+fn learned_copied(alloc: Global, learned: &[Learned]) -> Result<Vec<Learned>, AllocError>
+    ensures { IfOk result
+        (λ ls. (f : Trees) → learned_view f ls.items ≡ learned_view f learned.now) }
+{
+    let mut all = Vec::new(alloc);
+    for taught in learned {
+        let name = taught.name.clone()?;
+        let kind = taught.kind.clone()?;
+        all.push(Learned { name, kind })?;
+    }
+    Ok(all)
+}
+
 fn paths_copied(alloc: Global, paths: &[Arc<Path>]) -> Result<Vec<Arc<Path>>, AllocError>
-    ensures { IfOk result (λ ps. presents_view ps.items ≡ presents_view paths.now) }
+    ensures { IfOk result
+        (λ ps. (f : Trees) → presents_view f ps.items ≡ presents_view f paths.now) }
 {
     let mut all = Vec::new(alloc);
     for path in paths {
@@ -132,7 +162,7 @@ pub(crate) fn own_slot<'s, K: Known>(
     taught: &'s Taught,
     name: &str,
 ) -> Option<&'s Slot<Kind>>
-    ensures { spot_view result ≡ own_spot (scope_view (K.scope known.now) taught.now) name.now }
+    ensures { spot_view result ≡ own_spot (scope_view (K.before known.now) taught.now) name.now }
 {
     match find(&taught.slots, name) {
         Some(slot) => Some(slot),
@@ -140,10 +170,37 @@ pub(crate) fn own_slot<'s, K: Known>(
     }
 }
 
+// What was taught last of the value of that name of `vars`.
+pub(crate) fn kind_learned<'t>(learned: &'t [Learned], name: &str) -> Option<&'t Kind>
+    ensures { (f : Trees) (e : Expression) → f name.now ≡ Some e
+        → learned_kind name.now e (learned_view f learned.now)
+        ≡ option_map (λ k. kind_view k.now) result }
+{
+    for taught in learned {
+        if name == taught.name.as_str() {
+            return Some(&taught.kind);
+        }
+    }
+    None
+}
+
+// The kind of the value of a name of `vars`, of which tests may have taught more than its tree's.
+pub(crate) fn alias_kind(learned: &[Learned], name: &str, kind: Kind) -> Result<Kind, AllocError>
+    ensures { IfOk result (λ k. (f : Trees) (e : Expression) → f name.now ≡ Some e
+        → kind_view k ≡ unwrap_or (learned_kind name.now e (learned_view f learned.now))
+        (kind_view kind)) }
+{
+    match kind_learned(learned, name) {
+        Some(learned) => learned.clone(),
+        None => Ok(kind),
+    }
+}
+
 // Whether a test showed that the path is there.
 pub(crate) fn is_present<K: Known>(known: &K, taught: &Taught, path: &Path) -> bool
-    ensures { result ≡ is_shown (scope_view (K.scope known.now) taught.now)
-        (root_view path.now.root) (names_of path.now.steps.items) }
+    ensures { let b = K.before known.now in
+        result ≡ is_shown (scope_view b taught.now)
+        (expanded_root b.trees (root_view path.now.root)) (names_of path.now.steps.items) }
 {
     for shown in &taught.paths {
         if is_root(known, &path.root, &shown.root) && begins(&path.steps, &shown.steps) {
@@ -154,9 +211,11 @@ pub(crate) fn is_present<K: Known>(known: &K, taught: &Taught, path: &Path) -> b
 }
 
 // Whether the root, with its host by its name where that is known, is the other.
+#[tactic(auto, using(crate::proofs::NamedRoots::same_named, crate::proofs::NamedRoots::named_other, crate::proofs::NamedRoots::named_member, crate::proofs::NamedRoots::other_named, crate::proofs::NamedRoots::member_named, crate::proofs::NamedRoots::resolved_named))]
 fn is_root<K: Known>(known: &K, root: &Root, shown: &Root) -> bool
-    ensures { result
-        ≡ same_root (resolved (K.scope known.now) (root_view root.now)) (root_view shown.now) }
+    ensures { let b = K.before known.now in
+        result ≡ same_root (resolved b.scope (expanded_root b.trees (root_view root.now)))
+        (expanded_root b.trees (root_view shown.now)) }
 {
     match (root, shown) {
         (Root::Variable(name), Root::Variable(other)) => name == other,
@@ -170,7 +229,7 @@ fn is_root<K: Known>(known: &K, root: &Root, shown: &Root) -> bool
 
 // Whether the term, by its host's name where that is known, is the other.
 fn is_term<K: Known>(known: &K, term: &Term, shown: &Term) -> bool
-    ensures { result ≡ same_term (resolved_term (K.scope known.now) (term_view term.now))
+    ensures { result ≡ same_term (resolved_term (K.before known.now).scope (term_view term.now))
         (term_view shown.now) }
 {
     match term {
@@ -212,8 +271,8 @@ fn is_member(one: &Member, other: &Member) -> bool
 
 // Whether the paths show that the path is there.
 fn shows(paths: &[Arc<Path>], path: &Path) -> bool
-    ensures { result ≡ is_present_path (root_view path.now.root) (names_of path.now.steps.items)
-        (presents_view paths.now) }
+    ensures { (f : Trees) → result ≡ is_present_path (expanded_root f (root_view path.now.root))
+        (names_of path.now.steps.items) (presents_view f paths.now) }
 {
     for shown in paths {
         if is_same_root(&path.root, &shown.root) && begins(&path.steps, &shown.steps) {
@@ -223,8 +282,10 @@ fn shows(paths: &[Arc<Path>], path: &Path) -> bool
     false
 }
 
+#[tactic(auto, using(crate::proofs::NamedRoots::same_named, crate::proofs::NamedRoots::named_other, crate::proofs::NamedRoots::named_member, crate::proofs::NamedRoots::other_named, crate::proofs::NamedRoots::member_named))]
 fn is_same_root(one: &Root, other: &Root) -> bool
-    ensures { result ≡ same_root (root_view one.now) (root_view other.now) }
+    ensures { (f : Trees) → result
+        ≡ same_root (expanded_root f (root_view one.now)) (expanded_root f (root_view other.now)) }
 {
     match (one, other) {
         (Root::Variable(name), Root::Variable(other)) => name == other,
@@ -261,12 +322,13 @@ fn begins(few: &[String], many: &[String]) -> bool
 
 // What both ways of two teach, of which one was taken.
 pub(crate) fn both(alloc: Global, one: &Taught, other: &Taught) -> Result<Taught, AllocError>
-    ensures { IfOk result (λ t. (c : Scope) →
-        scope_view c t ≡ both_scopes (scope_view c one.now) (scope_view c other.now)) }
+    ensures { IfOk result (λ t. (b : Before) →
+        scope_view b t ≡ both_scopes (scope_view b one.now) (scope_view b other.now)) }
 {
     Ok(Taught {
         slots: both_slots(alloc, &one.slots, &other.slots)?,
         views: both_views(alloc, &one.views, &other.views)?,
+        learned: both_learned(alloc, &one.learned, &other.learned)?,
         paths: both_paths(alloc, &one.paths, &other.paths)?,
         active: both_names(alloc, &one.active, &other.active)?,
         item_slots: both_slots(alloc, &one.item_slots, &other.item_slots)?,
@@ -274,13 +336,32 @@ pub(crate) fn both(alloc: Global, one: &Taught, other: &Taught) -> Result<Taught
     })
 }
 
+fn both_learned(
+    alloc: Global,
+    few: &[Learned],
+    many: &[Learned],
+) -> Result<Vec<Learned>, AllocError>
+    ensures { IfOk result (λ ls. (f : Trees) → learned_view f ls.items
+        ≡ both_learned (learned_view f few.now) (learned_view f many.now)) }
+{
+    let mut all = Vec::new(alloc);
+    for taught in few {
+        if let Some(other) = kind_learned(many, taught.name.as_str()) {
+            let kind = join(alloc, &taught.kind, other)?;
+            let name = taught.name.clone()?;
+            all.push(Learned { name, kind })?;
+        }
+    }
+    Ok(all)
+}
+
 fn both_paths(
     alloc: Global,
     few: &[Arc<Path>],
     many: &[Arc<Path>],
 ) -> Result<Vec<Arc<Path>>, AllocError>
-    ensures { IfOk result (λ ps. presents_view ps.items
-        ≡ both_present (presents_view few.now) (presents_view many.now)) }
+    ensures { IfOk result (λ ps. (f : Trees) → presents_view f ps.items
+        ≡ both_present (presents_view f few.now) (presents_view f many.now)) }
 {
     let mut all = Vec::new(alloc);
     for path in few {

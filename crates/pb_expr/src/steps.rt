@@ -1,8 +1,8 @@
 // What is asked of the steps of a path.
 ghost use Rattle.std.specs.Prelude.{◌∷◌, ◌≡◌, List, MatchResult, None, Some, option_map, true, ℕ};
 ghost use Rattle.pb_semantics.specs.Words.{Cases, results, slot_at as spot_at};
-ghost use Rattle.pb_language.specs.Fit.{path_fault, read_fault, tested_fault};
-ghost use Rattle.pb_language.specs.Kinds.{root_spot};
+ghost use Rattle.pb_language.specs.Expansion.{expanded_root};
+ghost use Rattle.pb_language.specs.Fit.{path_fault};
 ghost use Rattle.pb_language.specs.Scope.{is_present as is_shown};
 ghost use Rattle.pb_language.specs.Words.{spot_kind, steps_fault};
 ghost use Rattle.pb_value.specs.Words.{kind_view, slots_view};
@@ -11,36 +11,31 @@ ghost use Rattle.pb_expr.specs.FitView.{LeadsTo, certain, fault_view};
 ghost use Rattle.pb_expr.specs.TaughtView.{scope_view, slot_given};
 
 use crate::known::Known;
+use crate::roots::AtRoot;
 use crate::scope::{Taught, is_present};
-use crate::unfit::{Unfit, first_of, read_unfit, tested_unfit};
+use crate::unfit::{Unfit, first_of};
 use pb_syntax::Path;
 use pb_value::below::find;
 use pb_value::{Kind, Slot, Slots};
 
-// What a path that is read is asked for, little where a test showed that it is there; the slot is
-// that of its root.
+// What a path that is read is asked for, little where a test showed that it is there.
 pub(crate) fn path_unfit<K: Known>(
     known: &K,
     taught: &Taught,
     path: &Path,
-    slot: &Option<Slot<Kind>>,
+    at: &AtRoot,
 ) -> Option<Unfit>
-    requires { slot_given slot.now
-        ≡ root_spot (scope_view (K.scope known.now) taught.now) (root_view path.now.root) }
-    ensures { let c = scope_view (K.scope known.now) taught.now in
-        let r = root_view path.now.root in
+    ensures { let b = K.before known.now in
+        let r = expanded_root b.trees (root_view path.now.root) in
         let ns = names_of path.now.steps.items in
-        option_map fault_view result
-        ≡ path_fault (is_shown c r ns) (tested_fault c r) (read_fault c r)
-        (steps_fault ns (spot_kind (slot_given slot.now))) }
+        option_map fault_view result ≡ path_fault (is_shown (scope_view b taught.now) r ns)
+        (option_map fault_view at.now.tested) (option_map fault_view at.now.read)
+        (steps_fault ns (spot_kind (slot_given at.now.slot))) }
 {
     if is_present(known, taught, path) {
-        return tested_unfit(known, taught, &path.root);
+        return at.tested;
     }
-    first_of(
-        read_unfit(known, taught, &path.root, slot),
-        steps_unfit(slot, &path.steps),
-    )
+    first_of(at.read, steps_unfit(&at.slot, &path.steps))
 }
 
 // What the steps below a slot are asked for.

@@ -63,9 +63,9 @@ pub(crate) fn read_unfit<K: Known>(
     slot: &Option<Slot<Kind>>,
 ) -> Option<Unfit>
     requires { slot_given slot.now
-        ≡ root_spot (scope_view (K.scope known.now) taught.now) (root_view root.now) }
+        ≡ root_spot (scope_view (K.before known.now) taught.now) (root_view root.now) }
     ensures { option_map fault_view result
-        ≡ read_fault (scope_view (K.scope known.now) taught.now) (root_view root.now) }
+        ≡ read_fault (scope_view (K.before known.now) taught.now) (root_view root.now) }
 {
     match root {
         Root::Variable(_) => asked_of(is_sure(slot), Unfit::Undefined),
@@ -97,7 +97,7 @@ fn is_sure(slot: &Option<Slot<Kind>>) -> bool
 // What a value that is tested is asked for.
 pub(crate) fn tested_unfit<K: Known>(known: &K, taught: &Taught, root: &Root) -> Option<Unfit>
     ensures { option_map fault_view result
-        ≡ tested_fault (scope_view (K.scope known.now) taught.now) (root_view root.now) }
+        ≡ tested_fault (scope_view (K.before known.now) taught.now) (root_view root.now) }
 {
     match root {
         Root::Other(term, _) => hosts_unfit(known, taught, term),
@@ -108,7 +108,7 @@ pub(crate) fn tested_unfit<K: Known>(known: &K, taught: &Taught, root: &Root) ->
 // What a term is asked for: a certain item, or a host at that place of the group.
 pub(crate) fn term_unfit<K: Known>(known: &K, taught: &Taught, term: &Term) -> Option<Unfit>
     ensures { option_map fault_view result
-        ≡ term_fault (scope_view (K.scope known.now) taught.now) (term_view term.now) }
+        ≡ term_fault (scope_view (K.before known.now) taught.now) (term_view term.now) }
 {
     match term {
         Term::Named(_) | Term::This => None,
@@ -123,7 +123,7 @@ pub(crate) fn term_unfit<K: Known>(known: &K, taught: &Taught, term: &Term) -> O
 // What a term that is looked for in the batch is asked for: an item may not be opaque.
 pub(crate) fn active_unfit<K: Known>(known: &K, taught: &Taught, term: &Term) -> Option<Unfit>
     ensures { option_map fault_view result
-        ≡ active_fault (scope_view (K.scope known.now) taught.now) (term_view term.now) }
+        ≡ active_fault (scope_view (K.before known.now) taught.now) (term_view term.now) }
 {
     match term {
         Term::Item => item_unfit(known, taught),
@@ -133,7 +133,7 @@ pub(crate) fn active_unfit<K: Known>(known: &K, taught: &Taught, term: &Term) ->
 
 fn item_unfit<K: Known>(known: &K, taught: &Taught) -> Option<Unfit>
     ensures { option_map fault_view result
-        ≡ active_fault (scope_view (K.scope known.now) taught.now) item_host }
+        ≡ active_fault (scope_view (K.before known.now) taught.now) item_host }
 {
     match own_slot(known, taught, "item") {
         Some(slot) => asked_of(!holds_any(&slot.kind), Unfit::WrongKind),
@@ -144,7 +144,7 @@ fn item_unfit<K: Known>(known: &K, taught: &Taught) -> Option<Unfit>
 // What a term that names a host is asked for: an item is one of known hosts.
 fn hosts_unfit<K: Known>(known: &K, taught: &Taught, term: &Term) -> Option<Unfit>
     ensures { option_map fault_view result ≡ hosts_fault
-        (hosts_of (scope_view (K.scope known.now) taught.now) (term_view term.now)) }
+        (hosts_of (scope_view (K.before known.now) taught.now) (term_view term.now)) }
 {
     match term {
         Term::Item => item_hosts_unfit(known, taught),
@@ -154,7 +154,7 @@ fn hosts_unfit<K: Known>(known: &K, taught: &Taught, term: &Term) -> Option<Unfi
 
 fn item_hosts_unfit<K: Known>(known: &K, taught: &Taught) -> Option<Unfit>
     ensures { option_map fault_view result ≡ hosts_fault
-        (hosts_of (scope_view (K.scope known.now) taught.now) item_host) }
+        (hosts_of (scope_view (K.before known.now) taught.now) item_host) }
 {
     match &own_slot(known, taught, "item")?.kind {
         Kind::Never | Kind::Host(_) => None,

@@ -29,7 +29,7 @@ pub(crate) fn host_slot<K: Known>(
     host: &str,
 ) -> Result<Option<Slot<Kind>>, AllocError>
     ensures { IfOk result (λ s. slot_given s
-        ≡ host_spot (scope_view (K.scope known.now) taught.now) is_active name.now host.now) }
+        ≡ host_spot (scope_view (K.before known.now) taught.now) is_active name.now host.now) }
 {
     let found = view_slot(known, taught, name, host);
     if (is_active || has_name(&taught.active, host)) && known.lasts(host, name) {
@@ -47,7 +47,7 @@ fn view_slot<'s, K: Known>(
     host: &str,
 ) -> Option<&'s Slot<Kind>>
     ensures { spot_view result
-        ≡ view_spot (scope_view (K.scope known.now) taught.now) name.now host.now }
+        ≡ view_spot (scope_view (K.before known.now) taught.now) name.now host.now }
 {
     match taught_slot(&taught.views, name, host) {
         Some(slot) => Some(slot),
@@ -101,7 +101,7 @@ pub(crate) fn each_slot<K: Known>(
     hosts: &BTreeSet<String>,
 ) -> Result<Option<Slot<Kind>>, AllocError>
     ensures { IfOk result (λ s. slot_given s
-        ≡ each_spot (scope_view (K.scope known.now) taught.now) is_active name.now
+        ≡ each_spot (scope_view (K.before known.now) taught.now) is_active name.now
         (names_of hosts.now.keys)) }
 {
     let mut slots = Vec::new(alloc);
@@ -154,8 +154,8 @@ pub(crate) fn teach_host<K: Known>(
     name: &str,
     slot: Slot<Kind>,
 ) -> Result<Taught, AllocError>
-    ensures { let c = scope_view (K.scope known.now) taught in
-        IfOk result (λ t. scope_view (K.scope known.now) t ≡ cond (has_view host.now c.table)
+    ensures { let c = scope_view (K.before known.now) taught in
+        IfOk result (λ t. scope_view (K.before known.now) t ≡ cond (has_view host.now c.table)
         (record c {
           views = put_view host.now (with_slot name.now (is_always slot.presence)
               (kind_view slot.kind) (view_of host.now c.views)) c.views;

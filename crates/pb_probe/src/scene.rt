@@ -3,6 +3,7 @@ ghost use Rattle.std.specs.Prelude.{◌≡◌, IfOk, OnOk, false, string_bytes, 
 ghost use Rattle.pb_semantics.specs.Words.{put_field, put_slot};
 ghost use Rattle.pb_language.specs.Words.{known_kind};
 ghost use Rattle.pb_value.specs.Words.{fields_view, kind_view, slots_view, view};
+ghost use Rattle.pb_expr.specs.Words.{no_trees};
 ghost use Rattle.pb_sig.specs.Words.{known_view, result_kind};
 ghost use Rattle.pb_probe.specs.OneHost.{one_host_scope};
 ghost use Rattle.pb_probe.specs.Registered.{registered_kind};
@@ -23,7 +24,16 @@ pub struct Scene {
 }
 
 impl KnownVariables for Scene {
-    ghost scope = { λ s. one_host_scope (string_bytes s.host) (slots_view s.slots.entries) };
+    ghost before = { λ s. record {
+      scope = one_host_scope (string_bytes s.host) (slots_view s.slots.entries);
+      trees = no_trees;
+    } };
+
+    ghost depth = { λ _. 0 };
+
+    fn tree(&self, _: &str) -> Option<&Expr> {
+        None
+    }
 
     fn own(&self, name: &str) -> Option<&Slot<Kind>> {
         find(&self.slots, name)

@@ -1,2 +1,3 @@
+pub mod OneName
 pub mod TwoHosts
 pub mod TwoKnown

@@ -15,6 +15,8 @@ mod inventories;
 #[cfg(test)]
 mod lattices;
 #[cfg(test)]
+mod names;
+#[cfg(test)]
 mod others;
 #[cfg(test)]
 mod refusals;

@@ -1,8 +1,9 @@
 // The faults of texts that read other hosts, groups and the batch.
 ghost use Rattle.pb_value.specs.Words.{slots_view};
+ghost use Rattle.pb_expr.specs.Words.{no_trees};
 ghost use Rattle.pb_tests.specs.TwoKnown.{two_known};
 
-use pb_expr::{KindFault, Known, Taught, Unfit, kind_of, parse_expr};
+use pb_expr::{Expr, KindFault, Known, Taught, Unfit, kind_of, parse_expr};
 use pb_value::below::find;
 use pb_value::{Kind, Slot, Slots, put_slot};
 use std::alloc::Global;
@@ -20,8 +21,17 @@ struct TwoKnown {
 }
 
 impl Known for TwoKnown {
-    ghost scope = { λ k. two_known (slots_view k.mine.entries) (slots_view k.first.entries)
-        (slots_view k.second.entries) };
+    ghost before = { λ k. record {
+      scope = two_known (slots_view k.mine.entries) (slots_view k.first.entries)
+          (slots_view k.second.entries);
+      trees = no_trees;
+    } };
+
+    ghost depth = { λ _. 0 };
+
+    fn tree(&self, _: &str) -> Option<&Expr> {
+        None
+    }
 
     fn own(&self, name: &str) -> Option<&Slot<Kind>> {
         find(&self.mine, name)

@@ -13,7 +13,7 @@ taught_there d h n a m = cond (has_view h d.table) (record d { views = put_view 
 
 pub returns : goal.returns
 returns g c =
-    let k = g.K.Known.scope c.args.known.now in
+    let k = g.K.Known.before c.args.known.now in
     let d = scope_view k c.args.taught in
     let h = c.args.host.now in
     let x = string_bytes c.args.name.now in

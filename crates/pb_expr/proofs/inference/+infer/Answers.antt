@@ -1,133 +1,262 @@
-use Rattle.std.proofs.Common.{◌≡◌, true, ◌&&◌, ◌+◌, length, [], ◌∷◌, ◌++◌, drop, String, Global, string_bytes, option_map, sym, ap, ◌∙◌, subst, append_assoc, arith}
+use Rattle.std.proofs.Common.{rules, ◌≡◌, true, false, Some, not, ◌&&◌, ◌+◌, length, [], ◌∷◌, ◌++◌, drop, String, Global, string_bytes, option_map, sym, ap, ◌∙◌, subst, append_assoc, arith}
 use Rattle.std.proofs.lemmas.List.{append-nil, drop_all}
-use Rattle.pb_semantics.specs.Kind.{never, lists, recs, put_slot}
-use Rattle.pb_semantics.specs.Join.{join}
-use Rattle.pb_language.specs.Kinds.{count, kind_of, items_kind}
-use Rattle.pb_language.specs.Fit.{asks, first, fault, wrong_kind, chain_fault, are_booleans, items_fault, fields_fault}
+use Rattle.std.proofs.lemmas.Result.{IfOk-weaker}
+use Rattle.pb_semantics.specs.Kind.{lists, recs, put_slot}
+use Rattle.pb_language.specs.Expansion.{all_expanded, expanded, expanded_root, parts_expanded}
+use Rattle.pb_language.specs.Kinds.{items_kind, kind_of}
+use Rattle.pb_language.specs.Fit.{asks, first, fault, is_any, wrong_kind, chain_fault, are_booleans, fields_fault, parts_fault}
+use Rattle.pb_language.specs.Narrow.{narrow, narrow_each, narrow_some, where_taught, any_teaches}
 use Rattle.pb_value.specs.KindView.{kind_view, slots_view}
-use Rattle.pb_syntax.specs.ExprView.{expr_view, exprs_view, parts_view}
-use Rattle.pb_expr.specs.FitView.{fault_view}
-use Rattle.pb_expr.specs.TaughtView.{here_view, scope_view}
-use Rattle.pb_value.specs.Growing.{joined_onto}
+use Rattle.pb_syntax.specs.ExprView.{expr_view, exprs_view, parts_view, names_of, root_view, status_view}
 use Rattle.pb_syntax.specs.declared.expr.Expr.{Expr}
+use Rattle.pb_expr.specs.FitView.{fault_view}
+use Rattle.pb_expr.specs.Found.{AreFound, IsFoundOf, are_bools, are_plain_kinds, fault_in, faults_in, joined_in, part_faults_in}
+use Rattle.pb_expr.specs.TaughtView.{scope_view, scopes_view, taught_by}
+use Rattle.pb_expr.specs.declared.inferred.Inferred.{Inferred}
 use Rattle.pb_expr.proofs.Ascending.{Ascending}
-use Rattle.pb_expr.proofs.Findings.{and-true, first-none, fault-turn, chain-turn, booleans-turn, onto-last, count-exprs}
+use Rattle.pb_expr.proofs.Findings.{and-true, first-none, fault-turn, chain-turn, booleans-turn}
+use Rattle.pb_expr.proofs.Exprs.{view-Concat, view-List, view-PathStatus}
+use Rattle.pb_expr.proofs.FoundParts.{found-booleans, found-chain, found-count, found-faults, found-items, found-kinds, found-plain}
 use Rattle.pb_expr.proofs.Records.{slots_from, put_slot-last, parts_slots-ascending}
 use Rattle.pb_expr.proofs.Turns.{drop-at}
+use Rattle.pb_expr.proofs.Ways.{some-ways, status-narrowed, ways, ways-turn, same-last}
 use Rattle.pb_expr.proofs.inference.+infer.Goals as goal
+
+pub infer_each-loop-expr-preserved : goal.infer_each-loop-expr-preserved
+infer_each-loop-expr-preserved g t c =
+    let l = c.loop-expr in
+    let b = g.K.Known.before c.args.inquiry.now.known.now in
+    let s = scope_view b c.args.taught.now in
+    let items = c.args.exprs.now in
+    let i = l.expr-index in
+    let e = c.expr-item.result in
+    let found = c.in_ok-found.found in
+    let next : drop i items ≡ e ∷ drop (i + 1) items = drop-at items i e c.loop-expr-test.true c.expr-item.is in
+    record {
+      found = λ more h.
+          let grown : l.all.items ++ found ∷ more ≡ c.push.new.self.items ++ more = sym (ap (λ is. is ++ more) c.in_ok-push.ensures.items ∙ append_assoc l.all.items (found ∷ []) more) in
+          subst (λ is. AreFound s (all_expanded b.trees (exprs_view items)) is) grown
+          (l.invariant.found (found ∷ more) (subst (λ xs. AreFound s (all_expanded b.trees (exprs_view xs)) (found ∷ more)) (sym next) ((c.in_ok-found.ensures.kind, c.in_ok-found.ensures.fault), h)));
+      right = c.in_ok-found.ensures.right;
+    }
+
+pub infer_each-returns-clause-found : goal.infer_each-returns-clause-found
+infer_each-returns-clause-found g t c =
+    let l = c.loop-expr in
+    let b = g.K.Known.before c.args.inquiry.now.known.now in
+    let s = scope_view b c.args.taught.now in
+    let items = c.args.exprs.now in
+    let past = drop_all l.expr-index items c.loop-expr-test.false in
+    subst (λ is. AreFound s (all_expanded b.trees (exprs_view items)) is) (append-nil l.all.items)
+    (l.invariant.found [] (subst (λ xs. AreFound s (all_expanded b.trees (exprs_view xs)) []) (sym past) tt))
 
 pub of_chain-loop-operand-preserved : goal.of_chain-loop-operand-preserved
 of_chain-loop-operand-preserved g t c =
     let l = c.loop-operand in
-    let k = g.K.Known.scope c.args.known.now in
-    let s = here_view k c.args.taught.now l.more in
-    let d = here_view k c.args.taught.now c.in_ok-more.more in
-    let b = c.args.answer in
+    let b = g.K.Known.before c.args.inquiry.now.known.now in
+    let f = b.trees in
+    let s = scope_view b l.here.taught in
+    let d = scope_view b c.in_ok-here.here.taught in
+    let q = c.args.answer in
     let items = c.args.operands.now in
     let i = l.operand-index in
     let e = c.operand-item.result in
-    let rest = exprs_view (drop (i + 1) items) in
+    let w = expanded f (expr_view e) in
+    let rest = all_expanded f (exprs_view (drop (i + 1) items)) in
     let before = option_map fault_view l.unfit in
-    let here : scope_view k c.taught_here.result.now ≡ s = c.taught_here.ensures k in
     let next : drop i items ≡ e ∷ drop (i + 1) items = drop-at items i e c.loop-operand-test.true c.operand-item.is in
     record {
-      faults = l.invariant.faults ∙ ap (λ es. first before (chain_fault s (exprs_view es) b)) next
-          ∙ chain-turn before (option_map fault_view c.in_ok-found.found.unfit) (option_map fault_view c.first_of-unfit.result) s d e rest b
-          (c.in_ok-found.ensures.fault ∙ ap (λ z. fault z (expr_view e)) here) c.first_of-unfit.ensures c.in_ok-more.ensures;
-      kinds = l.invariant.kinds ∙ ap (λ es. l.are_bool && are_booleans s (exprs_view es) b) next
-          ∙ booleans-turn l.are_bool c.is_bool-are_bool.result (kind_view c.in_ok-found.found.kind) s d e rest b c.is_bool-are_bool.ensures
-          (c.in_ok-found.ensures.kind ∙ ap (λ z. kind_of z (expr_view e)) here) c.in_ok-more.ensures;
+      faults = l.invariant.faults ∙ ap (λ es. first before (chain_fault s (all_expanded f (exprs_view es)) q)) next
+          ∙ chain-turn before (option_map fault_view c.in_ok-found.found.unfit) (option_map fault_view c.first_of-unfit.result) s d w rest q
+          c.in_ok-found.ensures.fault c.first_of-unfit.ensures c.in_ok-here.ensures.taught;
+      kinds = l.invariant.kinds ∙ ap (λ es. l.are_bool && are_booleans s (all_expanded f (exprs_view es)) q) next
+          ∙ booleans-turn l.are_bool c.is_bool-are_bool.result (kind_view c.in_ok-found.found.kind) s d w rest q c.is_bool-are_bool.ensures
+          c.in_ok-found.ensures.kind c.in_ok-here.ensures.taught;
+      right = c.in_ok-here.ensures.right;
     }
 
 pub of_chain-returns-clause-fault : goal.of_chain-returns-clause-fault
 of_chain-returns-clause-fault g t c =
     let l = c.loop-operand in
-    let k = g.K.Known.scope c.args.known.now in
-    let s = here_view k c.args.taught.now l.more in
-    let d = scope_view k c.args.taught.now in
-    let es = exprs_view c.args.operands.now in
-    let b = c.args.answer in
+    let b = g.K.Known.before c.args.inquiry.now.known.now in
+    let f = b.trees in
+    let s = scope_view b l.here.taught in
+    let d = scope_view b c.args.before.taught in
+    let es = all_expanded f (exprs_view c.args.operands.now) in
+    let q = c.args.answer in
     let past = drop_all l.operand-index c.args.operands.now c.loop-operand-test.false in
     let before = option_map fault_view l.unfit in
-    let faults : chain_fault d es b ≡ before = l.invariant.faults ∙ ap (λ xs. first before (chain_fault s (exprs_view xs) b)) past ∙ first-none before in
-    let kinds : are_booleans d es b ≡ l.are_bool = l.invariant.kinds ∙ ap (λ xs. l.are_bool && are_booleans s (exprs_view xs) b) past ∙ and-true l.are_bool in
-    c.asked.ensures.fault ∙ ap (λ f. first f (asks wrong_kind l.are_bool)) (sym faults) ∙ ap (λ q. first (chain_fault d es b) (asks wrong_kind q)) (sym kinds)
-
-pub of_items-loop-item-preserved : goal.of_items-loop-item-preserved
-of_items-loop-item-preserved g t c =
-    let l = c.loop-item in
-    let s = scope_view (g.K.Known.scope c.args.known.now) c.args.taught.now in
-    let items = c.args.items.now in
-    let i = l.item-index in
-    let e = c.item-item.result in
-    let rest = exprs_view (drop (i + 1) items) in
-    let kinds = l.kinds.items in
-    let before = option_map fault_view l.unfit in
-    let found = c.in_ok-found.found in
-    let next : drop i items ≡ e ∷ drop (i + 1) items = drop-at items i e c.loop-item-test.true c.item-item.is in
-    record {
-      faults = l.invariant.faults ∙ ap (λ es. first before (items_fault s (exprs_view es))) next
-          ∙ ap (λ f. first before (first f (items_fault s rest))) (sym c.in_ok-found.ensures.fault)
-          ∙ fault-turn before (option_map fault_view found.unfit) (items_fault s rest) (option_map fault_view c.first_of-unfit.result) c.first_of-unfit.ensures;
-      kinds = l.invariant.kinds ∙ ap (λ es. joined_onto kinds (items_kind s (exprs_view es))) next
-          ∙ ap (λ k. joined_onto kinds (join k (items_kind s rest))) (sym c.in_ok-found.ensures.kind) ∙ sym (onto-last kinds found.kind (items_kind s rest))
-          ∙ ap (λ ks. joined_onto ks (items_kind s rest)) (sym c.in_ok-push.ensures.items);
-    }
-
-pub of_items-returns-clause-fault : goal.of_items-returns-clause-fault
-of_items-returns-clause-fault g t c =
-    let s = scope_view (g.K.Known.scope c.args.known.now) c.args.taught.now in
-    let items = c.args.items.now in
-    let before = option_map fault_view c.loop-item.unfit in
-    let past = drop_all c.loop-item.item-index items c.loop-item-test.false in
-    sym (c.loop-item.invariant.faults ∙ ap (λ xs. first before (items_fault s (exprs_view xs))) past ∙ first-none before)
-
-pub of_items-returns-clause-kind : goal.of_items-returns-clause-kind
-of_items-returns-clause-kind g t c =
-    let s = scope_view (g.K.Known.scope c.args.known.now) c.args.taught.now in
-    let items = c.args.items.now in
-    let es = exprs_view c.args.items.now in
-    let kinds = c.loop-item.kinds.items in
-    let past = drop_all c.loop-item.item-index items c.loop-item-test.false in
-    let size : length items ≡ count es = omega (arith, count-exprs items) in
-    let joined : items_kind s es ≡ kind_view c.in_ok-joined.joined =
-    c.loop-item.invariant.kinds
-    ∙ ap (λ xs. joined_onto kinds (items_kind s (exprs_view xs))) past ∙ ap (λ ks. joined_onto ks never) (sym c.deref.ensures.value) ∙ sym c.in_ok-joined.ensures in
-    c.in_ok-kind.ensures ∙ ap (λ k. lists k (length items)) (sym joined)
-    ∙ ap (lists (items_kind s es)) size
+    let faults : chain_fault d es q ≡ before = l.invariant.faults ∙ ap (λ xs. first before (chain_fault s (all_expanded f (exprs_view xs)) q)) past ∙ first-none before in
+    let kinds : are_booleans d es q ≡ l.are_bool = l.invariant.kinds ∙ ap (λ xs. l.are_bool && are_booleans s (all_expanded f (exprs_view xs)) q) past ∙ and-true l.are_bool in
+    c.asked.ensures.fault ∙ ap (λ x. first x (asks wrong_kind l.are_bool)) (sym faults) ∙ ap (λ x. first (chain_fault d es q) (asks wrong_kind x)) (sym kinds)
 
 pub of_fields-loop-name-preserved : goal.of_fields-loop-name-preserved
 of_fields-loop-name-preserved g t c =
-    let s = scope_view (g.K.Known.scope c.args.known.now) c.args.taught.now in
+    let b = g.K.Known.before c.args.inquiry.now.known.now in
+    let w = b.trees in
+    let s = scope_view b c.args.taught.now in
     let inv = c.loop-name.invariant in
     let done = inv.0 in
     let e : String Global × Expr = (c.in-Some.name.now, c.in-Some.field.now) in
     let left = c.next.new.self in
     let kinds = slots_view c.loop-name.kinds.entries in
     let before = option_map fault_view c.loop-name.unfit in
-    let found = c.in_ok-found.found in
-    let f = λ (x : Expr). kind_of s (expr_view x) in
+    let found = c.not_any-found.result in
+    let f = λ (x : Expr). kind_of s (expanded w (expr_view x)) in
     let all : c.args.fields.now.entries ≡ done ++ e ∷ left = inv.1 ∙ ap (λ es. done ++ es) c.in-Some.ensures.steps in
+    let rest = fields_fault s (parts_expanded w (parts_view left)) in
+    let one = expanded w (expr_view e.1) in
+    let kind : kind_view found.kind ≡ f e.1 = ap kind_view c.not_any-found.ensures.kind ∙ c.in_ok-infer.ensures.kind in
+    let fault-is : option_map fault_view found.unfit ≡ first (fault s one) (asks wrong_kind (not (is_any (kind_of s one)))) =
+    c.not_any-found.ensures.fault ∙ ap (λ x. first x (asks wrong_kind (not (is_any (kind_view c.in_ok-infer.field-0.kind))))) c.in_ok-infer.ensures.fault
+    ∙ ap (λ k. first (fault s one) (asks wrong_kind (not (is_any k)))) c.in_ok-infer.ensures.kind in
     let last = put_slot-last f done e left (subst (λ es. Ascending es) all c.iter-name-items.ensures.ordered) in (
       done ++ e ∷ [],
       all ∙ sym (append_assoc done (e ∷ []) left),
-      c.in_ok-put_certain.ensures
-          ∙ ap (λ k. put_slot (string_bytes e.0) true k kinds) c.in_ok-found.ensures.kind ∙ ap (put_slot (string_bytes e.0) true (f e.1)) inv.2 ∙ last,
-      inv.3 ∙ ap (λ es. first before (fields_fault s (parts_view es))) c.in-Some.ensures.steps
-          ∙ ap (λ x. first before (first x (fields_fault s (parts_view left)))) (sym c.in_ok-found.ensures.fault)
-          ∙ fault-turn before (option_map fault_view found.unfit) (fields_fault s (parts_view left)) (option_map fault_view c.first_of-unfit.result) c.first_of-unfit.ensures,
+      c.in_ok-put_certain.ensures ∙ ap (λ k. put_slot (string_bytes e.0) true k kinds) kind ∙ ap (put_slot (string_bytes e.0) true (f e.1)) inv.2 ∙ last,
+      inv.3 ∙ ap (λ es. first before (fields_fault s (parts_expanded w (parts_view es)))) c.in-Some.ensures.steps
+          ∙ ap (λ x. first before (first x rest)) (sym fault-is) ∙ fault-turn before (option_map fault_view found.unfit) rest (option_map fault_view c.first_of-unfit.result) c.first_of-unfit.ensures,
+      c.in_ok-infer.ensures.right,
     )
 
 pub of_fields-returns-clause-fault : goal.of_fields-returns-clause-fault
 of_fields-returns-clause-fault g t c =
-    let s = scope_view (g.K.Known.scope c.args.known.now) c.args.taught.now in
+    let b = g.K.Known.before c.args.inquiry.now.known.now in
+    let s = scope_view b c.args.taught.now in
     let before = option_map fault_view c.loop-name.unfit in
-    sym (c.loop-name.invariant.3 ∙ ap (λ es. first before (fields_fault s (parts_view es))) (c.in-None.ensures).steps.0 ∙ first-none before)
+    sym (c.loop-name.invariant.3 ∙ ap (λ es. first before (fields_fault s (parts_expanded b.trees (parts_view es)))) (c.in-None.ensures).steps.0 ∙ first-none before)
 
 pub of_fields-returns-clause-kind : goal.of_fields-returns-clause-kind
 of_fields-returns-clause-kind g t c =
-    let s = scope_view (g.K.Known.scope c.args.known.now) c.args.taught.now in
+    let b = g.K.Known.before c.args.inquiry.now.known.now in
+    let s = scope_view b c.args.taught.now in
     let inv = c.loop-name.invariant in
     let nil : c.loop-name.name-iterator ≡ [] = (c.in-None.ensures).steps.0 in
     let whole : c.args.fields.now.entries ≡ inv.0 = inv.1 ∙ ap (λ es. inv.0 ++ es) nil ∙ append-nil inv.0 in
-    c.in_ok-kind.ensures ∙ ap recs (inv.2 ∙ ap (slots_from (λ (x : Expr). kind_of s (expr_view x))) (sym whole) ∙ sym (parts_slots-ascending s c.args.fields.now.entries c.iter-name-items.ensures.ordered))
+    c.in_ok-kind.ensures ∙ ap recs (inv.2 ∙ ap (slots_from (λ (x : Expr). kind_of s (expanded b.trees (expr_view x)))) (sym whole) ∙ sym (parts_slots-ascending s b.trees c.args.fields.now.entries c.iter-name-items.ensures.ordered))
+
+pub narrow_some-loop-operand-preserved : goal.narrow_some-loop-operand-preserved
+narrow_some-loop-operand-preserved g t c =
+    let l = c.loop-operand in
+    let m = g.K.Known.before c.args.inquiry.now.known.now in
+    let s = scope_view m l.here.taught in
+    let q = c.args.answer in
+    let items = c.args.operands.now in
+    let i = l.operand-index in
+    let e = c.operand-item.result in
+    let w = expanded m.trees (expr_view e) in
+    let rest = all_expanded m.trees (exprs_view (drop (i + 1) items)) in
+    let way = c.in_ok-way-2.way in
+    let next : drop i items ≡ e ∷ drop (i + 1) items = drop-at items i e c.loop-operand-test.true c.operand-item.is in
+    record {
+      ways = l.invariant.ways ∙ ap (λ es. scopes_view m l.ways.items ++ ways s (all_expanded m.trees (exprs_view es)) q) next
+          ∙ ways-turn m l.ways.items c.push.new.self.items way.taught l.here.taught c.in_ok-here.here.taught w rest q (c.in_ok-way-2.ensures.taught ∙ ap (λ d. narrow d w q) c.in_ok-way.ensures.taught) c.in_ok-here.ensures.taught c.in_ok-push.ensures.items;
+      before = same-last m l.ways.items c.push.new.self.items way.taught (scope_view m c.in_ok-here.here.taught) (scope_view m c.args.before.taught) c.in_ok-push.ensures.items;
+      right = c.in_ok-here.ensures.right;
+    }
+
+pub infer-returns-in_ok-infer_each-in-Concat-clause-fault : goal.infer-returns-in_ok-infer_each-in-Concat-clause-fault
+infer-returns-in_ok-infer_each-in-Concat-clause-fault g t c =
+    let b = g.K.Known.before c.args.inquiry.now.known.now in
+    let s = scope_view b c.args.taught.now in
+    let founds = c.in_ok-infer_each-in-Concat.field-0.items in
+    let es = all_expanded b.trees (exprs_view c.in-Concat.parts.items) in
+    let all : AreFound s es founds = subst (λ xs. AreFound s (all_expanded b.trees (exprs_view xs)) founds) c.deref-in-Concat.ensures.value c.in_ok-infer_each-in-Concat.ensures.found in
+    c.texts.ensures.fault ∙ ap (λ is. first (faults_in is) (asks wrong_kind (are_plain_kinds is))) c.deref-in-Concat-2.ensures.value
+    ∙ ap (λ x. first x (asks wrong_kind (are_plain_kinds founds))) (sym (found-faults s es founds all))
+    ∙ ap (λ x. first (parts_fault s es) (asks wrong_kind x)) (sym (found-plain s es founds all))
+    ∙ ap (λ e. fault s (expanded b.trees e)) (sym (ap expr_view c.in-Concat.is ∙ view-Concat c.in-Concat.parts))
+
+pub infer-returns-in_ok-infer_each-in-List-clause-kind : goal.infer-returns-in_ok-infer_each-in-List-clause-kind
+infer-returns-in_ok-infer_each-in-List-clause-kind g t c =
+    let b = g.K.Known.before c.args.inquiry.now.known.now in
+    let s = scope_view b c.args.taught.now in
+    let founds = c.in_ok-infer_each-in-List.field-0.items in
+    let es = all_expanded b.trees (exprs_view c.in-List.items.items) in
+    let all : AreFound s es founds = subst (λ xs. AreFound s (all_expanded b.trees (exprs_view xs)) founds) c.deref-in-List.ensures.value c.in_ok-infer_each-in-List.ensures.found in
+    let tree = sym (ap expr_view c.in-List.is ∙ view-List c.in-List.items) in
+    IfOk-weaker c.items.result (λ i. kind_view i.kind ≡ lists (joined_in c.deref-in-List-2.result.now) (length c.deref-in-List-2.result.now)) (λ i. kind_view i.kind ≡ kind_of s (expanded b.trees (expr_view c.args.expr.now)))
+    (λ i h. h ∙ ap (λ is. lists (joined_in is) (length is)) c.deref-in-List-2.ensures.value
+    ∙ ap (λ k. lists k (length founds)) (sym (found-kinds s es founds all)) ∙ ap (lists (items_kind s es)) (sym (found-count s es founds all))
+    ∙ ap (λ e. kind_of s (expanded b.trees e)) tree) c.items.ensures.kind
+
+pub infer-returns-in_ok-infer_each-in-List-clause-fault : goal.infer-returns-in_ok-infer_each-in-List-clause-fault
+infer-returns-in_ok-infer_each-in-List-clause-fault g t c =
+    let b = g.K.Known.before c.args.inquiry.now.known.now in
+    let s = scope_view b c.args.taught.now in
+    let founds = c.in_ok-infer_each-in-List.field-0.items in
+    let es = all_expanded b.trees (exprs_view c.in-List.items.items) in
+    let all : AreFound s es founds = subst (λ xs. AreFound s (all_expanded b.trees (exprs_view xs)) founds) c.deref-in-List.ensures.value c.in_ok-infer_each-in-List.ensures.found in
+    let tree = sym (ap expr_view c.in-List.is ∙ view-List c.in-List.items) in
+    IfOk-weaker c.items.result (λ i. fault_in i ≡ part_faults_in c.deref-in-List-2.result.now) (λ i. fault_in i ≡ fault s (expanded b.trees (expr_view c.args.expr.now)))
+    (λ i h. h ∙ ap part_faults_in c.deref-in-List-2.ensures.value ∙ sym (found-items s es founds all) ∙ ap (λ e. fault s (expanded b.trees e)) tree) c.items.ensures.fault
+
+pub narrow_here-returns-in_ok-taught-in-InBatch-clause-right : goal.narrow_here-returns-in_ok-taught-in-InBatch-clause-right
+narrow_here-returns-in_ok-taught-in-InBatch-clause-right g t c = c.here_anew.ensures.right (g.K.Known.before c.args.inquiry.now.known.now)
+
+pub narrow_here-returns-in_ok-taught-in-Defined-clause-right : goal.narrow_here-returns-in_ok-taught-in-Defined-clause-right
+narrow_here-returns-in_ok-taught-in-Defined-clause-right g t c = c.here_anew-in-Defined.ensures.right (g.K.Known.before c.args.inquiry.now.known.now)
+
+pub narrow_here-returns-in_ok-taught-in-PathStatus-clause-taught : goal.narrow_here-returns-in_ok-taught-in-PathStatus-clause-taught
+narrow_here-returns-in_ok-taught-in-PathStatus-clause-taught g t c =
+    let b = g.K.Known.before c.args.inquiry.now.known.now in
+    let f = b.trees in
+    let d = scope_view b c.args.here.taught in
+    let status = c.in-PathStatus.status in
+    let path = c.in-PathStatus.path in
+    let tree = ap (expanded f) (ap expr_view c.in-PathStatus.is ∙ view-PathStatus status path) in
+    ap (scope_view b) c.here_anew-in-PathStatus.ensures.taught
+    ∙ status-narrowed d (scope_view b c.in_ok-taught-in-PathStatus.taught) (expanded f (expr_view c.args.expr.now)) (status_view status) (expanded_root f (root_view path.root)) (names_of path.steps.items) c.args.answer
+    tree c.in_ok-taught-in-PathStatus.ensures
+
+pub narrow_here-returns-in_ok-taught-in-PathStatus-clause-right : goal.narrow_here-returns-in_ok-taught-in-PathStatus-clause-right
+narrow_here-returns-in_ok-taught-in-PathStatus-clause-right g t c = c.here_anew-in-PathStatus.ensures.right (g.K.Known.before c.args.inquiry.now.known.now)
+
+pub narrow_some-returns-clause-taught : goal.narrow_some-returns-clause-taught
+narrow_some-returns-clause-taught g t c =
+    let l = c.loop-operand in
+    let m = g.K.Known.before c.args.inquiry.now.known.now in
+    let first = scope_view m c.args.before.taught in
+    let es = all_expanded m.trees (exprs_view c.args.operands.now) in
+    let q = c.args.answer in
+    let past = drop_all l.operand-index c.args.operands.now c.loop-operand-test.false in
+    let told : any_teaches es ≡ true = sym (c.any_teaches.ensures m.trees) ∙ c.if-not-any_teaches.false in
+    let all : ways first es q ≡ scopes_view m l.ways.items =
+    l.invariant.ways ∙ ap (λ xs. scopes_view m l.ways.items ++ ways (scope_view m l.here.taught) (all_expanded m.trees (exprs_view xs)) q) past ∙ append-nil (scopes_view m l.ways.items) in
+    ap (scope_view m) c.here_anew.ensures.taught ∙ c.in_ok-taught.ensures m ∙ l.invariant.before ∙ ap (λ ds. taught_by ds first) (sym all) ∙ sym (some-ways first es q)
+    ∙ sym (ap (λ x. where_taught x (narrow_some first es q) first) told)
+
+pub narrow_some-returns-clause-right : goal.narrow_some-returns-clause-right
+narrow_some-returns-clause-right g t c = c.here_anew.ensures.right (g.K.Known.before c.args.inquiry.now.known.now)
+
+pub of_alias-returns-in-Some-find-clause-kind : goal.of_alias-returns-in-Some-find-clause-kind
+of_alias-returns-in-Some-find-clause-kind g t c =
+    let b = g.K.Known.before c.args.inquiry.now.known.now in
+    let s = scope_view b c.args.taught.now in
+    let found = c.in-Some-find.found.now in
+    let right = subst (λ x. IsFoundOf s x found) (ap b.trees c.as_str.ensures.value ∙ c.in-Some.ensures.name) (c.in-Some-find.ensures s b.trees c.requires) in
+    ap Some (c.in_ok-found_copied.ensures.kind ∙ right.0) ∙ sym (ap (option_map (kind_of s)) c.in-Some.ensures.tree)
+
+pub of_alias-returns-in-Some-find-clause-fault : goal.of_alias-returns-in-Some-find-clause-fault
+of_alias-returns-in-Some-find-clause-fault g t c =
+    let b = g.K.Known.before c.args.inquiry.now.known.now in
+    let s = scope_view b c.args.taught.now in
+    let found = c.in-Some-find.found.now in
+    let right = subst (λ x. IsFoundOf s x found) (ap b.trees c.as_str.ensures.value ∙ c.in-Some.ensures.name) (c.in-Some-find.ensures s b.trees c.requires) in
+    ap Some (ap (option_map fault_view) c.in_ok-found_copied.ensures.unfit ∙ right.1) ∙ sym (ap (option_map (fault s)) c.in-Some.ensures.tree)
+
+pub of_operands-of_chain-requires : goal.of_operands-of_chain-requires
+of_operands-of_chain-requires g t c = search (rules, c.in_ok-here.ensures.right (g.K.Known.before c.args.inquiry.now.known.now) c.requires)
+
+pub of_operands-returns-in_ok-infer_each-clause-fault : goal.of_operands-returns-in_ok-infer_each-clause-fault
+of_operands-returns-in_ok-infer_each-clause-fault g t c =
+    let b = g.K.Known.before c.args.inquiry.now.known.now in
+    let s = scope_view b c.args.taught.now in
+    let q = c.args.answer in
+    let founds = c.in_ok-infer_each.field-0.items in
+    let es = all_expanded b.trees (exprs_view c.args.operands.now) in
+    let none : any_teaches es ≡ false = sym (c.any_teaches.ensures b.trees) ∙ c.if-any_teaches.false in
+    let all = c.in_ok-infer_each.ensures.found in
+    c.truths.ensures.fault ∙ ap (λ is. first (faults_in is) (asks wrong_kind (are_bools is))) c.deref.ensures.value
+    ∙ ap (λ x. first x (asks wrong_kind (are_bools founds))) (sym (found-chain s es founds q none all))
+    ∙ ap (λ x. first (chain_fault s es q) (asks wrong_kind x)) (sym (found-booleans s es founds q none all))

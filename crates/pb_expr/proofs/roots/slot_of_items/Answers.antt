@@ -11,7 +11,7 @@ use Rattle.pb_expr.proofs.roots.slot_of_items.Goals as goal
 
 pub returns-in-Host : goal.returns-in-Host
 returns-in-Host g c =
-    let k = g.K.Known.scope c.args.known.now in
+    let k = g.K.Known.before c.args.known.now in
     let t = c.args.taught.now in
     let d = scope_view k t in
     let on = t.item_active in

@@ -16,7 +16,7 @@ spots-last (o ∷ ss) s t = ap (join_spot (slot_given o)) (spots-last ss s t)
 pub loop-host-preserved : goal.loop-host-preserved
 loop-host-preserved g c =
     let l = c.loop-host in
-    let scope = scope_view (g.K.Known.scope c.args.known.now) c.args.taught.now in
+    let scope = scope_view (g.K.Known.before c.args.known.now) c.args.taught.now in
     let on = c.args.is_active in
     let x = c.args.name.now in
     let left = each_spot scope on x (names_of c.next.new.self) in

@@ -8,5 +8,5 @@ use Rattle.pb_expr.proofs.views.each_slot.Given as goal
 
 abbrev pub invariant-loop-host : goal.invariant-loop-host
 invariant-loop-host g l =
-    let each : List (String Global) → Spot = λ ns. each_spot (scope_view (g.K.Known.scope l.known) l.taught) l.is_active l.name (names_of ns) in
+    let each : List (String Global) → Spot = λ ns. each_spot (scope_view (g.K.Known.before l.known) l.taught) l.is_active l.name (names_of ns) in
     each l.hosts.keys ≡ spots_onto l.slots.items (each l.host-iterator)

@@ -88,7 +88,10 @@ fn adds_no_slots(joined: &Slots, slots: &Slots, leads: bool) -> bool
 }
 
 // The slot, where it is of that name.
-fn slot_of<'s>(next: Option<(&String, &'s Slot<Kind>)>, name: &str) -> Option<&'s Slot<Kind>>
+pub(crate) fn slot_of<'s>(
+    next: Option<(&String, &'s Slot<Kind>)>,
+    name: &str,
+) -> Option<&'s Slot<Kind>>
     ensures { spot_view result ≡ spot_of name.now next.entry }
 {
     match next {

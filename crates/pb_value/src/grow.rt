@@ -3,11 +3,13 @@ ghost use Rattle.std.specs.Prelude.{◌≡◌, Bool, IfOk, OnOk, map, string_byt
 ghost use Rattle.pb_semantics.specs.Words.{all_sure, is_among, is_listed, is_sure, kind_with};
 ghost use Rattle.pb_semantics.specs.Words.{Cases, lists, marked, met, met_slots};
 ghost use Rattle.pb_semantics.specs.Words.{never, put_slot as with_slot, puts, recs, results};
-ghost use Rattle.pb_semantics.specs.Words.{slot_at};
+ghost use Rattle.pb_semantics.specs.Words.{slot_at, spot};
+ghost use Rattle.pb_value.specs.Added.{met_spot};
+ghost use Rattle.pb_value.specs.Found.{spot_view};
 ghost use Rattle.pb_value.specs.KindView.{is_always as is_certain, kind_view, slots_view};
 ghost use Rattle.pb_value.specs.Growing.{growing_view, joined_onto, kinds_view};
 
-use crate::adds::adds_nothing;
+use crate::adds::{adds_nothing, slot_of};
 use crate::below::{find, has_name};
 use crate::join::{join, larger};
 use crate::kind::{Kind, Presence, Slot, Slots, put_slot, weight};
@@ -68,7 +70,7 @@ pub fn grow(alloc: Global, kind: &Kind, leads: bool, joined: Growing) -> Result<
             list_of(alloc, item, larger(*most, count))
         }
         (Kind::Rec(slots), Growing::Rec(kinds, certain)) => {
-            grow_record(alloc, slots, leads, kinds, &certain)
+            grow_record(alloc, slots, leads, kinds, certain)
         }
         (Kind::Result(_, record), Growing::Rec(kinds, certain)) => {
             grow_known(alloc, record, kind, leads, kinds, certain)
@@ -97,15 +99,69 @@ fn grow_record(
     slots: &Slots,
     leads: bool,
     kinds: Kinds,
-    certain: &BTreeSet<String>,
+    certain: BTreeSet<String>,
 ) -> Result<Growing, AllocError>
     ensures { IfOk result (λ g. growing_view g
         ≡ recs (met_slots leads (slots_view slots.now.entries)
-        (marked (kinds_view kinds.entries) (map (λ n. string_bytes n) certain.now.keys)))) }
+        (marked (kinds_view kinds.entries) (map (λ n. string_bytes n) certain.keys)))) }
 {
-    let certain = still_certain(alloc, slots, &kinds, certain)?;
+    if adds_no_field(slots, leads, &kinds, &certain) {
+        return Ok(Growing::Rec(kinds, certain));
+    }
+    let still = still_certain(alloc, slots, &kinds, &certain)?;
     let kinds = grow_kinds(alloc, slots, leads, kinds)?;
-    Ok(Growing::Rec(kinds, certain))
+    Ok(Growing::Rec(kinds, still))
+}
+
+// Whether a record adds nothing to an open one. That isn't asked of one with far fewer fields.
+fn adds_no_field(slots: &Slots, leads: bool, kinds: &Kinds, certain: &BTreeSet<String>) -> bool
+    ensures { result ≡ true → met_slots leads (slots_view slots.now.entries)
+        (marked (kinds_view kinds.now.entries) (map (λ n. string_bytes n) certain.now.keys))
+        ≡ marked (kinds_view kinds.now.entries) (map (λ n. string_bytes n) certain.now.keys) }
+{
+    slots.len() >= kinds.len() / 8 && leaves_each(slots, leads, kinds, certain)
+}
+
+fn leaves_each(slots: &Slots, leads: bool, kinds: &Kinds, certain: &BTreeSet<String>) -> bool
+    ensures { result ≡ true → met_slots leads (slots_view slots.now.entries)
+        (marked (kinds_view kinds.now.entries) (map (λ n. string_bytes n) certain.now.keys))
+        ≡ marked (kinds_view kinds.now.entries) (map (λ n. string_bytes n) certain.now.keys) }
+{
+    let mut others = slots.iter();
+    let mut next = others.next();
+    for (name, there) in kinds.iter() {
+        let found = slot_of(next, name.as_str());
+        if !is_left(found, leads, name.as_str(), there, certain) {
+            return false;
+        }
+        if found.is_some() {
+            next = others.next();
+        }
+    }
+    next.is_none()
+}
+
+// Whether a field stays as it is beside what else is known of it.
+fn is_left(
+    found: Option<&Slot<Kind>>,
+    leads: bool,
+    name: &str,
+    there: &Growing,
+    certain: &BTreeSet<String>,
+) -> bool
+    ensures { result ≡ true → met_spot leads (spot_view found.entry)
+        (spot (is_among name.now (map (λ n. string_bytes n) certain.now.keys))
+        (growing_view there.now))
+        ≡ spot (is_among name.now (map (λ n. string_bytes n) certain.now.keys))
+        (growing_view there.now) }
+{
+    match found {
+        None => !has_name(certain, name),
+        Some(slot) => {
+            (slot.presence.is_always() || !has_name(certain, name))
+                && is_unchanged(&slot.kind, leads, there)
+        }
+    }
 }
 
 // A record that meets a result: what is known of all its cases.
@@ -123,7 +179,7 @@ fn grow_known(
         (recs (marked (kinds_view kinds.entries) (map (λ n. string_bytes n) certain.keys)))) }
 {
     match known {
-        Kind::Rec(slots) => grow_record(alloc, slots, leads, kinds, &certain),
+        Kind::Rec(slots) => grow_record(alloc, slots, leads, kinds, certain),
         _ => whole_join(alloc, kind, leads, &Growing::Rec(kinds, certain)),
     }
 }

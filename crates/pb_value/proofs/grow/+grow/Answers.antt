@@ -44,9 +44,13 @@ grow-returns-in-Result-Rec t c =
 pub grow_record-returns : goal.grow_record-returns
 grow_record-returns t c =
     let kinds = c.in_ok-kinds.kinds in
-    let certain = c.in_ok-certain.certain in
-    let names = map (λ (n : String Global). string_bytes n) certain.keys in
-    growing_view-Rec kinds certain ∙ ap (λ ss. recs (marked ss names)) c.in_ok-kinds.ensures ∙ ap recs (c.in_ok-certain.ensures c.args.leads)
+    let still = c.in_ok-still.still in
+    let names = map (λ (n : String Global). string_bytes n) still.keys in
+    growing_view-Rec kinds still ∙ ap (λ ss. recs (marked ss names)) c.in_ok-kinds.ensures ∙ ap recs (c.in_ok-still.ensures c.args.leads)
+
+pub grow_record-returns-then-adds_no_field : goal.grow_record-returns-then-adds_no_field
+grow_record-returns-then-adds_no_field t c =
+    growing_view-Rec c.args.kinds c.args.certain ∙ ap recs (sym (c.adds_no_field.ensures c.if-adds_no_field.true))
 
 pub grow_known-returns-in-Rec : goal.grow_known-returns-in-Rec
 grow_known-returns-in-Rec t c = λ cs own.

@@ -7,9 +7,12 @@ use Rattle.pb_semantics.proofs.Names.{same_name}
 use Rattle.pb_language.specs.Expression.{Name, Expression, Root, Term, variable, alias, other, member}
 use Rattle.pb_language.specs.Expansion.{expanded_root, root_named}
 use Rattle.pb_language.specs.Same.{same_expression, same_root}
-use Rattle.pb_language.specs.Scope.{Scope, Learned, nothing, taught, learned_kind, with_both_kinds, both_learned, resolved}
+use Rattle.pb_language.specs.Scope.{Scope, Learned, nothing, taught, learned_kind, with_both_kinds, both_learned, resolved, resolved_term}
 use Rattle.pb_language.proofs.Same.{own_expression, own_root}
 use Rattle.pb_value.specs.KindView.{kind_view}
+use Rattle.pb_syntax.specs.ExprView.{root_view, term_view}
+use Rattle.pb_syntax.specs.declared.expr.Root.{Root as WrittenRoot}
+use Rattle.pb_syntax.specs.declared.expr.Root.TheVariants as roots
 use Rattle.pb_expr.specs.Aliases.{Trees}
 use Rattle.pb_expr.specs.Found.{alias_tree}
 use Rattle.pb_expr.specs.TaughtView.{with_learned, learned_view}
@@ -51,6 +54,27 @@ member_named n g i (Some e) = refl
 pub resolved_named : (c : Scope) (n : Name) (t : Option Expression) → resolved c (root_named n t) ≡ root_named n t
 resolved_named c n None = refl
 resolved_named c n (Some e) = refl
+
+-- roots that are written are the same where what they stand for is
+pub same_expanded : (f : Trees) (r q : WrittenRoot) → same_root (expanded_root f (root_view r)) (expanded_root f (root_view q)) ≡ same_root (root_view r) (root_view q)
+same_expanded f (roots.Variable n) (roots.Variable m) = same_named f (string_bytes n) (string_bytes m)
+same_expanded f (roots.Variable n) (roots.Other t x) = named_other (string_bytes n) (string_bytes x) (f (string_bytes n)) (term_view t)
+same_expanded f (roots.Variable n) (roots.Member m) = named_member (string_bytes n) (string_bytes m.group) m.place (f (string_bytes n))
+same_expanded f (roots.Other t x) (roots.Variable m) = other_named (string_bytes m) (string_bytes x) (f (string_bytes m)) (term_view t)
+same_expanded f (roots.Other t x) (roots.Other u y) = refl
+same_expanded f (roots.Other t x) (roots.Member m) = refl
+same_expanded f (roots.Member m) (roots.Variable n) = member_named (string_bytes n) (string_bytes m.group) m.place (f (string_bytes n))
+same_expanded f (roots.Member m) (roots.Other t x) = refl
+same_expanded f (roots.Member m) (roots.Member k) = refl
+
+pub same_resolved : (c : Scope) (f : Trees) (r q : WrittenRoot)
+    → same_root (resolved c (expanded_root f (root_view r))) (expanded_root f (root_view q)) ≡ same_root (resolved c (root_view r)) (root_view q)
+same_resolved c f (roots.Variable n) q =
+    ap (λ x. same_root x (expanded_root f (root_view q))) (resolved_named c (string_bytes n) (f (string_bytes n))) ∙ same_expanded f (roots.Variable n) q
+same_resolved c f (roots.Other t x) (roots.Variable m) = other_named (string_bytes m) (string_bytes x) (f (string_bytes m)) (resolved_term c (term_view t))
+same_resolved c f (roots.Other t x) (roots.Other u y) = refl
+same_resolved c f (roots.Other t x) (roots.Member m) = refl
+same_resolved c f (roots.Member m) q = same_expanded f (roots.Member m) q
 
 -- where a host is named, a name of `vars` stays what it is
 pub resolved-expanded : (c : Scope) (f : Trees) (r : Root) → expanded_root f (resolved c r) ≡ resolved c (expanded_root f r)

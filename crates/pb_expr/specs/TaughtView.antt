@@ -18,7 +18,8 @@ use Rattle.pb_expr.specs.Aliases.{Trees}
 use Rattle.pb_expr.specs.Before.{Before}
 
 abbrev pub present_view : Trees → Path → Present
-present_view f p = record { root = expanded_root f (root_view p.root); steps = names_of p.steps.items }
+present_view f p =
+    record { root = expanded_root f (root_view p.root); steps = names_of p.steps.items }
 
 abbrev pub presents_view : Trees → List (Arc Path Global) → List Present
 presents_view f ps = map (λ p. present_view f p.value) ps

@@ -1,5 +1,5 @@
 // How large and how deep a value or a kind is; what it shares counts as often as it stands there.
-ghost use Rattle.std.specs.Prelude.{◌<◌, ◌^◌, ◌≡◌, ◌≤◌, IfOk};
+ghost use Rattle.std.specs.Prelude.{◌+◌, ◌<◌, ◌^◌, ◌≡◌, ◌≤◌, IfOk, IsOk};
 ghost use Rattle.pb_semantics.specs.Words.{most_weight_levels};
 ghost use Rattle.pb_value.specs.Weights.{IsWithin, above, both, leaf, names_weight, nothing};
 ghost use Rattle.pb_value.specs.Weights.{text_weight};
@@ -61,6 +61,7 @@ impl Weight {
     pub(crate) fn with(self, part: Weight, most: u64) -> Result<Weight, AllocError>
         ensures sum { IfOk result (λ w. w ≡ both self part) }
         ensures within { IfOk result (λ w. w.leaves ≤ most) }
+        ensures fits { self.leaves + part.leaves ≤ most → IsOk result }
     {
         if self.leaves > most || part.leaves > most - self.leaves {
             return Err(AllocError);
@@ -75,6 +76,7 @@ impl Weight {
     pub(crate) fn nest(self, most: u64) -> Result<Weight, AllocError>
         ensures sum { IfOk result (λ w. w ≡ above self) }
         ensures within { IfOk result (λ w. IsWithin most w) }
+        ensures fits { self.leaves < most → self.levels < most_weight_levels → IsOk result }
     {
         if self.leaves >= most || self.levels >= MOST_LEVELS {
             return Err(AllocError);

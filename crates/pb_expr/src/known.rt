@@ -46,7 +46,8 @@ pub trait Known {
 
     /// What is known of a variable of the host of that name.
     fn other(&self, host: &str, name: &str) -> Option<&Slot<Kind>>
-        ensures { spot_view result ≡ slot_at name.now (view_of host.now (before self.now).scope.table) };
+        ensures { spot_view result
+            ≡ slot_at name.now (view_of host.now (before self.now).scope.table) };
 
     /// Whether the host of that name, where it is active, has the variable from this place on.
     fn lasts(&self, host: &str, name: &str) -> bool

@@ -1,5 +1,9 @@
 // How large and how deep a value or a kind is; what it shares counts as often as it stands there.
+<<<<<<< HEAD
 ghost use Rattle.std.specs.Prelude.{◌&&◌, ◌/◌, ◌<◌, ◌^◌, ◌≡◌, ◌≤◌, IfOk, nat_eq, nat_le, nat_lt};
+=======
+ghost use Rattle.std.specs.Prelude.{◌+◌, ◌<◌, ◌^◌, ◌≡◌, ◌≤◌, IfOk, IsOk};
+>>>>>>> 3a648b160c33c3aa6a4fcab085d24c07d73af1e4
 ghost use Rattle.pb_semantics.specs.Words.{most_weight_levels};
 ghost use Rattle.pb_value.specs.Weights.{IsWithin, above, both, leaf, names_weight, nothing};
 ghost use Rattle.pb_value.specs.Weights.{text_weight};
@@ -82,6 +86,7 @@ impl Weight {
     pub(crate) fn with(self, part: Weight, most: u64) -> Result<Weight, AllocError>
         ensures sum { IfOk result (λ w. w ≡ both self part) }
         ensures within { IfOk result (λ w. w.leaves ≤ most) }
+        ensures fits { self.leaves + part.leaves ≤ most → IsOk result }
     {
         if self.leaves > most || part.leaves > most - self.leaves {
             return Err(AllocError);
@@ -96,6 +101,7 @@ impl Weight {
     pub(crate) fn nest(self, most: u64) -> Result<Weight, AllocError>
         ensures sum { IfOk result (λ w. w ≡ above self) }
         ensures within { IfOk result (λ w. IsWithin most w) }
+        ensures fits { self.leaves < most → self.levels < most_weight_levels → IsOk result }
     {
         if self.leaves >= most || self.levels >= MOST_LEVELS {
             return Err(AllocError);

@@ -2,8 +2,8 @@
 // isn't fit.
 ghost use Rattle.std.specs.Prelude.{[], ◌∷◌, ◌≡◌, Bool, IfOk, None, OnOk, codes, false};
 ghost use Rattle.std.specs.Prelude.{map, not, option_map, string_bytes, true};
-ghost use Rattle.pb_semantics.specs.Words.{Gives, below as is_below, hosts, no_slots, put_slot};
-ghost use Rattle.pb_semantics.specs.Words.{slot_at, spot};
+ghost use Rattle.pb_semantics.specs.Words.{Gives, below as is_below, hosts, lists, no_slots};
+ghost use Rattle.pb_semantics.specs.Words.{put_slot, slot_at, spot, texts};
 ghost use Rattle.pb_language.specs.Words.{Joins, Name, Registry as Modules, action_fault};
 ghost use Rattle.pb_language.specs.Words.{are_plain_tasks, argument_or, arguments_fault, asks};
 ghost use Rattle.pb_language.specs.Words.{call_of, conditions_fault, expression, fault};
@@ -152,7 +152,11 @@ fn step(
 
 /// What is known of a host before anything is run.
 pub fn opening(alloc: Global, name: &str, groups: usize) -> Result<Slots, AllocError>
-    ensures { IfOk result (λ s. groups ≡ 1 → Stands name.now (slots_view s.entries) no_slots) }
+    ensures known { IfOk result (λ s. slots_view s.entries
+        ≡ put_slot (codes "group_names") true (lists texts groups)
+        (put_slot (codes "inventory_hostname") true (hosts (name.now ∷ [])) no_slots)) }
+    ensures stands { IfOk result
+        (λ s. groups ≡ 1 → Stands name.now (slots_view s.entries) no_slots) }
 {
     let mut environment = Slots::new(alloc);
     let host = host_kind(alloc, name)?;

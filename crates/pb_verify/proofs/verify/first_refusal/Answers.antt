@@ -18,7 +18,7 @@ returns-clause-refusal c =
     let ms = modules_of c.args.registry.now in
     let ts = plain_tasks c.args.tasks.now in
     let name = c.host_name-name.result.now in
-    let stands = c.in_ok-environment.ensures (length-groups (λ n. string_bytes n.value) v c.args.inventory.now.lone c.group_names.result.now c.group_names.ensures) in
+    let stands = c.in_ok-environment.ensures.stands (length-groups (λ n. string_bytes n.value) v c.args.inventory.now.lone c.group_names.result.now c.group_names.ensures) in
     let ruled = ap (λ o. or_later o (plain_flow ms name 0 no_slots ts)) c.in_default.ensures in
     IfOk-weaker c.way_of.result _ _ (λ w found h e.
     subst (λ x. option_map refusal_of w.refusal ≡ or_later (plain_rules ms ts) (plain_flow ms x 0 no_slots ts))
@@ -28,7 +28,7 @@ returns-clause-refusal c =
 pub returns-clause-known : goal.returns-clause-known
 returns-clause-known c =
     let v = inventory_view c.args.inventory.now in
-    let stands = c.in_ok-environment.ensures (length-groups (λ n. string_bytes n.value) v c.args.inventory.now.lone c.group_names.result.now c.group_names.ensures) in
+    let stands = c.in_ok-environment.ensures.stands (length-groups (λ n. string_bytes n.value) v c.args.inventory.now.lone c.group_names.result.now c.group_names.ensures) in
     IfOk-weaker c.way_of.result _ _ (λ w found h e n.
     subst (λ x. Joins (plain_writes (modules_of c.args.registry.now) x 0 no_slots (plain_tasks c.args.tasks.now)) (slots_view w.known.entries))
     (name-first v c.args.inventory.now.lone h c.host_name-name.result.now e c.host_name-name.ensures) (found stands n))

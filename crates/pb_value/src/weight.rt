@@ -1,9 +1,6 @@
 // How large and how deep a value or a kind is; what it shares counts as often as it stands there.
-<<<<<<< HEAD
-ghost use Rattle.std.specs.Prelude.{◌&&◌, ◌/◌, ◌<◌, ◌^◌, ◌≡◌, ◌≤◌, IfOk, nat_eq, nat_le, nat_lt};
-=======
-ghost use Rattle.std.specs.Prelude.{◌+◌, ◌<◌, ◌^◌, ◌≡◌, ◌≤◌, IfOk, IsOk};
->>>>>>> 3a648b160c33c3aa6a4fcab085d24c07d73af1e4
+ghost use Rattle.std.specs.Prelude.{◌&&◌, ◌+◌, ◌/◌, ◌<◌, ◌^◌, ◌≡◌, ◌≤◌, IfOk, IsOk, nat_eq, nat_le};
+ghost use Rattle.std.specs.Prelude.{nat_lt};
 ghost use Rattle.pb_semantics.specs.Words.{most_weight_levels};
 ghost use Rattle.pb_value.specs.Weights.{IsWithin, above, both, leaf, names_weight, nothing};
 ghost use Rattle.pb_value.specs.Weights.{text_weight};

@@ -197,7 +197,6 @@ pub(crate) fn alias_kind(learned: &[Learned], name: &str, kind: Kind) -> Result<
 }
 
 // Whether a test showed that the path is there.
-#[tactic(auto, using(crate::proofs::NamedRoots::same_resolved))]
 pub(crate) fn is_present<K: Known>(known: &K, taught: &Taught, path: &Path) -> bool
     ensures { let b = K.before known.now in
         result ≡ is_shown (scope_view b taught.now)
@@ -212,9 +211,11 @@ pub(crate) fn is_present<K: Known>(known: &K, taught: &Taught, path: &Path) -> b
 }
 
 // Whether the root, with its host by its name where that is known, is the other.
+#[tactic(auto, using(crate::proofs::NamedRoots::same_resolved))]
 fn is_root<K: Known>(known: &K, root: &Root, shown: &Root) -> bool
-    ensures { result ≡ same_root
-        (resolved (K.before known.now).scope (root_view root.now)) (root_view shown.now) }
+    ensures { let b = K.before known.now in
+        result ≡ same_root (resolved b.scope (expanded_root b.trees (root_view root.now)))
+        (expanded_root b.trees (root_view shown.now)) }
 {
     match (root, shown) {
         (Root::Variable(name), Root::Variable(other)) => name == other,
@@ -269,7 +270,6 @@ fn is_member(one: &Member, other: &Member) -> bool
 }
 
 // Whether the paths show that the path is there.
-#[tactic(auto, using(crate::proofs::NamedRoots::same_expanded))]
 fn shows(paths: &[Arc<Path>], path: &Path) -> bool
     ensures { (f : Trees) → result ≡ is_present_path (expanded_root f (root_view path.now.root))
         (names_of path.now.steps.items) (presents_view f paths.now) }
@@ -282,8 +282,10 @@ fn shows(paths: &[Arc<Path>], path: &Path) -> bool
     false
 }
 
+#[tactic(auto, using(crate::proofs::NamedRoots::same_expanded))]
 fn is_same_root(one: &Root, other: &Root) -> bool
-    ensures { result ≡ same_root (root_view one.now) (root_view other.now) }
+    ensures { (f : Trees) → result
+        ≡ same_root (expanded_root f (root_view one.now)) (expanded_root f (root_view other.now)) }
 {
     match (one, other) {
         (Root::Variable(name), Root::Variable(other)) => name == other,

@@ -7,6 +7,8 @@ TOP = Path(__file__).resolve().parent.parent
 CITES_A_PROOF = re.compile(r"^\s*(pub |ghost )*use \S*\.proofs\.")
 COLUMNS = 100
 IS_ONE_TEXT = re.compile(r'^\s*(b"|r#").*;$')
+# At the margin, so that the methods of a trait, which is public, aren't meant.
+IS_PRIVATE = re.compile(r"^((fn|const|struct|enum|type|static) |\s*pub\(crate\) )")
 NOT_BUILT = re.compile(r"^(\S+) of the cases of `tests/cases` aren't built yet", re.M)
 
 
@@ -32,6 +34,16 @@ def long_lines():
                 yield f"{path.relative_to(TOP)}:{number}: {len(line)} columns"
 
 
+def documented_privates():
+    """`///` stands on what is public, and `//` on what isn't."""
+    for path in (TOP / "crates").glob("*/src/**/*.rt"):
+        is_documented = False
+        for number, line in enumerate(path.read_text(encoding="utf-8").splitlines(), 1):
+            if is_documented and IS_PRIVATE.match(line):
+                yield f"{path.relative_to(TOP)}:{number}: {line.strip()}"
+            is_documented = line.lstrip().startswith("///") or (is_documented and line.lstrip().startswith("#["))
+
+
 def wrong_counts():
     """README says how many cases aren't built yet, as tests/not_built_yet does."""
     wanted = (TOP / "tests/not_built_yet").read_text().strip()
@@ -44,6 +56,7 @@ def main():
     checks = [
         ("a file of src/ or specs/ cites a proof", proofs_cited),
         ("a line is too long", long_lines),
+        ("`///` on what isn't public", documented_privates),
         ("a count is wrong", wrong_counts),
     ]
     failed = 0

@@ -22,10 +22,10 @@ use std::alloc::Global;
 use std::collections::BTreeMap;
 use std::sync::Arc;
 
-/// The most bytes of a text.
+// The most bytes of a text.
 pub(crate) const MOST_TEXT_BYTES: usize = 65_536;
 
-/// The most bytes of an expression.
+// The most bytes of an expression.
 pub(crate) const MOST_EXPRESSION_BYTES: usize = 4_096;
 
 // How many bytes stand round the expression of a template.
@@ -34,7 +34,7 @@ const BRACES: usize = 4;
 // How many lists and records of one argument may stand inside one another.
 const MOST_LEVELS: usize = 32;
 
-/// The arguments that a record lists, in the order of their names' bytes.
+// The arguments that a record lists, in the order of their names' bytes.
 pub(crate) fn arguments_of(alloc: Global, fields: &Fields) -> Result<Vec<Argument>, FormFault>
     ensures given { Gives (λ found. Some (argument_parts found.items)) refused result
         (arguments_of (fields_view fields.now.entries)) }
@@ -51,7 +51,7 @@ pub(crate) fn arguments_of(alloc: Global, fields: &Fields) -> Result<Vec<Argumen
     Ok(arguments)
 }
 
-/// The one argument of that name, with that value.
+// The one argument of that name, with that value.
 pub(crate) fn lone_argument(
     alloc: Global,
     name: &str,

@@ -65,7 +65,7 @@ impl Book {
         self.plays.as_slice()
     }
 
-    /// The book of these plays.
+    // The book of these plays.
     pub(crate) fn of_plays(plays: Vec<Play>) -> Book
         requires numbered { is_numbered plays.items ≡ true }
         requires plain { are_plain_plays plays.items ≡ true }

@@ -18,7 +18,7 @@ pub enum BookFault {
     NoMemory,
 }
 
-/// Why a JSON value gives no part of a book.
+// Why a JSON value gives no part of a book.
 #[derive(Debug, Drop)]
 pub(crate) enum FormFault {
     NotBuilt,

@@ -33,7 +33,7 @@ const MOST_TASKS: usize = 4_095;
 // The line of the first task.
 const FIRST_TASK_LINE: u32 = 2;
 
-/// The tasks that a list describes.
+// The tasks that a list describes.
 pub(crate) fn tasks_of(
     alloc: Global,
     items: Vec<Value>,
@@ -108,7 +108,7 @@ fn work_in(
     Ok((work, arguments))
 }
 
-/// Whether the name, if there is one, is a text that isn't too long.
+// Whether the name, if there is one, is a text that isn't too long.
 pub(crate) fn is_named(fields: &Fields) -> bool
     ensures { result ≡ is_named (field_value (codes "name") (fields_view fields.now.entries)) }
 {

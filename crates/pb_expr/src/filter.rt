@@ -19,7 +19,7 @@ use pb_value::render::render;
 use pb_value::{Fields, Value, field_of};
 use std::alloc::{AllocError, Global};
 
-/// How many bytes a text that is made of others may have: those of the heaviest value.
+// How many bytes a text that is made of others may have: those of the heaviest value.
 const MOST_BYTES: usize = 1_073_741_824;
 
 pub(crate) fn negation_of(operand: Value) -> Value
@@ -136,7 +136,7 @@ fn name_of(status: Status) -> &'static str
     }
 }
 
-/// How many items, characters or fields the value has.
+// How many items, characters or fields the value has.
 pub(crate) fn length_of(value: &Value) -> Value
     ensures { view result ≡ shown (counted (view value.now)) }
 {
@@ -181,7 +181,7 @@ fn characters(text: &[u8]) -> usize
     count
 }
 
-/// Whether the value can stand in a text: a text, a whole number or a truth value.
+// Whether the value can stand in a text: a text, a whole number or a truth value.
 pub(crate) fn is_plain(value: &Value) -> bool
     ensures { result ≡ is_plain_value (view value.now) }
 {
@@ -191,7 +191,7 @@ pub(crate) fn is_plain(value: &Value) -> bool
     }
 }
 
-/// Puts the value's text behind the text.
+// Puts the value's text behind the text.
 pub(crate) fn append(alloc: Global, text: &mut String, value: &Value) -> Result<(), AllocError>
     requires { is_plain_value (view value.now) ≡ true }
     ensures { OnOk result
@@ -212,7 +212,7 @@ fn append_letters(text: &mut String, letters: &str) -> Result<(), AllocError>
     text.push_str(letters)
 }
 
-/// The texts of a list's items with a text between them.
+// The texts of a list's items with a text between them.
 pub(crate) fn joined(alloc: Global, operands: (Value, Value)) -> Result<Value, AllocError>
     ensures { IfOk result
         (λ v. view v ≡ shown (joined_values (view operands.0) (view operands.1))) }

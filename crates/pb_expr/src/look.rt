@@ -17,7 +17,7 @@ use pb_syntax::{Member, Path, Root, Term};
 use pb_value::{Value, field_of};
 use std::alloc::{AllocError, Global};
 
-/// What stands at the end of a path.
+// What stands at the end of a path.
 #[derive(Drop)]
 pub(crate) enum Look {
     /// A value, which shares what lies inside with the variables.
@@ -29,7 +29,7 @@ pub(crate) enum Look {
     Failing,
 }
 
-/// What stands at the end of the path.
+// What stands at the end of the path.
 pub(crate) fn look_at<V: Vars>(alloc: Global, path: &Path, vars: &V) -> Result<Look, AllocError>
     ensures { IfOk result (λ l. look_view l ≡ end_of (names_of path.now.steps.items)
         (look (V.world vars.now) (expanded_root (V.trees vars.now) (root_view path.now.root)))) }
@@ -167,7 +167,7 @@ fn field_inside<'v>(outer: &'v Value, name: &str) -> Option<&'v Value>
     }
 }
 
-/// Whether the host that the term names is active in the batch.
+// Whether the host that the term names is active in the batch.
 pub(crate) fn activity_of<V: Vars>(term: &Term, vars: &V) -> Value
     ensures { view result ≡ shown (active_found (V.world vars.now) (term_view term.now)) }
 {

@@ -9,7 +9,7 @@ use crate::signature::Parameter;
 use pb_value::{Kind, Presence, Slot, Slots, put_slot};
 use std::alloc::{AllocError, Global};
 
-/// The most lines that one answer gives.
+// The most lines that one answer gives.
 const MOST_LINES: usize = 65_536;
 
 /// A field of a shape, or a parameter, which is required where it is always there.

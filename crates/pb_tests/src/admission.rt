@@ -138,7 +138,7 @@ fn drops_and_completes(rt: HostRuntime) -> Result<(), Fail> {
     Ok(())
 }
 
-/// Of what stands at a path: how many fields are told, and the fields `exists` and `isdir`.
+// Of what stands at a path: how many fields are told, and the fields `exists` and `isdir`.
 type Found = (usize, Option<bool>, Option<bool>);
 
 // What is told in the field `stat`; none where it is no record.

@@ -10,8 +10,8 @@ use crate::below::covers_all;
 use crate::kind::{Case, Kind, Presence, Slot, Slots};
 use std::collections::BTreeSet;
 
-/// Where it holds, the least kind above both is the one that is joined to. It makes nothing, and
-/// goes over both at once; where it doesn't hold, that kind may still be the least.
+// Where it holds, the least kind above both is the one that is joined to. It makes nothing, and
+// goes over both at once; where it doesn't hold, that kind may still be the least.
 #[cycle(adds)]
 pub(crate) fn adds_nothing(joined: &Kind, kind: &Kind, leads: bool) -> bool
     ensures { result ≡ true

@@ -6,7 +6,7 @@ ghost use Rattle.pb_value.specs.KindView.{is_always as is_certain, kind_view, sl
 use crate::kind::{Kind, Presence, Slot, Slots, weight};
 use std::collections::BTreeSet;
 
-/// Where it holds, both are the same kind; it isn't asked of results.
+// Where it holds, both are the same kind; it isn't asked of results.
 #[cycle(same)]
 pub(crate) fn is_same(first: &Kind, second: &Kind) -> bool
     ensures { result ≡ true → kind_view first.now ≡ kind_view second.now }

@@ -1,3 +1,2 @@
-pub mod OneName
 pub mod TwoHosts
 pub mod TwoKnown

@@ -15,8 +15,6 @@ mod inventories;
 #[cfg(test)]
 mod lattices;
 #[cfg(test)]
-mod names;
-#[cfg(test)]
 mod others;
 #[cfg(test)]
 mod refusals;

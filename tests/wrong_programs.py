@@ -1,0 +1,204 @@
+# Tries the wrong programs of crates/*/wrong, each of which the prover must refuse: python3 tests/wrong_programs.py [CRATE..]
+#
+# An edit says which function it makes wrong, and how (`function:`, then `file:`, `old:` and `new:`). A function is proved
+# against the contracts of what it calls and not against their bodies, so many edits are tried at once, none of them in a
+# function that leads to another's, and each has to be refused at its own function. Before the edits the same functions have
+# to be proved as they are. It stands on the libraries that rt ci built.
+import importlib.machinery
+import importlib.util
+import os
+import re
+import shutil
+import sys
+import tempfile
+from concurrent.futures import ThreadPoolExecutor
+from dataclasses import dataclass
+from pathlib import Path
+
+sys.dont_write_bytecode = True
+TOP = Path(__file__).resolve().parent.parent
+FUNCTION = re.compile(r"^( *)(?:pub(?:\(crate\))? )?fn (\w+)", re.M)
+# What a line of a function says where its proof waits for that of another.
+WAITS = re.compile(r"it calls|it waits for|it passes the block")
+# What is said of a stored answer that names what an edit took away, which says little of the contract.
+NAMES = re.compile(r"has no field|is not in scope|has no `|was not admitted")
+# Names of functions that say nothing of whose they are.
+OF_MANY_TYPES = {"clone", "copy", "drop", "eq", "fmt", "from", "new"}
+
+
+def kit():
+    """The kit's own command, which checks a copy of a crate with some of its texts changed."""
+    loader = importlib.machinery.SourceFileLoader("rt", os.path.realpath(shutil.which("rt")))
+    made = importlib.util.module_from_spec(importlib.util.spec_from_loader("rt", loader))
+    loader.exec_module(made)
+    return made
+
+
+@dataclass(frozen=True)
+class Edit:
+    crate: str
+    name: str
+    function: str
+    changes: tuple  # of file, old text and new text
+
+    def last_name(self):
+        return self.function.split("::")[-1]
+
+    def applied(self, folder, texts):
+        """The texts with this edit in them too; none where an old text doesn't stand in its file once."""
+        texts = dict(texts)
+        for file, old, new in self.changes:
+            text = texts.get(file) or (folder / file).read_text(encoding="utf-8")
+            if text.count(old) != 1:
+                return None
+            texts[file] = text.replace(old, new)
+        return texts
+
+
+def read_edit(path):
+    function, file, old, changes = "", "", "", []
+    for line in path.read_text(encoding="utf-8").splitlines():
+        key, _, value = line.partition(":")
+        value = value.removeprefix(" ")
+        if key == "function":
+            function = value
+        elif key == "file":
+            file = value
+        elif key == "old":
+            old = value
+        elif key == "new":
+            changes.append((file, old, value))
+    if not function or not all(file and old for file, old, _ in changes or [("", "", "")]):
+        sys.exit(f"{path} names no function, or changes nothing")
+    return Edit(path.parent.parent.name, path.stem, function, tuple(changes))
+
+
+class Calls:
+    """Which functions of a crate may lead to which, by their names. It is a guess: what it gets wrong costs a round more, since
+    a function that waits for another is told apart."""
+
+    def __init__(self, folder):
+        self.named = {}
+        for file in sorted(folder.glob("src/**/*.rt")):
+            text = file.read_text(encoding="utf-8")
+            starts = list(FUNCTION.finditer(text))
+            for start, end in zip(starts, [*[it.start() for it in starts[1:]], len(text)]):
+                called = set(re.findall(r"(\w+)\(", text[start.end() : end]))
+                self.named.setdefault(start[2], set()).update(called - OF_MANY_TYPES)
+
+    def from_function(self, name):
+        """The names of the functions to which it leads, and its own."""
+        found, left = {name}, [name]
+        while left:
+            more = (self.named.get(left.pop(), set()) & self.named.keys()) - found
+            found |= more
+            left += more
+        return found
+
+
+class Trial:
+    """The edits of one crate."""
+
+    def __init__(self, rt, crate, edits, kept):
+        self.rt, self.crate, self.edits, self.kept = rt, crate, edits, kept
+        self.folder = Path(crate.folder)
+        calls = Calls(self.folder)
+        self.leads = {edit: calls.from_function(edit.last_name()) for edit in edits}
+
+    def run(self):
+        """For each edit whether it is refused, and what to say."""
+        told, left = {}, []
+        proved = self.check({}, self.edits)
+        for edit in self.edits:
+            if edit.applied(self.folder, {}) is None:
+                told[edit] = False, "BAD EDIT: an old text doesn't stand in its file once"
+            elif line_of(proved, edit) != "proved":
+                told[edit] = False, f"BAD EDIT: {edit.function} isn't proved as it is: {last_line(proved)}"
+            else:
+                left.append(edit)
+        while left:
+            decided = self.round(left)
+            told |= decided
+            left = [edit for edit in left if edit not in decided]
+        return [(edit, *told[edit]) for edit in self.edits]
+
+    def check(self, texts, edits):
+        """What the prover says of the edits' functions, with these texts in place of the crate's own."""
+        only = [word for edit in edits for word in ("--only", edit.function)]
+        return self.rt.checked(self.crate, texts, ["--jobs", "1", *only], self.kept).stdout
+
+    def round(self, left):
+        """What is found of some of the edits, of one at least."""
+        chosen, texts = [], {}
+        # those that lead to the fewest first
+        for edit in sorted(left, key=lambda it: len(self.leads[it])):
+            with_it = edit.applied(self.folder, texts) if all(self.are_apart(edit, it) for it in chosen) else None
+            if with_it is not None:
+                chosen, texts = [*chosen, edit], with_it
+        output = self.check(texts, chosen)
+        decided = {edit: judged(output, edit) for edit in chosen if judged(output, edit)}
+        return decided or {left[0]: self.judged_alone(left[0])}
+
+    def are_apart(self, edit, other):
+        return edit.last_name() not in self.leads[other] and other.last_name() not in self.leads[edit]
+
+    def judged_alone(self, edit):
+        output = self.check(edit.applied(self.folder, {}), [edit])
+        return judged(output, edit) or (False, f"BAD EDIT: {last_line(output)}")
+
+
+def last_line(output):
+    return output.rstrip().rpartition("\n")[2][:160]
+
+
+def line_of(output, edit):
+    """What the prover says of the edit's function."""
+    start = f"fn {edit.crate}::{edit.function}: "
+    return next((line.removeprefix(start) for line in output.splitlines() if line.startswith(start)), "")
+
+
+def judged(output, edit):
+    """Whether the edit is refused, and what to say; none where its function waits for the proof of another, or wasn't reached."""
+    line = line_of(output, edit)
+    if line == "proved":
+        return False, "NOT REFUSED: the function is still proved with this edit"
+    if not line or WAITS.search(line):
+        return None
+    first = first_of(output, edit)
+    only = " (only since a stored answer names what the edit took away)" if NAMES.search(first) else ""
+    return True, f"refused{only}: {(first or line)[:160]}"
+
+
+def first_of(output, edit):
+    """The first thing said of the function's own proof, one that isn't only of names where there is one."""
+    name = edit.last_name()
+    own = re.compile(rf"\./proofs/\S*\b{name}/\S*: error|: error: `{name}-|\(`{name}-")
+    said = [line for line in output.splitlines() if own.search(line)]
+    return next((line for line in said if not NAMES.search(line)), said[0] if said else "")
+
+
+def tried(rt, crate, edits):
+    with tempfile.TemporaryDirectory(prefix="wrong-") as kept:
+        return Trial(rt, crate, edits, kept).run()
+
+
+def main():
+    rt = kit()
+    os.chdir(TOP)
+    rt.rtlib.guarded()
+    crates = [it for it in rt.rtlib.crates_below(os.getcwd()) if not sys.argv[1:] or it.name in sys.argv[1:]]
+    work = [(it, list(map(read_edit, sorted(Path(it.folder).glob("wrong/*.edit"))))) for it in crates]
+    # the longest crate first
+    work = sorted([it for it in work if it[1]], key=lambda it: -it[0].count(rb"\n"))
+    passed = failed = 0
+    with ThreadPoolExecutor(len(os.sched_getaffinity(0))) as pool:
+        for told in pool.map(lambda it: tried(rt, *it), work):
+            for edit, is_refused, text in told:
+                print(f"wrong {edit.crate}/{edit.name}: {text}", flush=True)
+                passed, failed = passed + is_refused, failed + (not is_refused)
+    print(f"{passed} passed, {failed} failed")
+    return 1 if failed or not passed else 0
+
+
+if __name__ == "__main__":
+    sys.exit(main())

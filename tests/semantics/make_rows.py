@@ -5,7 +5,8 @@ Usage: make_rows.py, which writes the rows anew (then `rt fmt` lays them out), o
 The cases are those of tests/cases that cases.txt lists, and all of rows.jsonl.
 
 A case says what is printed for a book; its row says that `judged`, or the run of an accepted book, gives just that. The
-expressions of all cases have rows too: the tree that the grammar gives each text, or that it has none.
+expressions of all cases have rows too: the tree that the grammar gives each text, or that it has none; and so have their
+inventories: what the definitions read the JSON to, or why they refuse it.
 """
 
 import json
@@ -13,6 +14,7 @@ import re
 import sys
 from pathlib import Path
 
+import inventories
 import outcomes
 import trees
 from books import answers_term, book_term, inventory_term, read_json, registry_term
@@ -85,6 +87,7 @@ def files():
         for number, start in enumerate(range(0, len(rows), PER_FILE)):
             text = f"-- Cases of {family}, computed.\n" + HEADER.read_text() + "\n" + "\n".join(rows[start : start + PER_FILE])
             texts[f"{family.capitalize()}{number + 1:02}"] = text
+    texts |= inventories.files(cases_in(HERE.parent / "cases"))
     return {**texts, **trees.files(cases_in(HERE.parent / "cases")), **outcomes.files(HEADER.read_text(), verdict_term)}
 
 

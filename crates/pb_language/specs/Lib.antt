@@ -45,4 +45,7 @@ pub mod StartRules
 pub mod GiveRules
 pub mod OwnReads
 pub mod FlushOrder
+pub mod Written
+pub mod Families
+pub mod Inventories
 pub mod Words

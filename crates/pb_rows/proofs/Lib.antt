@@ -83,3 +83,12 @@ pub mod Trees10
 pub mod Trees11
 pub mod Trees12
 pub mod Trees13
+pub mod Inventories01
+pub mod Inventories02
+pub mod Inventories03
+pub mod Inventories04
+pub mod Inventories05
+pub mod Inventories06
+pub mod Inventories07
+pub mod Inventories08
+pub mod Inventories09

@@ -6,7 +6,7 @@ The cases are those of tests/cases that cases.txt lists, and all of rows.jsonl.
 
 A case says what is printed for a book; its row says that `judged`, or the run of an accepted book, gives just that. The
 expressions of all cases have rows too: the tree that the grammar gives each text, or that it has none; and so have their
-inventories: what the definitions read the JSON to, or why they refuse it.
+inventories and books: what the definitions read the JSON to, or why they refuse it.
 """
 
 import json
@@ -16,6 +16,7 @@ from pathlib import Path
 
 import inventories
 import outcomes
+import readings
 import trees
 from books import answers_term, book_term, inventory_term, read_json, registry_term
 from expressions import codes
@@ -88,6 +89,7 @@ def files():
             text = f"-- Cases of {family}, computed.\n" + HEADER.read_text() + "\n" + "\n".join(rows[start : start + PER_FILE])
             texts[f"{family.capitalize()}{number + 1:02}"] = text
     texts |= inventories.files(cases_in(HERE.parent / "cases"))
+    texts |= readings.files(cases_in(HERE.parent / "cases"))
     return {**texts, **trees.files(cases_in(HERE.parent / "cases")), **outcomes.files(HEADER.read_text(), verdict_term)}
 
 

@@ -1,6 +1,6 @@
 -- An expression has the same fault in scopes that are below each other.
 use Rattle.std.proofs.Common.{◌≡◌, List, Bool, true, false, not, ◌&&◌, ◌||◌, Option, is_some, codes, refl, sym, ap, ◌∙◌}
-use Rattle.pb_semantics.specs.Kind.{Spot, slot_at}
+use Rattle.pb_semantics.specs.Kind.{Spot}
 use Rattle.pb_semantics.proofs.Bools.{untrue}
 use Rattle.pb_language.specs.Expression.{Name, Expression, literal, path, hostvars_alone, negation, conjunction, disjunction, comparison, membership, in_batch, defined, undefinable, path_status, value_status, path_or, value_or, length_of, joined_by, concatenation, list_of, record_of, Root, variable, alias, other, member, Expressions, no_expressions, expression, Parts, no_parts, part, Term, named_host, this_host, item_host, group_member}
 use Rattle.pb_language.specs.World.{member_of}

@@ -1,5 +1,5 @@
 -- What tests teach goes up with the scope.
-use Rattle.std.proofs.Common.{◌≡◌, List, ◌∷◌, Bool, true, false, not, ◌&&◌, ◌||◌, cond, bytes_eq, Option, Some, None, refl, sym, ap, subst, ◌∙◌}
+use Rattle.std.proofs.Common.{◌≡◌, List, ◌∷◌, Bool, true, false, not, ◌&&◌, cond, bytes_eq, Option, Some, None, refl, sym, ap, subst, ◌∙◌}
 use Rattle.pb_semantics.specs.Kind.{KindData, Slots, Spot, recs, nowhere, spot, slot_at}
 use Rattle.pb_semantics.specs.Below.{below}
 use Rattle.pb_semantics.specs.Well.{Well}

@@ -2,7 +2,6 @@
 use Rattle.std.proofs.Common.{◌≡◌, ℕ, List, [], ◌∷◌, Bool, true, ◌&&◌, bytes_eq, nat_eq, Option, Some, None, refl, ap, arith}
 use Rattle.std.proofs.lemmas.Bool.Decides.{nat_tests, Decides-int_eq}
 use Rattle.pb_semantics.specs.Data.{Data, Items, Fields, null, boolean, int, text, list, rec, opaque, no_items, item, no_fields, field}
-use Rattle.pb_semantics.specs.Equal.{data_eq}
 use Rattle.pb_semantics.proofs.Bools.{untrue, and-left, and-right}
 use Rattle.pb_semantics.proofs.Names.{same_name, same_flag, own_name, own_flag}
 use Rattle.pb_language.specs.Expression.{Name, Comparison, equal, less, at_most, more, at_least, Status, is_failed, is_changed, is_skipped, Term, named_host, this_host, item_host, group_member, Expression, literal, path, hostvars_alone, negation, conjunction, disjunction, comparison, membership, in_batch, defined, undefinable, path_status, value_status, path_or, value_or, length_of, joined_by, concatenation, list_of, record_of, Root, variable, alias, other, member, Expressions, no_expressions, expression, Parts, no_parts, part}

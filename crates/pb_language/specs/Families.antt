@@ -1,7 +1,7 @@
 -- The groups of an inventory as families: children, parents, depths and members (Ansible's page on
 -- how to build an inventory).
-use Rattle.std.specs.Prelude.{ℕ, zero, suc, max, List, [], ◌∷◌, ◌++◌, length, map, Bool, true}
-use Rattle.std.specs.Prelude.{false, not, ◌&&◌, ◌||◌, cond}
+use Rattle.std.specs.Prelude.{ℕ, zero, suc, max, List, [], ◌∷◌, ◌++◌, length, map, Bool}
+use Rattle.std.specs.Prelude.{not, ◌&&◌, ◌||◌, cond}
 use Rattle.std.specs.List.{filter, flat_map, fold, list_any}
 use Rattle.std.specs.Str.{bytes_eq}
 use Rattle.std.specs.Ordering.{nat_cmp, match_ordering}
@@ -83,7 +83,8 @@ put_name n [] = n ∷ []
 put_name n (m ∷ ms) = match_ordering (slice_cmp nat_cmp n m) (n ∷ m ∷ ms) (m ∷ ms)
     (m ∷ put_name n ms)
 
--- the names of all groups: the two that are always there, those that are written, and their children
+-- the names of all groups: the two that are always there, those that are written, and their
+-- children
 abbrev pub group_names : List Written → List Name
 group_names ws = fold (λ ns n. put_name n ns) []
     (all_group ∷ ungrouped_group ∷ flat_map (λ w. w.name ∷ w.children) ws)

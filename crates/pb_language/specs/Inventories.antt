@@ -1,16 +1,15 @@
 -- The inventory that a JSON value is, or why it is refused (Ansible's page on how variables are
 -- merged; the limits are this project's own).
-use Rattle.std.specs.Prelude.{ℕ, zero, suc, List, [], ◌∷◌, length, map, Bool, true, false, not}
+use Rattle.std.specs.Prelude.{ℕ, zero, suc, List, [], ◌∷◌, length, map, Bool, true, false}
 use Rattle.std.specs.Prelude.{◌&&◌, ◌||◌, ◌==◌, nat_le, cond, Option, Some, None, Result, Ok, Err}
 use Rattle.std.specs.List.{filter, fold, list_all}
-use Rattle.std.specs.Str.{bytes_eq}
 use Rattle.pb_semantics.specs.Data.{Data, Items, Fields, text, list, rec, opaque, no_items, item}
 use Rattle.pb_semantics.specs.Data.{no_fields, field, field_value, put_field, count_of}
 use Rattle.pb_semantics.specs.Keeps.{is_among}
 use Rattle.pb_semantics.specs.Limits.{most_hosts, most_levels}
 use Rattle.pb_language.specs.Expression.{Name}
-use Rattle.pb_language.specs.Families.{depth, group_names, groups_of, has_cycle, host_order, members}
-use Rattle.pb_language.specs.Families.{own_variables}
+use Rattle.pb_language.specs.Families.{depth, group_names, groups_of, has_cycle, host_order}
+use Rattle.pb_language.specs.Families.{members, own_variables}
 use Rattle.pb_language.specs.Grammar.{opens_here}
 use Rattle.pb_language.specs.Program.{Inventory}
 use Rattle.pb_language.specs.Rules.{reserved_names}

@@ -48,4 +48,8 @@ pub mod FlushOrder
 pub mod Written
 pub mod Families
 pub mod Inventories
+pub mod Keywords
+pub mod Texts
+pub mod TaskForm
+pub mod BookForm
 pub mod Words

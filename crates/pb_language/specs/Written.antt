@@ -1,5 +1,5 @@
 -- What a JSON value writes down as an inventory: groups with their hosts, variables and children,
--- and the variables of hosts (Ansible's pages on inventory scripts and on `ansible-inventory --list`).
+-- and the variables of hosts (Ansible's pages on inventory scripts and on `ansible-inventory`).
 use Rattle.std.specs.Prelude.{ℕ, List, [], ◌∷◌, length, Bool, true, false, not, ◌&&◌, ◌||◌, ◌==◌}
 use Rattle.std.specs.Prelude.{nat_le, cond, Option, Some, None, codes}
 use Rattle.std.specs.List.{flat_map, list_all}

@@ -1,7 +1,7 @@
 -- The inventories of cases, computed.
 use Rattle.std.specs.Prelude.{◌≡◌, refl, pos, negsuc, [], ◌∷◌, true, false, Ok, Err, codes}
-use Rattle.pb_semantics.specs.Data.{Data, null, boolean, int, text, list, rec, opaque, no_items, item, no_fields, field}
-use Rattle.pb_language.specs.Inventories.{cyclic, inventory_from, over_limit, wrong_form, wrong_host_name}
+use Rattle.pb_semantics.specs.Data.{null, boolean, int, text, list, rec, opaque, no_items, item, no_fields, field}
+use Rattle.pb_language.specs.Inventories.{inventory_from, wrong_form}
 
 inventory_0 : inventory_from (list (no_items)) ≡ Err wrong_form
 inventory_0 = refl

@@ -1,7 +1,7 @@
 -- The inventories of cases, computed.
-use Rattle.std.specs.Prelude.{◌≡◌, refl, pos, negsuc, [], ◌∷◌, true, false, Ok, Err, codes}
-use Rattle.pb_semantics.specs.Data.{Data, null, boolean, int, text, list, rec, opaque, no_items, item, no_fields, field}
-use Rattle.pb_language.specs.Inventories.{cyclic, inventory_from, over_limit, wrong_form, wrong_host_name}
+use Rattle.std.specs.Prelude.{◌≡◌, refl, pos, negsuc, [], ◌∷◌, Ok, Err, codes}
+use Rattle.pb_semantics.specs.Data.{int, text, list, rec, opaque, no_items, item, no_fields, field}
+use Rattle.pb_language.specs.Inventories.{inventory_from, wrong_form}
 
 inventory_480 : inventory_from (rec (field (codes "all") (rec (field (codes "hosts") (list (item (text (codes "h1")) (item (text (codes "h2")) (item (text (codes "h3")) (item (text (codes "h4")) (item (text (codes "h5")) (no_items))))))) (no_fields))) (no_fields))) ≡ Ok (record { hosts = (record { name = (codes "h1"); variables = (no_fields) } ∷ record { name = (codes "h2"); variables = (no_fields) } ∷ record { name = (codes "h3"); variables = (no_fields) } ∷ record { name = (codes "h4"); variables = (no_fields) } ∷ record { name = (codes "h5"); variables = (no_fields) } ∷ []); groups = (record { name = (codes "all"); hosts = ((codes "h1") ∷ (codes "h2") ∷ (codes "h3") ∷ (codes "h4") ∷ (codes "h5") ∷ []) } ∷ record { name = (codes "ungrouped"); hosts = ((codes "h1") ∷ (codes "h2") ∷ (codes "h3") ∷ (codes "h4") ∷ (codes "h5") ∷ []) } ∷ []) })
 inventory_480 = refl

@@ -1,18 +1,25 @@
 """The books of the cases, with what the definitions read them to, as rows.
 
 What is wanted of one that is read is worked out by books.py, apart from the definitions, and of a refused one the case says it.
-Books with quotes in their expressions are left out, since what is UTF-8 isn't computed.
+Books with a quote in some text are left out, since what is UTF-8 isn't computed, and so are long ones.
 """
 
 import json
 import re
+import sys
+from pathlib import Path
+
+sys.path.insert(0, str(Path(__file__).resolve().parent.parent))
 
 import books
+from check import bytes_of
 from books import book_term, by_bytes, data, read_json, registry_term
 from expressions import expressions, parts, template
 
 PER_FILE = 40
 MOST_BYTES = 1500
+MOST_BYTES_OF_PIECES = 8000
+MOST_TEXT = 1000
 IMPORTS = """use Rattle.std.specs.Prelude.{◌≡◌, refl, pos, negsuc, [], ◌∷◌, ◌++◌, true, false, Some, None, Ok, Err, codes}
 use Rattle.pb_semantics.specs.Data.{Data, null, boolean, int, text, list, rec, opaque, no_items, item, no_fields, field}
 use Rattle.pb_semantics.specs.Kind.{booleans, ints, texts, lists, recs, no_slots, slot}
@@ -32,13 +39,20 @@ def opens(value):
     return isinstance(value, str) and re.search(r"\{\{|\{%|\{#", value) is not None
 
 
-def has_quote(value):
-    """Whether some text in the value has a quote."""
+def is_computed(value):
+    """Whether no text in the value has a quote or is long."""
     if isinstance(value, dict):
-        return any(map(has_quote, value.values()))
+        return all(map(is_computed, value.values()))
     if isinstance(value, list):
-        return any(map(has_quote, value))
-    return isinstance(value, str) and re.search("['\"]", value) is not None
+        return all(map(is_computed, value))
+    return not isinstance(value, str) or (len(value) <= MOST_TEXT and not re.search("['\"]", value))
+
+
+def text_of(source):
+    """The text of a book that isn't too long; none of another."""
+    most = MOST_BYTES if isinstance(source, str) else MOST_BYTES_OF_PIECES
+    bytes_found = bytes_of(source)
+    return bytes_found.decode() if len(bytes_found) <= most and bytes_found.isascii() else None
 
 
 def value_term(value):
@@ -71,14 +85,12 @@ def rows_of(cases):
     """The registry and the value of each book, and what it is read to."""
     found = {}
     for case in cases:
-        if not isinstance(case["book"], str) or len(case["book"]) > MOST_BYTES or not case["book"].isascii():
-            continue
         try:
-            book = read_json(case["book"])
+            book = read_json(text_of(case["book"]))
             signatures = json.loads(case["signatures"]) if case["signatures"] else None
         except (ValueError, TypeError):
             continue
-        if has_quote(book):
+        if not is_computed(book):
             continue
         term = wanted(case, book)
         if term:

@@ -67,3 +67,4 @@ pub mod Walks
 pub mod Numbers
 pub mod Numbered
 pub mod NumbersWalk
+mod ReadsBack

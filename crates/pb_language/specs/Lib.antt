@@ -46,6 +46,7 @@ pub mod GiveRules
 pub mod OwnReads
 pub mod FlushOrder
 pub mod Written
+pub mod Printed
 pub mod Families
 pub mod Inventories
 pub mod Keywords

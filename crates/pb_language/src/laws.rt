@@ -10,6 +10,7 @@ ghost use Rattle.pb_language.specs.GiveRules.{ResultsAreDerived, StuckGiveMarks}
 ghost use Rattle.pb_language.specs.Knows.{FitHasValue, KindsAreWell, TestTeaches, ValueKeepsKind};
 ghost use Rattle.pb_language.specs.OwnReads.{GivesReadTheirStart, SameAtGive, SameOutcomes};
 ghost use Rattle.pb_language.specs.OwnReads.{SameResults};
+ghost use Rattle.pb_language.specs.Printed.{DocumentsAreReadBack};
 ghost use Rattle.pb_language.specs.StartRules.{DerivedArePlans, PlansAreDerived, StartHandsOut};
 ghost use Rattle.pb_language.specs.StartRules.{StuckStartMarks};
 ghost use Rattle.pb_language.specs.Theorem.{LatersHold, NeverStuck, Progress, ShortHistory};
@@ -132,4 +133,10 @@ pub fn flush_is_repeated()
     ensures asks { AskingRepeats }
     ensures repeats { RepeatingAsks }
     ensures accepted { AcceptedRepeats }
+{}
+
+/// What an inventory says, its groups, their hosts, variables and children, and the variables of
+/// hosts, is read back from the plainest form in which it is printed.
+pub fn documents_are_read_back()
+    ensures { DocumentsAreReadBack }
 {}

@@ -44,6 +44,9 @@ class Edit:
     def last_name(self):
         return self.function.split("::")[-1]
 
+    def is_of_code(self):
+        return all(file.startswith("src/") for file, _, _ in self.changes)
+
     def applied(self, folder, texts):
         """The texts with this edit in them too; none where an old text doesn't stand in its file once."""
         texts = dict(texts)
@@ -140,7 +143,9 @@ class Trial:
         return decided or {left[0]: self.judged_alone(left[0])}
 
     def are_apart(self, edit, other):
-        return edit.last_name() not in self.leads[other] and other.last_name() not in self.leads[edit]
+        """Whether what either breaks says nothing of the other; an edit of a definition may be seen in any proof."""
+        are_of_code = edit.is_of_code() and other.is_of_code()
+        return are_of_code and edit.last_name() not in self.leads[other] and other.last_name() not in self.leads[edit]
 
     def judged_alone(self, edit):
         output = self.check(edit.applied(self.folder, {}), [edit])

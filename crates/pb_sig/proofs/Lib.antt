@@ -7,3 +7,4 @@ pub mod Fieldwise
 pub mod Plain
 pub mod Laws
 pub mod Refused
+mod ReadsBack

@@ -7,6 +7,7 @@ pub mod Table
 pub mod AdmissionView
 pub mod Results
 pub mod Signatures
+pub mod Printed
 pub mod Registered
 pub mod Offences
 pub mod Drafts

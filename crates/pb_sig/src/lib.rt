@@ -18,6 +18,7 @@ pub mod fault;
 mod form;
 pub mod names;
 mod read;
+pub mod read_back;
 pub mod registry;
 pub mod results;
 pub mod rows;

@@ -3,7 +3,7 @@
 # An edit says which function it makes wrong, and how (`function:`, then `file:`, `old:` and `new:`). A function is proved
 # against the contracts of what it calls and not against their bodies, so many edits are tried at once, none of them in a
 # function that leads to another's, and each has to be refused at its own function. Before the edits the same functions have
-# to be proved as they are. It stands on the libraries that rt ci built.
+# to be proved as they are. It stands on the libraries that were built last, as those of rt ci.
 import importlib.machinery
 import importlib.util
 import os
@@ -194,6 +194,9 @@ def main():
     rt.rtlib.guarded()
     crates = [it for it in rt.rtlib.crates_below(os.getcwd()) if not sys.argv[1:] or it.name in sys.argv[1:]]
     work = [(it, list(map(read_edit, sorted(Path(it.folder).glob("wrong/*.edit"))))) for it in crates]
+    for library in {it.name: it for crate, edits in work if edits for it in crate.below()}.values():
+        if not os.path.isdir(library.rlib):
+            library.build_rlib(["--jobs", "1"], anew=False)
     # the longest crate first
     work = sorted([it for it in work if it[1]], key=lambda it: -it[0].count(rb"\n"))
     passed = failed = 0

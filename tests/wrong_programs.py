@@ -1,9 +1,11 @@
-# Tries the wrong programs of crates/*/wrong, each of which the prover must refuse: python3 tests/wrong_programs.py [CRATE..]
+# Tries the wrong programs of crates/*/wrong, each of which the prover must refuse:
+#     python3 tests/wrong_programs.py [CRATE..]
+#     python3 tests/wrong_programs.py --beside LOG, while rt ci runs and writes to LOG
 #
 # An edit says which function it makes wrong, and how (`function:`, then `file:`, `old:` and `new:`). A function is proved
 # against the contracts of what it calls and not against their bodies, so many edits are tried at once, none of them in a
 # function that leads to another's, and each has to be refused at its own function. Before the edits the same functions have
-# to be proved as they are. It stands on the libraries that were built last, as those of rt ci.
+# to be proved as they are. It stands on the libraries that were built last, or, beside rt ci, on copies of those that it builds.
 import importlib.machinery
 import importlib.util
 import os
@@ -11,6 +13,8 @@ import re
 import shutil
 import sys
 import tempfile
+import threading
+import time
 from concurrent.futures import ThreadPoolExecutor
 from dataclasses import dataclass
 from pathlib import Path
@@ -22,6 +26,8 @@ FUNCTION = re.compile(r"^( *)(?:pub(?:\(crate\))? )?fn (\w+)", re.M)
 WAITS = re.compile(r"it calls|it waits for|it passes the block")
 # What is said of a stored answer that names what an edit took away, which says little of the contract.
 NAMES = re.compile(r"has no field|is not in scope|has no `|was not admitted")
+# The last line of rt ci.
+ENDED = re.compile(r"\d+ passed, \d+ failed$")
 # Names of functions that say nothing of whose they are.
 OF_MANY_TYPES = {"clone", "copy", "drop", "eq", "fmt", "from", "new"}
 
@@ -183,28 +189,77 @@ def first_of(output, edit):
     return next((line for line in said if not NAMES.search(line)), said[0] if said else "")
 
 
-def tried(rt, crate, edits):
+class Built:
+    """The libraries that are there, or are built where they aren't."""
+
+    def prepare(self, crate):
+        """Why a library of the crate can't be had; nothing where all are there."""
+        for library in crate.below():
+            if not os.path.isdir(library.rlib) and library.build_rlib(["--jobs", "1"], anew=False):
+                return f"its library {library.name} isn't proved"
+        return ""
+
+
+class Followed:
+    """The libraries that rt ci builds, by what it writes; each is copied, since it gives back at its end what was there before."""
+
+    def __init__(self, log, room):
+        self.log, self.room, self.copied, self.lock = Path(log), room, {}, threading.Lock()
+
+    def prepare(self, crate):
+        for library in crate.below():
+            if not self.is_proved(library):
+                return f"its library {library.name} isn't proved"
+            with self.lock:
+                copy = f"{self.room}/{library.name}.rlib"
+                if library.name not in self.copied:
+                    shutil.copytree(library.rlib, copy)
+                    self.copied[library.name] = copy
+            library.rlib = copy
+        return ""
+
+    def is_proved(self, library):
+        """Waits until rt ci has said so, or has ended."""
+        while True:
+            lines = self.log.read_text(errors="replace").splitlines()
+            if f"rt: {library.name} proved" in lines:
+                return True
+            if f"rt: {library.name} NOT PROVED" in lines or any(ENDED.match(line) for line in lines):
+                return False
+            time.sleep(1)
+
+
+def tried(rt, libraries, crate, edits):
+    why = libraries.prepare(crate)
+    if why:
+        return [(edit, False, why) for edit in edits]
     with tempfile.TemporaryDirectory(prefix="wrong-") as kept:
         return Trial(rt, crate, edits, kept).run()
 
 
-def main():
-    rt = kit()
-    os.chdir(TOP)
-    rt.rtlib.guarded()
-    crates = [it for it in rt.rtlib.crates_below(os.getcwd()) if not sys.argv[1:] or it.name in sys.argv[1:]]
+def tell(rt, libraries, crates, workers):
+    """Tries the edits of the crates, those that stand on fewer first, says what is found, and returns how many are and aren't refused."""
     work = [(it, list(map(read_edit, sorted(Path(it.folder).glob("wrong/*.edit"))))) for it in crates]
-    for library in {it.name: it for crate, edits in work if edits for it in crate.below()}.values():
-        if not os.path.isdir(library.rlib):
-            library.build_rlib(["--jobs", "1"], anew=False)
-    # the longest crate first
-    work = sorted([it for it in work if it[1]], key=lambda it: -it[0].count(rb"\n"))
+    work = sorted([it for it in work if it[1]], key=lambda it: (len(it[0].below()), -it[0].count(rb"\n")))
     passed = failed = 0
-    with ThreadPoolExecutor(len(os.sched_getaffinity(0))) as pool:
-        for told in pool.map(lambda it: tried(rt, *it), work):
+    with ThreadPoolExecutor(workers) as pool:
+        for told in pool.map(lambda it: tried(rt, libraries, *it), work):
             for edit, is_refused, text in told:
                 print(f"wrong {edit.crate}/{edit.name}: {text}", flush=True)
                 passed, failed = passed + is_refused, failed + (not is_refused)
+    return passed, failed
+
+
+def main():
+    rt, words = kit(), sys.argv[1:]
+    os.chdir(TOP)
+    rt.rtlib.guarded()
+    is_beside = words[:1] == ["--beside"]
+    crates = [it for it in rt.rtlib.crates_below(os.getcwd()) if is_beside or not words or it.name in words]
+    processors = len(os.sched_getaffinity(0))
+    with tempfile.TemporaryDirectory(prefix="libraries-") as room:
+        libraries = Followed(words[1], room) if is_beside else Built()
+        passed, failed = tell(rt, libraries, crates, max(processors - is_beside, 1))
     print(f"{passed} passed, {failed} failed")
     return 1 if failed or not passed else 0
 

@@ -26,8 +26,8 @@ FUNCTION = re.compile(r"^( *)(?:pub(?:\(crate\))? )?fn (\w+)", re.M)
 WAITS = re.compile(r"it calls|it waits for|it passes the block")
 # What is said of a stored answer that names what an edit took away, which says little of the contract.
 NAMES = re.compile(r"has no field|is not in scope|has no `|was not admitted")
-# The last line of rt ci.
-ENDED = re.compile(r"\d+ passed, \d+ failed$")
+# What ./test writes behind all that rt ci says.
+ENDED = "rt ci has ended"
 # Names of functions that say nothing of whose they are.
 OF_MANY_TYPES = {"clone", "copy", "drop", "eq", "fmt", "from", "new"}
 
@@ -224,7 +224,7 @@ class Followed:
             lines = self.log.read_text(errors="replace").splitlines()
             if f"rt: {library.name} proved" in lines:
                 return True
-            if f"rt: {library.name} NOT PROVED" in lines or any(ENDED.match(line) for line in lines):
+            if ENDED in lines:
                 return False
             time.sleep(1)
 

@@ -11,6 +11,7 @@ import importlib.util
 import os
 import re
 import shutil
+import signal
 import sys
 import tempfile
 import threading
@@ -26,6 +27,9 @@ FUNCTION = re.compile(r"^( *)(?:pub(?:\(crate\))? )?fn (\w+)", re.M)
 WAITS = re.compile(r"it calls|it waits for|it passes the block")
 # What is said of a stored answer that names what an edit took away, which says little of the contract.
 NAMES = re.compile(r"has no field|is not in scope|has no `|was not admitted")
+# A check that is killed, most likely for memory, is tried again.
+KILLED = (-signal.SIGKILL, 128 + signal.SIGKILL)
+TRIES = 3
 # What ./test writes behind all that rt ci says.
 ENDED = "rt ci has ended"
 # Names of functions that say nothing of whose they are.
@@ -134,7 +138,12 @@ class Trial:
     def check(self, texts, edits):
         """What the prover says of the edits' functions, with these texts in place of the crate's own."""
         only = [word for edit in edits for word in ("--only", edit.function)]
-        return self.rt.checked(self.crate, texts, ["--jobs", "1", *only], self.kept).stdout
+        for _ in range(TRIES):
+            ran = self.rt.checked(self.crate, texts, ["--jobs", "1", *only], self.kept)
+            if ran.returncode not in KILLED:
+                break
+            time.sleep(60)
+        return ran.stdout
 
     def round(self, left):
         """What is found of some of the edits, of one at least."""
@@ -259,7 +268,8 @@ def main():
     processors = len(os.sched_getaffinity(0))
     with tempfile.TemporaryDirectory(prefix="libraries-") as room:
         libraries = Followed(words[1], room) if is_beside else Built()
-        passed, failed = tell(rt, libraries, crates, max(processors - is_beside, 1))
+        # rt ci wants the other half of the memory
+        passed, failed = tell(rt, libraries, crates, max(processors // 2, 1) if is_beside else processors)
     print(f"{passed} passed, {failed} failed")
     return 1 if failed or not passed else 0
 

@@ -20,7 +20,8 @@ use Rattle.pb_language.specs.TaskForm.{has_key, is_boolean, is_missing, is_text}
 use Rattle.pb_language.specs.TaskForm.{is_vars, keys_of, lone, short_conditions, task_of}
 use Rattle.pb_language.specs.TaskForm.{task_offence, text_in, topics_in, vars_found, works_in}
 use Rattle.pb_language.specs.TaskForm.{is_record_within}
-use Rattle.pb_language.specs.Texts.{fields_have_short_texts, some_field_opaque}
+use Rattle.pb_language.specs.Nesting.{some_field_holds}
+use Rattle.pb_language.specs.Texts.{is_long_text, is_opaque}
 
 -- the limits: plays, lines, blocks in one another, and the handlers of a play
 abbrev pub most_plays : ℕ
@@ -84,7 +85,7 @@ fits f (Some d) = f d
 
 -- P04 of a block: a value of the wrong form, or a number that is no whole number of 64 bits
 abbrev pub has_wrong_block_value : Fields → Bool
-has_wrong_block_value fs = some_field_opaque (own_fields part_keywords fs)
+has_wrong_block_value fs = some_field_holds is_opaque (own_fields part_keywords fs)
     || (not (list_all (λ n. is_list (field_value n fs)) part_keywords)
     || not (list_all (λ n. fits (fits_keyword in_block n) (field_value n fs))
     (codes "name" ∷ codes "when" ∷ codes "vars" ∷ codes "ignore_errors" ∷ [])))
@@ -96,7 +97,7 @@ is_unreadable_block fs = is_missing (conditions_found (field_value (codes "when"
 -- at most so many blocks stand round it, and so many lines before it
 abbrev pub is_large_block : ℕ → Fields → Bool
 is_large_block k fs = nat_lt most_block_nesting (suc k)
-    || not (fields_have_short_texts (own_fields part_keywords fs)
+    || not (not (some_field_holds is_long_text (own_fields part_keywords fs))
     && (short_conditions (field_value (codes "when") fs)
     && is_record_within (field_value (codes "vars") fs)))
 
@@ -272,7 +273,7 @@ abbrev pub other_lines : List Name
 other_lines = codes "handlers" ∷ section_keywords
 
 abbrev pub has_wrong_play_value : Fields → Bool
-has_wrong_play_value fs = some_field_opaque (own_fields other_lines fs)
+has_wrong_play_value fs = some_field_holds is_opaque (own_fields other_lines fs)
     || (not (list_all (λ n. is_list (field_value n fs)) other_lines)
     || (not (fits is_pattern (field_value (codes "hosts") fs))
     || (not (fits is_text (field_value (codes "name") fs))
@@ -284,7 +285,7 @@ has_wrong_play_value fs = some_field_opaque (own_fields other_lines fs)
 
 abbrev pub is_large_play : ℕ → Fields → Bool
 is_large_play i fs = nat_le most_plays i
-    || not (fields_have_short_texts (own_fields other_lines fs)
+    || not (not (some_field_holds is_long_text (own_fields other_lines fs))
     && is_record_within (field_value (codes "vars") fs))
 
 -- what the play is refused with, the least code that applies

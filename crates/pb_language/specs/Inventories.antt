@@ -13,6 +13,7 @@ use Rattle.pb_language.specs.Families.{members, own_variables}
 use Rattle.pb_language.specs.Grammar.{opens_here}
 use Rattle.pb_language.specs.Program.{Inventory}
 use Rattle.pb_language.specs.Rules.{reserved_names}
+use Rattle.pb_language.specs.Nesting.{is_within}
 use Rattle.pb_language.specs.World.{HostVariables}
 use Rattle.pb_language.specs.Written.{Document, Written, document_in, is_host_name, is_well_formed}
 use Rattle.pb_language.specs.Written.{listed_hosts}
@@ -32,28 +33,15 @@ pub data Offence : Type 0 where
   cyclic : Offence
   over_limit : Offence
 
-abbrev mutual
-  -- lists and records stand at most so many in one another, and no list is too long
-  pub is_within : ℕ → Data → Bool
-  is_within zero (list ds) = false
-  is_within (suc k) (list ds) = nat_le (count_of ds) most_list_length && are_items_within k ds
-  is_within zero (rec fs) = false
-  is_within (suc k) (rec fs) = are_fields_within k fs
-  is_within k d = true
-
-  pub are_items_within : ℕ → Items → Bool
-  are_items_within k no_items = true
-  are_items_within k (item d ds) = is_within k d && are_items_within k ds
-
-  pub are_fields_within : ℕ → Fields → Bool
-  are_fields_within k no_fields = true
-  are_fields_within k (field n d fs) = is_within k d && are_fields_within k fs
+abbrev pub is_short_list : Data → Bool
+is_short_list (list ds) = nat_le (count_of ds) most_list_length
+is_short_list d = true
 
 -- reserved names are passed over unread
 abbrev pub are_variables_within : Fields → Bool
 are_variables_within no_fields = true
 are_variables_within (field n d fs) =
-    (is_among n reserved_names || is_within most_levels d) && are_variables_within fs
+    (is_among n reserved_names || is_within is_short_list most_levels d) && are_variables_within fs
 
 abbrev pub record_fields : Option Data → Fields
 record_fields (Some (rec fs)) = fs

@@ -48,6 +48,7 @@ pub mod FlushOrder
 pub mod Written
 pub mod Printed
 pub mod Families
+pub mod Nesting
 pub mod Inventories
 pub mod Keywords
 pub mod Texts

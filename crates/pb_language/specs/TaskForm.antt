@@ -1,7 +1,7 @@
 -- A task or a handler as a value writes it: what is wrong with it, by code, or what it is
 -- (Ansible's pages on playbook keywords, loops, conditionals and handlers; the modules and actions
 -- are this project's own).
-use Rattle.std.specs.Prelude.{ℕ, suc, pos, List, [], ◌∷◌, length, drop, Bool, true, false, not}
+use Rattle.std.specs.Prelude.{ℕ, pos, List, [], ◌∷◌, length, drop, Bool, true, false, not}
 use Rattle.std.specs.Prelude.{◌&&◌, ◌||◌, ◌==◌, nat_le, cond, Option, Some, None, codes}
 use Rattle.std.specs.Prelude.{option_map, unwrap_or}
 use Rattle.std.specs.List.{list_all, list_any, starts_with}
@@ -20,11 +20,11 @@ use Rattle.pb_language.specs.Inventories.{has_opening}
 use Rattle.pb_language.specs.Keywords.{Standing, at_top, as_handler, is_left_out}
 use Rattle.pb_language.specs.Keywords.{condition_keywords, keywords_of, topic_keywords}
 use Rattle.pb_language.specs.Rules.{is_variable_name}
+use Rattle.pb_language.specs.Nesting.{some_field_holds}
 use Rattle.pb_language.specs.Task.{Attempts}
 use Rattle.pb_language.specs.Texts.{are_list_within, are_values_within, conditions_in}
-use Rattle.pb_language.specs.Texts.{fields_have_short_texts, has_conditions, has_short_conditions}
-use Rattle.pb_language.specs.Texts.{has_short_templates, parts_of, some_field_opaque, value_of}
-use Rattle.pb_language.specs.Texts.{with_part}
+use Rattle.pb_language.specs.Texts.{has_conditions, has_short_conditions, is_long_text, is_opaque}
+use Rattle.pb_language.specs.Texts.{is_text_within, parts_of, value_of, with_part}
 
 -- the retries that may be asked for, and those where none are
 abbrev pub most_retries : ℕ
@@ -55,13 +55,13 @@ abbrev pub module_at : Name → Registry → Option ModuleData
 module_at n [] = None
 module_at n (m ∷ ms) = cond (bytes_eq m.name n) (Some m) (module_at n ms)
 
-abbrev pub is_some_module : Option ModuleData → Bool
-is_some_module None = false
-is_some_module (Some m) = true
+abbrev pub is_missing : {A : Type 0} → Option A → Bool
+is_missing None = true
+is_missing (Some a) = false
 
 abbrev pub is_known_work : Registry → Name → Bool
 is_known_work ms n =
-    is_action n || (bytes_eq n (codes "meta") || is_some_module (module_at n ms))
+    is_action n || (bytes_eq n (codes "meta") || not (is_missing (module_at n ms)))
 
 -- the entries whose keys are neither keywords nor left-out words: what the task does
 abbrev pub works_in : Standing → Fields → Fields
@@ -157,15 +157,11 @@ abbrev pub free_form : Option ModuleData → Option Name
 free_form None = None
 free_form (Some m) = m.free
 
-abbrev pub is_given : Option Name → Bool
-is_given None = false
-is_given (Some n) = true
-
 -- arguments := {name: value, ..} | null, or a text for the parameter of the free form
 abbrev pub is_arguments : Option Name → Data → Bool
 is_arguments free null = true
 is_arguments free (rec fs) = true
-is_arguments free (text bs) = is_given free
+is_arguments free (text bs) = not (is_missing free)
 is_arguments free d = false
 
 abbrev pub is_flush : Standing → Data → Bool
@@ -196,7 +192,7 @@ fits_until s fs = cond (has_key (codes "until") fs)
 
 -- P04: a value of the wrong form, or a number that is no whole number of 64 bits
 abbrev pub has_wrong_value : Registry → Standing → Fields → Bool
-has_wrong_value ms s fs = some_field_opaque fs
+has_wrong_value ms s fs = some_field_holds is_opaque fs
     || (not (fit_keywords s fs)
     || (not (fit_works ms s fs (works_in s fs)) || not (fits_until s fs)))
 
@@ -204,10 +200,6 @@ has_wrong_value ms s fs = some_field_opaque fs
 abbrev pub lone : Fields → Option (Name × Data)
 lone (field n d no_fields) = Some (n, d)
 lone fs = None
-
-abbrev pub is_missing : {A : Type 0} → Option A → Bool
-is_missing None = true
-is_missing (Some a) = false
 
 -- P05: no module or several
 abbrev pub has_no_lone_work : Standing → Fields → Bool
@@ -286,9 +278,6 @@ abbrev pub short_conditions : Option Data → Bool
 short_conditions None = true
 short_conditions (Some d) = has_short_conditions d
 
-abbrev pub is_text_within : List ℕ → Bool
-is_text_within bs = has_short_templates (suc (length bs)) bs
-
 abbrev pub holds_where : (Data → Bool) → Option Data → Bool
 holds_where f None = false
 holds_where f (Some d) = f d
@@ -321,7 +310,7 @@ is_work_within (Some w) = cond (bytes_eq w.0 (codes "assert")) (is_assertion_wit
 
 -- P08: a text, an expression, a loop or a value past its limit
 abbrev pub is_past_limits : Standing → Fields → Bool
-is_past_limits s fs = not (fields_have_short_texts fs
+is_past_limits s fs = not (not (some_field_holds is_long_text fs)
     && (short_conditions (field_value (codes "when") fs)
     && (short_conditions (field_value (codes "changed_when") fs)
     && (short_conditions (field_value (codes "failed_when") fs)

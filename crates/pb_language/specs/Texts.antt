@@ -1,7 +1,7 @@
 -- What the values in a book are: texts with templates, conditions, and values that hold texts
 -- (Ansible's pages on templating and on conditionals; the limits are this project's own).
-use Rattle.std.specs.Prelude.{ℕ, zero, suc, List, ◌∷◌, length, Bool, true, false, ◌&&◌}
-use Rattle.std.specs.Prelude.{◌||◌, ◌==◌, nat_le, cond, Option, Some, None, option_map}
+use Rattle.std.specs.Prelude.{ℕ, zero, suc, List, ◌∷◌, length, Bool, true, false, ◌&&◌, nat_lt}
+use Rattle.std.specs.Prelude.{◌==◌, nat_le, cond, Option, Some, None, option_map}
 use Rattle.pb_semantics.specs.Data.{Data, Items, Fields, boolean, text, list, rec, opaque}
 use Rattle.pb_semantics.specs.Data.{no_items, item, no_fields, field}
 use Rattle.pb_semantics.specs.Limits.{most_expression_bytes, most_levels, most_text_bytes}
@@ -10,38 +10,18 @@ use Rattle.pb_language.specs.Expression.{Expressions, no_expressions, expression
 use Rattle.pb_language.specs.Expression.{part}
 use Rattle.pb_language.specs.Grammar.{Cut, cut, ending_in, expression_of, opening_in, template_of}
 use Rattle.pb_language.specs.Inventories.{has_opening}
+use Rattle.pb_language.specs.Nesting.{are_fields_within, are_items_within, some_field_holds}
+use Rattle.pb_language.specs.Nesting.{some_item_holds}
 
-abbrev mutual
-  -- some number in it is no whole number of 64 bits
-  pub holds_opaque : Data → Bool
-  holds_opaque opaque = true
-  holds_opaque (list ds) = some_item_opaque ds
-  holds_opaque (rec fs) = some_field_opaque fs
-  holds_opaque d = false
+-- a number that is no whole number of 64 bits
+abbrev pub is_opaque : Data → Bool
+is_opaque opaque = true
+is_opaque d = false
 
-  pub some_item_opaque : Items → Bool
-  some_item_opaque no_items = false
-  some_item_opaque (item d ds) = holds_opaque d || some_item_opaque ds
-
-  pub some_field_opaque : Fields → Bool
-  some_field_opaque no_fields = false
-  some_field_opaque (field n d fs) = holds_opaque d || some_field_opaque fs
-
-abbrev mutual
-  -- some text in it may have a template
-  pub holds_opening : Data → Bool
-  holds_opening (text bs) = has_opening bs
-  holds_opening (list ds) = some_item_opens ds
-  holds_opening (rec fs) = some_field_opens fs
-  holds_opening d = false
-
-  pub some_item_opens : Items → Bool
-  some_item_opens no_items = false
-  some_item_opens (item d ds) = holds_opening d || some_item_opens ds
-
-  pub some_field_opens : Fields → Bool
-  some_field_opens no_fields = false
-  some_field_opens (field n d fs) = holds_opening d || some_field_opens fs
+-- a text that may have a template
+abbrev pub opens : Data → Bool
+opens (text bs) = has_opening bs
+opens d = false
 
 abbrev pub with_item : Option Expression → Option Expressions → Option Expressions
 with_item (Some e) (Some es) = Some (expression e es)
@@ -56,9 +36,10 @@ abbrev mutual
   pub value_of : Data → Option Expression
   value_of (text bs) = template_of bs
   value_of (list ds) =
-      cond (some_item_opens ds) (option_map list_of (values_of ds)) (Some (literal (list ds)))
+      cond (some_item_holds opens ds) (option_map list_of (values_of ds)) (Some (literal (list ds)))
   value_of (rec fs) =
-      cond (some_field_opens fs) (option_map record_of (parts_of fs)) (Some (literal (rec fs)))
+      cond (some_field_holds opens fs) (option_map record_of (parts_of fs))
+      (Some (literal (rec fs)))
   value_of d = Some (literal d)
 
   pub values_of : Items → Option Expressions
@@ -125,46 +106,21 @@ abbrev pub has_short_templates : ℕ → List ℕ → Bool
 has_short_templates zero bs = true
 has_short_templates (suc n) bs = short_behind (has_short_templates n) (opening_in bs)
 
-abbrev pub is_short_text : List ℕ → Bool
-is_short_text bs = nat_le (length bs) most_text_bytes
+abbrev pub is_long_text : Data → Bool
+is_long_text (text bs) = nat_lt most_text_bytes (length bs)
+is_long_text d = false
 
-abbrev mutual
-  -- no text in it is too long
-  pub has_short_texts : Data → Bool
-  has_short_texts (text bs) = is_short_text bs
-  has_short_texts (list ds) = items_have_short_texts ds
-  has_short_texts (rec fs) = fields_have_short_texts fs
-  has_short_texts d = true
+-- no expression in a text is too long
+abbrev pub is_text_within : List ℕ → Bool
+is_text_within bs = has_short_templates (suc (length bs)) bs
 
-  pub items_have_short_texts : Items → Bool
-  items_have_short_texts no_items = true
-  items_have_short_texts (item d ds) = has_short_texts d && items_have_short_texts ds
-
-  pub fields_have_short_texts : Fields → Bool
-  fields_have_short_texts no_fields = true
-  fields_have_short_texts (field n d fs) = has_short_texts d && fields_have_short_texts fs
-
-abbrev mutual
-  -- lists and records stand at most so many in one another, and no expression is too long
-  pub is_within : ℕ → Data → Bool
-  is_within k (text bs) = has_short_templates (suc (length bs)) bs
-  is_within zero (list ds) = false
-  is_within (suc k) (list ds) = are_items_within k ds
-  is_within zero (rec fs) = false
-  is_within (suc k) (rec fs) = are_fields_within k fs
-  is_within k d = true
-
-  pub are_items_within : ℕ → Items → Bool
-  are_items_within k no_items = true
-  are_items_within k (item d ds) = is_within k d && are_items_within k ds
-
-  pub are_fields_within : ℕ → Fields → Bool
-  are_fields_within k no_fields = true
-  are_fields_within k (field n d fs) = is_within k d && are_fields_within k fs
+abbrev pub has_short_braces : Data → Bool
+has_short_braces (text bs) = is_text_within bs
+has_short_braces d = true
 
 -- each value by itself, as of arguments and of `vars`
 abbrev pub are_values_within : Fields → Bool
-are_values_within fs = are_fields_within most_levels fs
+are_values_within fs = are_fields_within has_short_braces most_levels fs
 
 abbrev pub are_list_within : Items → Bool
-are_list_within ds = are_items_within most_levels ds
+are_list_within ds = are_items_within has_short_braces most_levels ds

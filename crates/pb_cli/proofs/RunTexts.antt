@@ -4,7 +4,7 @@ use Rattle.std.specs.List.{list_any}
 use Rattle.std.proofs.lemmas.Bool.{lt-ltb}
 use Rattle.std.proofs.lemmas.List.{drop_more}
 use Rattle.std.proofs.lemmas.Option.{slice_get-map, slice_get_within, get_or_from_slice_get}
-use Rattle.pb_inventory.specs.Hosts.{HostData}
+use Rattle.pb_language.specs.World.{HostVariables}
 use Rattle.pb_inventory.specs.Inventory.{inventory_view}
 use Rattle.pb_strategy.specs.History.{RunState}
 use Rattle.pb_strategy.specs.Recaps.{nothing}
@@ -12,10 +12,10 @@ use Rattle.pb_strategy.specs.Tally.{recap_of}
 use Rattle.pb_strategy.specs.declared.recap.Recap.{Recap}
 use Rattle.pb_cli.specs.Texts.{recap_line, recap_lines, run_lines, host_names, some_failed}
 
-abbrev name_in : HostData → List ℕ
+abbrev name_in : HostVariables → List ℕ
 name_in h = h.name
 
-names_from : (hs : List HostData) (i : ℕ) (name : List ℕ) → option_map name_in (slice_get hs i) ≡ Some name
+names_from : (hs : List HostVariables) (i : ℕ) (name : List ℕ) → option_map name_in (slice_get hs i) ≡ Some name
     → drop i (map name_in hs) ≡ name ∷ drop (i + 1) (map name_in hs)
 names_from hs i name e =
     let found : slice_get (map name_in hs) i ≡ Some name = slice_get-map name_in hs i ∙ e in

@@ -1,39 +1,35 @@
 -- What the readers' answers say of the files that are judged.
-use Rattle.std.proofs.Common.{◌≡◌, ◌<◌, ◌≤◌, ℕ, List, length, nat_lt, Bool, true, false, if◌then◌else◌, Option, Some, None, Result, Ok, Err, refl, sym, is_some, option_map, ap, ◌∙◌, ◌&&◌, not, subst}
+use Rattle.std.proofs.Common.{◌≡◌, ◌<◌, ◌≤◌, ℕ, List, length, nat_lt, Bool, true, false, if◌then◌else◌, Option, Some, None, Result, Ok, Err, refl, sym, ap, ◌∙◌, ◌&&◌, not, subst}
 use Rattle.std.proofs.lemmas.Bool.{ltb-true, ltb-false, le-ltb, lt-ltb}
 use Rattle.std.specs.Str.{is_utf8}
 use Rattle.pb_semantics.specs.Data.{Data}
 use Rattle.pb_semantics.specs.Gives.{FaultGives}
-use Rattle.pb_semantics.specs.Limits.{most_book_bytes, most_inventory_bytes}
+use Rattle.pb_semantics.specs.Limits.{most_book_bytes}
 use Rattle.pb_language.specs.Book.{Book as BookData}
-use Rattle.pb_language.specs.Judged.{judged}
+use Rattle.pb_language.specs.Program.{Inventory}
 use Rattle.pb_language.specs.Verdict.{accepted}
 use Rattle.pb_value.specs.FromJson.{json_data}
 use Rattle.pb_semantics.specs.Signature.{ModuleData}
 use Rattle.pb_sig.specs.Offences.{offence_of}
-use Rattle.pb_sig.specs.Registered.{registry_of}
-use Rattle.pb_sig.specs.Signatures.{Offence, most_signature_bytes}
-use Rattle.pb_sig.specs.declared.registry.Registry.{Registry}
+use Rattle.pb_sig.specs.Signatures.{Offence}
 use Rattle.pb_sig.specs.declared.fault.SignatureFault.{SignatureFault}
 use Rattle.pb_sig.specs.declared.fault.SignatureFault.TheVariants as signature
-use Rattle.pb_inventory.specs.Hosts.{InventoryData, inventory_of}
-use Rattle.pb_inventory.specs.Inventory.{inventory_view}
-use Rattle.pb_inventory.specs.declared.inventory.Inventory.{Inventory}
-use Rattle.pb_inventory.specs.declared.read.InventoryFault.{InventoryFault}
-use Rattle.pb_inventory.specs.declared.read.InventoryFault.TheVariants as inventory
+use Rattle.pb_inventory.specs.Offences.{FileOffence, offence_of as inventory_offence}
+use Rattle.pb_inventory.specs.declared.fault.InventoryFault.{InventoryFault}
+use Rattle.pb_inventory.specs.declared.fault.InventoryFault.TheVariants as inventory
 use Rattle.pb_book.specs.Books.{book_of}
 use Rattle.pb_book.specs.Reading.{book_from}
 use Rattle.pb_book.specs.declared.book.Book.{Book}
 use Rattle.pb_book.specs.declared.fault.BookFault.{BookFault}
 use Rattle.pb_book.specs.declared.fault.BookFault.TheVariants as book
 use Rattle.pb_verify.specs.Judges.{refused_verdict}
-use Rattle.pb_verify.specs.Meaning.{inventory_of as inventory_data}
+use Rattle.pb_verify.specs.Built.{built_verdict}
 use Rattle.pb_verify.specs.declared.checked.Accepted.{Accepted}
 use Rattle.pb_verify.specs.declared.refusal.Code.{Code}
-use Rattle.pb_verify.specs.declared.refusal.Code.TheVariants.{N00, P01, I01}
+use Rattle.pb_verify.specs.declared.refusal.Code.TheVariants.{N00, P01}
 use Rattle.pb_verify.specs.declared.verify.VerifyFault.{VerifyFault}
 use Rattle.pb_verify.specs.declared.verify.VerifyFault.TheVariants as verify
-use Rattle.pb_cli.specs.FileVerdicts.{Found, whole_file, verdict, Tells, book_found, book_verdict, found_after, found_by, found_with, inventory_verdict, is_looked_into, of_book, of_bytes, of_inventory, of_signatures, of_text, of_verify, with_code}
+use Rattle.pb_cli.specs.FileVerdicts.{Found, whole_file, verdict, Tells, book_found, book_verdict, found_after, found_by, found_with, inventory_code, is_looked_into, of_book, of_bytes, of_inventory, offence_code, of_signatures, of_text, of_verify, with_code}
 use Rattle.pb_cli.specs.declared.judge.Fault.{Fault}
 use Rattle.pb_cli.specs.declared.judge.Fault.TheVariants.{NoMemory}
 
@@ -72,44 +68,21 @@ pub Tells-no_memory : (f : Found) → Tells (Err NoMemory) f
 Tells-no_memory (whole_file code) = tt
 Tells-no_memory (verdict v) = tt
 
--- what a fault of an inventory, and of a book, says of the text
-abbrev pub InventorySays : InventoryFault → Result InventoryData Code → Type 0
-InventorySays inventory.NotJson v = v ≡ Err I01
-InventorySays inventory.NotBuilt v = v ≡ Err N00
-InventorySays inventory.NoMemory v = Unit {0}
-
+-- what a fault of a book says of the text
 abbrev pub BookSays : BookFault → Result BookData Code → Type 0
 BookSays book.NotJson v = v ≡ Err P01
 BookSays book.NotBuilt v = v ≡ Err N00
 BookSays book.NoMemory v = Unit {0}
 
 module _ (bs : List ℕ) where
-  -- by the clauses of the reader of inventories
-  module _ (r : Result Inventory InventoryFault) (large : most_inventory_bytes < length bs → r ≡ Err inventory.NotBuilt) where
-    pub inventory_verdict-read : (i : Inventory) → r ≡ Ok i → (d : Data) × (json_data bs ≡ Some d) × (inventory_of d ≡ Some (inventory_view i)) → inventory_verdict bs ≡ Ok (inventory_view i)
-    inventory_verdict-read i e found = is_read most_inventory_bytes I01 inventory_of bs (inventory_view i) (λ l. let clash = sym e ∙ large l in cc) found
+  -- a file that isn't looked into is refused, as too long or as no JSON
+  pub read-unlooked : {A E : Type 0} (most : ℕ) (limit json : E) (r : Result A E) → (most < length bs → r ≡ Err limit) → (P : Result A E → Type 0) → is_looked_into most bs ≡ false → (is_utf8 bs ≡ false → length bs ≤ most → r ≡ Err json) → P (Err limit) → P (Err json) → P r
+  read-unlooked most limit json r large P h no_text by_limit by_json = either (nat_lt most (length bs)) refl where
+    either : (b : Bool) → nat_lt most (length bs) ≡ b → P r
+    either true e = subst P (sym (large (ltb-true most (length bs) e))) by_limit
+    either false e = subst P (sym (no_text (sym (ap (λ b. not b && is_utf8 bs) e) ∙ h) (ltb-false most (length bs) e))) by_json
 
-    pub InventorySays-fault : (f : InventoryFault) → r ≡ Err f → (f ≡ inventory.NotJson → json_data bs ≡ None)
-        → (f ≡ inventory.NotBuilt → length bs ≤ most_inventory_bytes → (d : Data) × (json_data bs ≡ Some d) × (inventory_of d ≡ None)) → InventorySays f (inventory_verdict bs)
-    InventorySays-fault inventory.NotJson e none other = is_no_json most_inventory_bytes I01 inventory_of bs (λ l. let clash = sym e ∙ large l in cc) (none refl)
-    InventorySays-fault inventory.NotBuilt e none other = is_not_built most_inventory_bytes I01 inventory_of bs (other refl)
-    InventorySays-fault inventory.NoMemory e none other = tt
-
-    -- an inventory that isn't looked into is refused
-    pub read-unlooked : (P : Result Inventory InventoryFault → Type 0) → is_looked_into most_inventory_bytes bs ≡ false → (is_utf8 bs ≡ false → length bs ≤ most_inventory_bytes → r ≡ Err inventory.NotJson) → P (Err inventory.NotBuilt) → P (Err inventory.NotJson) → P r
-    read-unlooked P h no_text built json = either (nat_lt most_inventory_bytes (length bs)) refl where
-      either : (b : Bool) → nat_lt most_inventory_bytes (length bs) ≡ b → P r
-      either true e = subst P (sym (large (ltb-true most_inventory_bytes (length bs) e))) built
-      either false e = subst P (sym (no_text (sym (ap (λ b. not b && is_utf8 bs) e) ∙ h) (ltb-false most_inventory_bytes (length bs) e))) json
-
-  -- of the reader of signatures: a file that isn't looked into is refused
-  pub signatures-unlooked : (r : Result Registry SignatureFault) → (most_signature_bytes < length bs → r ≡ Err signature.Limit) → (P : Result Registry SignatureFault → Type 0) → is_looked_into most_signature_bytes bs ≡ false → (is_utf8 bs ≡ false → length bs ≤ most_signature_bytes → r ≡ Err signature.NotJson) → P (Err signature.Limit) → P (Err signature.NotJson) → P r
-  signatures-unlooked r large P h no_text limit json = either (nat_lt most_signature_bytes (length bs)) refl where
-    either : (b : Bool) → nat_lt most_signature_bytes (length bs) ≡ b → P r
-    either true e = subst P (sym (large (ltb-true most_signature_bytes (length bs) e))) limit
-    either false e = subst P (sym (no_text (sym (ap (λ b. not b && is_utf8 bs) e) ∙ h) (ltb-false most_signature_bytes (length bs) e))) json
-
-  -- and of the reader of books
+  -- by the clauses of the reader of books
   module _ (ms : List ModuleData) (r : Result Book BookFault) (large : most_book_bytes < length bs → r ≡ Err book.NotBuilt) where
     pub book_verdict-read : (b : Book) → r ≡ Ok b → (d : Data) × (json_data bs ≡ Some d) × (book_from ms d ≡ Some (book_of b)) → book_verdict ms bs ≡ Ok (book_of b)
     book_verdict-read b e found = is_read most_book_bytes P01 (book_from ms) bs (book_of b) (λ l. let clash = sym e ∙ large l in cc) found
@@ -121,36 +94,39 @@ module _ (bs : List ℕ) where
     BookSays-fault book.NoMemory e none other = tt
 
 -- the answer where the signatures aren't read
-pub Tells-signatures : (e : SignatureFault) (x : Result (List ModuleData) Offence) (i b : List ℕ) → FaultGives (offence_of e) x → Tells (Err (of_signatures e)) (found_after (with_code x) i b)
+pub Tells-signatures : (e : SignatureFault) (x : Result (List ModuleData) Offence) (i b : List ℕ) → FaultGives (offence_of e) x → Tells (Err (of_signatures e)) (found_after (with_code offence_code x) i b)
 Tells-signatures signature.NotJson x i b says = rw says refl
 Tells-signatures signature.Form x i b says = rw says refl
 Tells-signatures signature.Law x i b says = rw says refl
 Tells-signatures signature.Taken x i b says = rw says refl
 Tells-signatures signature.Limit x i b says = rw says refl
-Tells-signatures signature.NoMemory x i b says = Tells-no_memory (found_after (with_code x) i b)
+Tells-signatures signature.NoMemory x i b says = Tells-no_memory (found_after (with_code offence_code x) i b)
 
 -- where the inventory isn't
-pub Tells-inventory : (ms : List ModuleData) (e : InventoryFault) (v : Result InventoryData Code) (w : Result BookData Code) → InventorySays e v → Tells (Err (of_inventory e)) (found_by ms v w)
-Tells-inventory ms inventory.NotJson v w says = rw says refl
-Tells-inventory ms inventory.NotBuilt v w says = rw says refl
-Tells-inventory ms inventory.NoMemory v w says = Tells-no_memory (found_by ms v w)
+pub Tells-inventory : (ms : List ModuleData) (e : InventoryFault) (x : Result Inventory FileOffence) (w : Result BookData Code) → FaultGives (inventory_offence e) x → Tells (Err (of_inventory e)) (found_by ms (with_code inventory_code x) w)
+Tells-inventory ms inventory.NotJson x w says = rw says refl
+Tells-inventory ms inventory.Form x w says = rw says refl
+Tells-inventory ms inventory.HostName x w says = rw says refl
+Tells-inventory ms inventory.Cycle x w says = rw says refl
+Tells-inventory ms inventory.Limit x w says = rw says refl
+Tells-inventory ms inventory.NoMemory x w says = Tells-no_memory (found_by ms (with_code inventory_code x) w)
 
 -- where the book isn't
-pub Tells-book : (ms : List ModuleData) (i : InventoryData) (e : BookFault) (w : Result BookData Code) → BookSays e w → Tells (Err (of_book e)) (book_found ms i w)
+pub Tells-book : (ms : List ModuleData) (i : Inventory) (e : BookFault) (w : Result BookData Code) → BookSays e w → Tells (Err (of_book e)) (book_found ms i w)
 Tells-book ms i book.NotJson w says = rw says refl
 Tells-book ms i book.NotBuilt w says = rw says refl
 Tells-book ms i book.NoMemory w says = Tells-no_memory (book_found ms i w)
 
 -- where all are
-pub Tells-refused : (ms : List ModuleData) (i : InventoryData) (b : BookData) (e : VerifyFault) (w : Result BookData Code) → w ≡ Ok b → FaultGives (refused_verdict e) (judged ms (inventory_data i) b) → Tells (Err (of_verify e)) (book_found ms i w)
+pub Tells-refused : (ms : List ModuleData) (i : Inventory) (b : BookData) (e : VerifyFault) (w : Result BookData Code) → w ≡ Ok b → FaultGives (refused_verdict e) (built_verdict ms i b) → Tells (Err (of_verify e)) (book_found ms i w)
 Tells-refused ms i b (verify.Refused r) w read judges = rw read judges
 Tells-refused ms i b verify.NoMemory w read judges = Tells-no_memory (book_found ms i w)
 
-pub Tells-accepted : (ms : List ModuleData) (i : InventoryData) (b : BookData) (a : Accepted) (w : Result BookData Code) → w ≡ Ok b → judged ms (inventory_data i) b ≡ accepted a.budget → Tells (Ok a) (book_found ms i w)
+pub Tells-accepted : (ms : List ModuleData) (i : Inventory) (b : BookData) (a : Accepted) (w : Result BookData Code) → w ≡ Ok b → built_verdict ms i b ≡ accepted a.budget → Tells (Ok a) (book_found ms i w)
 Tells-accepted ms i b a w read judges = rw read judges
 
 -- what is said of the book is said of the files
-pub Tells-found : (r : Result Accepted Fault) (ms : List ModuleData) (i : InventoryData) (v : Result InventoryData Code) (w : Result BookData Code) → v ≡ Ok i → Tells r (book_found ms i w) → Tells r (found_by ms v w)
+pub Tells-found : (r : Result Accepted Fault) (ms : List ModuleData) (i : Inventory) (v : Result Inventory Code) (w : Result BookData Code) → v ≡ Ok i → Tells r (book_found ms i w) → Tells r (found_by ms v w)
 Tells-found r ms i v w read tells = rw read tells
 
 pub Tells-after : (r : Result Accepted Fault) (x : Result (List ModuleData) Code) (ms : List ModuleData) (i b : List ℕ) → x ≡ Ok ms → Tells r (found_with ms i b) → Tells r (found_after x i b)

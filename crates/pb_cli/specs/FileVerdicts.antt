@@ -7,7 +7,8 @@ use Rattle.pb_semantics.specs.Gives.{FaultGives, Gives}
 use Rattle.pb_semantics.specs.Limits.{most_answer_bytes, most_book_bytes, most_inventory_bytes}
 use Rattle.pb_semantics.specs.Signature.{ModuleData}
 use Rattle.pb_language.specs.Book.{Book}
-use Rattle.pb_language.specs.Judged.{judged}
+use Rattle.pb_language.specs.Inventories as offence
+use Rattle.pb_language.specs.Program.{Inventory}
 use Rattle.pb_language.specs.Verdict.{Verdict, accepted, refused as refused_at}
 use Rattle.pb_value.specs.FromJson.{json_data}
 use Rattle.pb_sig.specs.Registered.{registry_of}
@@ -16,20 +17,23 @@ use Rattle.pb_sig.specs.Signatures.{over_limit, most_signature_bytes}
 use Rattle.pb_sig.specs.Table.{builtins}
 use Rattle.pb_sig.specs.declared.fault.SignatureFault.{SignatureFault}
 use Rattle.pb_sig.specs.declared.fault.SignatureFault.TheVariants as signature
-use Rattle.pb_inventory.specs.Hosts.{InventoryData, inventory_of}
-use Rattle.pb_inventory.specs.declared.read.InventoryFault.{InventoryFault}
-use Rattle.pb_inventory.specs.declared.read.InventoryFault.TheVariants as inventory
+use Rattle.pb_inventory.specs.Offences as file
+use Rattle.pb_inventory.specs.Offences.{FileOffence, inventory_in}
+use Rattle.pb_inventory.specs.declared.fault.InventoryFault.{InventoryFault}
+use Rattle.pb_inventory.specs.declared.fault.InventoryFault.TheVariants as inventory
 use Rattle.pb_book.specs.Reading.{book_from}
 use Rattle.pb_book.specs.declared.fault.BookFault.{BookFault}
 use Rattle.pb_book.specs.declared.fault.BookFault.TheVariants as book
-use Rattle.pb_verify.specs.Meaning.{inventory_of as inventory_data, refusal_of}
+use Rattle.pb_verify.specs.Built.{built_verdict}
+use Rattle.pb_verify.specs.Meaning.{refusal_of}
 use Rattle.pb_verify.specs.declared.checked.Accepted.{Accepted}
 use Rattle.pb_verify.specs.declared.refusal.Code.{Code}
 use Rattle.pb_strategy.specs.Scripts.{script_fault, script_in}
 use Rattle.pb_strategy.specs.declared.script.ScriptFault.{ScriptFault}
 use Rattle.pb_strategy.specs.declared.script.ScriptFault.TheVariants as script
 use Rattle.pb_verify.specs.declared.refusal.Code.TheVariants.{N00, S01, S02, S03, S04, S05, P01}
-use Rattle.pb_verify.specs.declared.refusal.Code.TheVariants.{I01, A01, A02, A03}
+use Rattle.pb_verify.specs.declared.refusal.Code.TheVariants.{I01, I02, I03, I04, I05, A01, A02}
+use Rattle.pb_verify.specs.declared.refusal.Code.TheVariants.{A03}
 use Rattle.pb_verify.specs.declared.verify.VerifyFault.{VerifyFault}
 use Rattle.pb_verify.specs.declared.verify.VerifyFault.TheVariants as verify
 use Rattle.pb_cli.specs.declared.judge.Fault.{Fault}
@@ -49,7 +53,10 @@ of_signatures signature.NoMemory = NoMemory
 
 abbrev pub of_inventory : InventoryFault → Fault
 of_inventory inventory.NotJson = refused I01
-of_inventory inventory.NotBuilt = refused N00
+of_inventory inventory.Form = refused I02
+of_inventory inventory.HostName = refused I03
+of_inventory inventory.Cycle = refused I04
+of_inventory inventory.Limit = refused I05
 of_inventory inventory.NoMemory = NoMemory
 
 abbrev pub of_book : BookFault → Fault
@@ -86,8 +93,11 @@ of_bytes most code read bytes =
 abbrev pub is_looked_into : ℕ → List ℕ → Bool
 is_looked_into most bytes = not (nat_lt most (length bytes)) && is_utf8 bytes
 
--- the modules of the run: those of a file of signatures, where there is one, beside the built-in
--- ones; or the code of that file
+-- what a file is, or its code
+abbrev pub with_code : {O X : Type 0} → (O → Code) → Result X O → Result X Code
+with_code code (Ok x) = Ok x
+with_code code (Err o) = Err (code o)
+
 abbrev pub offence_code : Offence → Code
 offence_code not_json = S01
 offence_code wrong_form = S02
@@ -95,17 +105,22 @@ offence_code broken_law = S03
 offence_code taken_name = S04
 offence_code over_limit = S05
 
-abbrev pub with_code : {X : Type 0} → Result X Offence → Result X Code
-with_code (Ok x) = Ok x
-with_code (Err o) = Err (offence_code o)
-
+-- the modules of the run: those of a file of signatures, where there is one, beside the built-in
+-- ones; or the code of that file
 abbrev pub modules_verdict : Option (List ℕ) → Result (List ModuleData) Code
 modules_verdict None = Ok builtins
-modules_verdict (Some bytes) = with_code (registry_of bytes)
+modules_verdict (Some bytes) = with_code offence_code (registry_of bytes)
+
+abbrev pub inventory_code : FileOffence → Code
+inventory_code file.not_json = I01
+inventory_code (file.refused offence.wrong_form) = I02
+inventory_code (file.refused offence.wrong_host_name) = I03
+inventory_code (file.refused offence.cyclic) = I04
+inventory_code (file.refused offence.over_limit) = I05
 
 -- an inventory's text is this inventory, or is refused with this code
-abbrev pub inventory_verdict : List ℕ → Result InventoryData Code
-inventory_verdict bytes = of_bytes most_inventory_bytes I01 inventory_of bytes
+abbrev pub inventory_verdict : List ℕ → Result Inventory Code
+inventory_verdict bytes = with_code inventory_code (inventory_in bytes)
 
 -- and a book's text this book, with those modules
 abbrev pub book_verdict : List ModuleData → List ℕ → Result Book Code
@@ -117,11 +132,11 @@ pub data Found : Type 0 where
   whole_file : Code → Found
   verdict : Verdict → Found
 
-abbrev pub book_found : List ModuleData → InventoryData → Result Book Code → Found
+abbrev pub book_found : List ModuleData → Inventory → Result Book Code → Found
 book_found ms i (Err code) = whole_file code
-book_found ms i (Ok b) = verdict (judged ms (inventory_data i) b)
+book_found ms i (Ok b) = verdict (built_verdict ms i b)
 
-abbrev pub found_by : List ModuleData → Result InventoryData Code → Result Book Code → Found
+abbrev pub found_by : List ModuleData → Result Inventory Code → Result Book Code → Found
 found_by ms (Err code) book = whole_file code
 found_by ms (Ok i) book = book_found ms i book
 

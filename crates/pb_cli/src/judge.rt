@@ -77,7 +77,10 @@ impl From<InventoryFault> for Fault {
     fn from(fault: InventoryFault) -> Fault {
         match fault {
             InventoryFault::NotJson => whole(Code::I01),
-            InventoryFault::NotBuilt => whole(Code::N00),
+            InventoryFault::Form => whole(Code::I02),
+            InventoryFault::HostName => whole(Code::I03),
+            InventoryFault::Cycle => whole(Code::I04),
+            InventoryFault::Limit => whole(Code::I05),
             InventoryFault::NoMemory => Fault::NoMemory,
         }
     }

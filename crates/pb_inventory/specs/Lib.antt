@@ -1,5 +1,13 @@
-pub mod Hosts
 pub mod Views
 pub mod Inventory
-pub mod Faults
+pub mod Offences
+pub mod Documents
+pub mod Graph
+pub mod Held
+pub mod Families
+pub mod Orders
+pub mod Numbered
+pub mod Hosts
+pub mod Tables
 pub mod Words
+pub mod HostGroups

@@ -1,17 +1,46 @@
 -- What the hosts and groups of an inventory mean.
-use Rattle.std.specs.Prelude.{ℕ, map, String, Vec, string_bytes}
+use Rattle.std.specs.Prelude.{ℕ, List, [], ◌∷◌, Bool, true, ◌&&◌, get_or, map, nat_lt}
+use Rattle.std.specs.Prelude.{String, Vec, string_bytes}
+use Rattle.std.specs.List.{fold, list_all}
 use Rattle.std.specs.declared.alloc.Global.{Global}
+use Rattle.pb_semantics.specs.Data.{Fields, no_fields, field, put_field}
+use Rattle.pb_language.specs.Expression.{Name}
+use Rattle.pb_language.specs.World.{Group, HostVariables}
 use Rattle.pb_value.specs.View.{fields_view}
-use Rattle.pb_inventory.specs.Hosts.{HostData, GroupData}
 use Rattle.pb_inventory.specs.declared.inventory.Host.{Host}
 
-abbrev pub host_view : String Global × Host → HostData
+-- the later of two layers of variables wins whole
+abbrev pub laid : Fields → Fields → Fields
+laid vs no_fields = vs
+laid vs (field n d fs) = laid (put_field n d vs) fs
+
+-- the layers from the lowest on
+abbrev pub layered : List Fields → Fields
+layered ls = fold laid no_fields ls
+
+abbrev pub host_view : String Global × Host → HostVariables
 host_view h = record {
   name = string_bytes h.0;
-  groups = map (λ n. string_bytes n.value)
-      h.1.groups.items;
-  vars = fields_view h.1.vars.entries;
+  variables = layered (map (λ layer. fields_view layer.value.entries)
+      h.1.layers.items);
 }
 
-abbrev pub group_view : String Global × Vec ℕ Global → GroupData
-group_view g = record { name = string_bytes g.0; members = g.1.items }
+-- the members by their names, where their places in host order are given
+abbrev pub group_view : List Name → String Global × Vec ℕ Global → Group
+group_view hs g = record {
+  name = string_bytes g.0;
+  hosts = map (λ n. get_or hs n [])
+      g.1.items;
+}
+
+abbrev pub host_names : List (String Global × Host) → List Name
+host_names hs = map (λ h. string_bytes h.0) hs
+
+-- the places are those of so many hosts
+abbrev pub are_placed : ℕ → List (String Global × Vec ℕ Global) → Bool
+are_placed n [] = true
+are_placed n (g ∷ gs) = list_all (λ i. nat_lt i n) g.1.items && are_placed n gs
+
+-- the names of each host's groups but `all`, as they are kept
+abbrev pub kept_groups : List (String Global × Host) → List (List Name)
+kept_groups hs = map (λ h. map (λ g. string_bytes g.value) h.1.groups.items) hs

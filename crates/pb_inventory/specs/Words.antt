@@ -1,3 +1,5 @@
 -- The words of this crate that the contracts of others cite, from one place.
-pub use Rattle.pb_inventory.specs.Hosts.{HostData}
+pub use Rattle.pb_inventory.specs.Offences.{FileOffence, inventory_in, not_json, offence_of}
+pub use Rattle.pb_inventory.specs.Offences.{refused}
 pub use Rattle.pb_inventory.specs.Inventory.{inventory_view}
+pub use Rattle.pb_inventory.specs.Views.{group_view, layered}

@@ -1,15 +1,33 @@
 // The hosts and groups of a run.
 //
-//     let inventory = Inventory::read(alloc, b"{\"all\": {\"hosts\": [\"web1\"]}}")?;
+//     let inventory = Inventory::read(alloc, b"{\"web\": {\"hosts\": [\"web1\"]}}")?;
 //     for host in 0..inventory.hosts() {
 //         let name = inventory.host_name(host); // web1
-//         let groups = inventory.group_names(host);
+//         let groups = inventory.group_names(host); // web
 //         let variables = inventory.vars_of(host);
 //     }
 #![tactic(auto)]
 
+mod assembly;
+mod build;
+mod document;
+mod family;
+pub mod fault;
+mod form;
+mod graph;
+mod group_layers;
+mod hosts;
 pub mod inventory;
+mod layers;
+mod limits;
+mod names;
+mod numbers;
+mod placing;
 pub mod read;
+mod ungrouped;
+pub mod variables;
 
+pub use fault::InventoryFault;
 pub use inventory::Inventory;
-pub use read::{INVENTORY_LIMIT, InventoryFault};
+pub use read::INVENTORY_LIMIT;
+pub use variables::is_reserved;

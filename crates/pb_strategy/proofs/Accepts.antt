@@ -7,20 +7,20 @@ use Rattle.pb_language.specs.Machine as machine
 use Rattle.pb_language.specs.Machine.{State, run, enabled}
 use Rattle.pb_language.specs.Plays.{program_of}
 use Rattle.pb_language.specs.Program.{Inventory}
+use Rattle.pb_language.specs.World.{HostVariables}
 use Rattle.pb_language.specs.plain.Books.{lone_host, plain_play}
 use Rattle.pb_language.specs.plain.Books.{are_plain_tasks}
 use Rattle.pb_language.specs.plain.Machine.{PlainRun, plain_state, plain_run_from, plain_is_enabled}
 use Rattle.pb_language.proofs.PlainEval.{no_play_runs}
 use Rattle.pb_language.proofs.PlainSteps.{plain_runs, plain_enabled}
 use Rattle.pb_sig.specs.Modules.{modules_of}
-use Rattle.pb_inventory.specs.Hosts.{HostData}
 use Rattle.pb_inventory.specs.Inventory.{inventory_view}
 use Rattle.pb_book.specs.Books.{plays_of, book_of}
 use Rattle.pb_book.specs.Lines.{is_numbered}
 use Rattle.pb_book.specs.Meaning.{plain_tasks, are_plain_plays}
 use Rattle.pb_book.specs.declared.book.Play.{Play}
+use Rattle.pb_verify.specs.Built.{is_lone}
 use Rattle.pb_verify.specs.Judges.{run_of_accepted}
-use Rattle.pb_verify.specs.Meaning.{inventory_of}
 use Rattle.pb_verify.specs.declared.checked.Accepted.{Accepted}
 use Rattle.pb_verify.proofs.Lone.{Alone-lone}
 use Rattle.pb_strategy.specs.Events.{event_data}
@@ -42,17 +42,17 @@ plays_run ms h forks es (p ∷ q ∷ ps) i a = untrue i
 abbrev pub whole : Accepted → ℕ → PlainRun → State
 whole a forks r = plain_state (modules_of a.registry) (host_of a) (line_in (plays_of a.book)) (plain_tasks (tasks_in (plays_of a.book))) forks r
 
-module _ (a : Accepted) (forks : ℕ) where
+module _ (a : Accepted) (lone : is_lone (inventory_view a.inventory) ≡ true) (forks : ℕ) where
   -- on the one host of its inventory
-  on_lone : (i : Inventory) (hs : List HostData) (h : HostData) → i ≡ lone_host h.name → hs ≡ h ∷ [] → (es : List machine.Event)
+  on_lone : (i : Inventory) (hs : List HostVariables) (h : HostVariables) → i ≡ lone_host h.name → hs ≡ h ∷ [] → (es : List machine.Event)
       → run (program_of (modules_of a.registry) i (book_of a.book)) i forks es
       ≡ plain_state (modules_of a.registry) (first_name hs) (line_in (plays_of a.book)) (plain_tasks (tasks_in (plays_of a.book))) forks (plain_run_from (modules_of a.registry) (first_name hs) forks (opening_run (plays_of a.book)) es)
   on_lone i hs h stands there es = rw (stands, there) (plays_run (modules_of a.registry) h.name forks es (plays_of a.book) a.book.numbered a.book.plain)
 
   pub run_of_accepted-plain : (es : List Event) → run_of_accepted a forks (map event_data es) ≡ whole a forks (plain_after a forks es)
   run_of_accepted-plain es =
-      let there = Alone-lone (inventory_view a.inventory) a.inventory.lone in
-      on_lone (inventory_of (inventory_view a.inventory)) (inventory_view a.inventory).hosts there.host there.stands there.hosts (map event_data es)
+      let there = Alone-lone (inventory_view a.inventory) lone in
+      on_lone (inventory_view a.inventory) (inventory_view a.inventory).hosts there.host there.stands there.hosts (map event_data es)
 
   pub enabled-plain : (es : List Event) (e : machine.Event) → enabled (run_of_accepted a forks (map event_data es)) e ≡ plain_is_enabled forks (plain_after a forks es) e
   enabled-plain es e = ap (λ s. enabled s e) (run_of_accepted-plain es) ∙ plain_enabled (modules_of a.registry) (host_of a) (line_in (plays_of a.book)) (plain_tasks (tasks_in (plays_of a.book))) forks (plain_after a forks es) e

@@ -28,6 +28,8 @@ use Rattle.pb_book.specs.declared.book.Play.{Play}
 use Rattle.pb_book.specs.declared.book.Task.{Task}
 use Rattle.pb_book.specs.declared.book.Work.{Work}
 use Rattle.pb_book.specs.declared.book.Work.TheVariants.{Module, Debug, SetFact}
+use Rattle.pb_inventory.specs.Inventory.{inventory_view}
+use Rattle.pb_verify.specs.Built.{is_lone}
 use Rattle.pb_verify.specs.Judges.{is_accepted, run_of_accepted}
 use Rattle.pb_verify.specs.declared.checked.Accepted.{Accepted}
 use Rattle.pb_verify.proofs.AcceptedRuns.{is_stuck-accepted}
@@ -183,16 +185,16 @@ module _ (a : Accepted) (forks : ℕ) where
       ∙ ap₂ (λ xs b. xs ++ cond b (event_data e ∷ []) []) kept on
       ∙ sym (map_push event_data es e)
 
-  pub never_stuck : is_accepted a ≡ true → (es : List Event) → (here es).is_stuck ≡ false
-  never_stuck h es = ap (λ s. s.is_stuck) (sym (run_of_accepted-plain a forks es)) ∙ is_stuck-accepted a h forks (map event_data es)
+  pub never_stuck : is_accepted a ≡ true → is_lone (inventory_view a.inventory) ≡ true → (es : List Event) → (here es).is_stuck ≡ false
+  never_stuck h l es = ap (λ s. s.is_stuck) (sym (run_of_accepted-plain a l forks es)) ∙ is_stuck-accepted a l h forks (map event_data es)
 
-  begins_at : (es : List Event) → enabled (there es) (start 0) ≡ true → is_accepted a ≡ true → Starts (modules_of a.registry) (host_of a) forks (here es) (goes (here es) (start 0))
-  begins_at es on h = Starts-plain (modules_of a.registry) (host_of a) forks (here es) (sym (enabled-plain a forks es (start 0)) ∙ on) (ap (λ (r : PlainRun). r.is_stuck) (sym (here_more es (Start 0))) ∙ never_stuck h (es ++ Start 0 ∷ []))
+  begins_at : (es : List Event) → enabled (there es) (start 0) ≡ true → is_accepted a ≡ true → is_lone (inventory_view a.inventory) ≡ true → Starts (modules_of a.registry) (host_of a) forks (here es) (goes (here es) (start 0))
+  begins_at es on h l = Starts-plain (modules_of a.registry) (host_of a) forks (here es) (sym (enabled-plain a l forks es (start 0)) ∙ on) (ap (λ (r : PlainRun). r.is_stuck) (sym (here_more es (Start 0))) ∙ never_stuck h l (es ++ Start 0 ∷ []))
 
   -- a Start of a host that isn't the first isn't enabled
-  start_first : (es : List Event) (k : ℕ) → enabled (there es) (start k) ≡ true → k ≡ 0
-  start_first es zero on = refl
-  start_first es (suc k) on = untrue (sym (enabled-plain a forks es (start (suc k)) ∙ (plain_is_enabled-other forks (here es) k []).0) ∙ on)
+  start_first : is_lone (inventory_view a.inventory) ≡ true → (es : List Event) (k : ℕ) → enabled (there es) (start k) ≡ true → k ≡ 0
+  start_first l es zero on = refl
+  start_first l es (suc k) on = untrue (sym (enabled-plain a l forks es (start (suc k)) ∙ (plain_is_enabled-other forks (here es) k []).0) ∙ on)
 
   module _ (es : List Event) (hosts : List HostState) (p : Phase) (m : IsMachine a forks es hosts p) where
     abbrev now : PlainRun
@@ -208,6 +210,7 @@ module _ (a : Accepted) (forks : ℕ) where
       stopped = ap (λ (r : PlainRun). r.is_stopped) (here_more es e) ∙ halted;
       enabled = enabled_more es e on m.enabled;
       accepted = m.accepted;
+      lone = m.lone;
       known = m.known;
     }
 
@@ -218,10 +221,10 @@ module _ (a : Accepted) (forks : ℕ) where
     module _ (ticket : ℕ) (q : Pending) (cs : List Call) (t : Task) (on : enabled (there es) (start 0) ≡ true) (e : slice_get (tasks_in (plays_of a.book)) m.host.place ≡ Some t)
         (made : (i : ℕ) → Makes q cs t 0 m.host (plan_of (own_world (own_fields m.host.vars)) (plain_run (modules_of a.registry) i (plain_task t)) None)) where
       begins : Starts (modules_of a.registry) (host_of a) forks now (goes now (start 0))
-      begins = begins_at es on m.accepted
+      begins = begins_at es on m.accepted m.lone
 
       is_going_now : now.is_over ≡ false
-      is_going_now = going_over now.is_stopped now.is_over _ (sym (enabled-plain a forks es (start 0)) ∙ on)
+      is_going_now = going_over now.is_stopped now.is_over _ (sym (enabled-plain a m.lone forks es (start 0)) ∙ on)
 
       simple_here : is_plain_task (plain_task t) ≡ true
       simple_here = task_plain (plays_of a.book) m.host.place t e a.book.plain
@@ -243,22 +246,22 @@ module _ (a : Accepted) (forks : ℕ) where
           let made = IsPending-start (host_of a) (tasks_in (plays_of a.book)) m.host now m.at (modules_of a.registry) forks ticket q cs t e simple_here made begins in
           let name = called_same (modules_of a.registry) t t.work refl (task_known (plays_of a.book) m.host.place t e (modules_of a.registry) m.known) in
           let inside : there (es ++ Start 0 ∷ []) ≡ whole a forks (record now { standing = inside begins.passes; handed = now.handed + call_count begins.passes }) =
-          run_of_accepted-plain a forks (es ++ Start 0 ∷ []) ∙ ap (whole a forks) (here_more es (Start 0) ∙ begins.after) in
+          run_of_accepted-plain a m.lone forks (es ++ Start 0 ∷ []) ∙ ap (whole a forks) (here_more es (Start 0) ∙ begins.after) in
           made.1
           ∙ ap (λ n. pass_calls 0 (host_of a) n begins.passes now.handed) (name ∙ ap (λ (u : PlainTask). action_name (plain_action (modules_of a.registry) u.work)) same.0)
           ∙ sym (ap (job_calls 0 now.handed) inside ∙ running_calls (modules_of a.registry) (host_of a) now.place now.tasks begins.task begins.more begins.passes now.handed begins.tasks)
 
     pub within-start : (k : ℕ) → enabled (there es) (start k) ≡ true → k < length hosts
-    within-start k on = omega (arith, start_first es k on, ap length m.alone)
+    within-start k on = omega (arith, start_first m.lone es k on, ap length m.alone)
 
     -- the host that may start is there, and so is its task
     module _ (k : ℕ) (on : enabled (there es) (start k) ≡ true) where
       at_first : slice_get hosts k ≡ Some m.host
-      at_first = ap₂ slice_get m.alone (start_first es k on)
+      at_first = ap₂ slice_get m.alone (start_first m.lone es k on)
 
       task_first : (t : Task) × (slice_get (tasks_in (plays_of a.book)) m.host.place ≡ Some t)
       task_first =
-          let st = begins_at es (ap (λ n. enabled (there es) (start n)) (sym (start_first es k on)) ∙ on) m.accepted in
+          let st = begins_at es (ap (λ n. enabled (there es) (start n)) (sym (start_first m.lone es k on)) ∙ on) m.accepted m.lone in
           task_there (tasks_in (plays_of a.book)) m.host.place (sym (are_left-same (tasks_in (plays_of a.book)) m.host.place now.tasks m.at.tasks_left) ∙ rw st.tasks refl)
 
       pub slice_get-start : (slice_get hosts k ≡ Some m.host) × (is_some (slice_get (tasks_in (plays_of a.book)) m.host.place) ≡ true)
@@ -269,7 +272,7 @@ module _ (a : Accepted) (forks : ℕ) where
         (made : (s : HostState) (t : Task) (ms : Registry) (i : ℕ) → slice_get hosts k ≡ Some s → slice_get (tasks_in (plays_of a.book)) s.place ≡ Some t
         → Makes q cs t k s (plan_of (own_world (own_fields s.vars)) (plain_run ms i (plain_task t)) None)) where
       first : k ≡ 0
-      first = start_first es k on
+      first = start_first m.lone es k on
 
       on_first : enabled (there es) (start 0) ≡ true
       on_first = ap (λ n. enabled (there es) (start n)) (sym first) ∙ on
@@ -292,11 +295,11 @@ module _ (a : Accepted) (forks : ℕ) where
     -- a Give to the task at hand
     module _ (q : Pending) (t : Task) (answers : Vec Answer Global) (o : Outcome) (n : HostState) (hosts' : List HostState) (e : slice_get (tasks_in (plays_of a.book)) m.host.place ≡ Some t) (i : IsInside q now) (live : is_phase_stopped p ≡ false) where
       give_enabled : enabled (there es) (event_data (Give 0 answers)) ≡ true
-      give_enabled = enabled-plain a forks es (event_data (Give 0 answers)) ∙ rw (m.stopped ∙ live, i.going, i.standing, i.left) refl
+      give_enabled = enabled-plain a m.lone forks es (event_data (Give 0 answers)) ∙ rw (m.stopped ∙ live, i.going, i.standing, i.left) refl
 
       pub give_kept : ComesTo (modules_of a.registry) t q answers.items o → IsSettledHost o m.host n → hosts' ≡ n ∷ [] → IsMachine a forks (es ++ Give 0 answers ∷ []) hosts' p
       give_kept comes settled f =
-          let g = Gives-plain (modules_of a.registry) (host_of a) forks now (map answer_data answers.items) (sym (enabled-plain a forks es (event_data (Give 0 answers))) ∙ give_enabled) in
+          let g = Gives-plain (modules_of a.registry) (host_of a) forks now (map answer_data answers.items) (sym (enabled-plain a m.lone forks es (event_data (Give 0 answers))) ∙ give_enabled) in
           let came = after_came-there (host_of a) (tasks_in (plays_of a.book)) m.host now m.at (modules_of a.registry) forks q t answers.items o n e i comes g in
           more (Give 0 answers) n hosts' p give_enabled f
           (IsAt-give (host_of a) (tasks_in (plays_of a.book)) m.host now m.at (modules_of a.registry) forks q t answers.items o n e i comes g settled)
@@ -348,17 +351,18 @@ module _ (a : Accepted) (forks : ℕ) where
           stopped = m.stopped;
           enabled = m.enabled;
           accepted = m.accepted;
+          lone = m.lone;
           known = m.known;
         }
 
     -- where a Turn is enabled the run goes on
     pub is_phase_stopped-turn : enabled (there es) turn ≡ true → is_phase_stopped p ≡ false
-    is_phase_stopped-turn on = sym m.stopped ∙ going_halted now.is_stopped now.is_over (is_through now) (sym (enabled-plain a forks es turn) ∙ on)
+    is_phase_stopped-turn on = sym m.stopped ∙ going_halted now.is_stopped now.is_over (is_through now) (sym (enabled-plain a m.lone forks es turn) ∙ on)
 
     -- a Turn, where one is enabled
     pub IsMachine-turn : (p' : Phase) → is_phase_ended p' ≡ true → is_phase_stopped p' ≡ false → enabled (there es) turn ≡ true → IsMachine a forks (es ++ Turn ∷ []) hosts p'
     IsMachine-turn p' over live on =
-        let may = sym (enabled-plain a forks es turn) ∙ on in
+        let may = sym (enabled-plain a m.lone forks es turn) ∙ on in
         let through : is_through now ≡ true = and-right (is_going now) (is_through now) may in
         let step : goes now turn ≡ record now { is_over = true } = ap (λ b. cond b (record now { is_over = true }) now) may in
         let halted : now.is_stopped ≡ false = going_halted now.is_stopped now.is_over (is_through now) may in
@@ -374,7 +378,7 @@ module _ (a : Accepted) (forks : ℕ) where
         let live : is_phase_stopped p ≡ false = ap is_phase_stopped going in
         let may : plain_is_enabled forks now stop ≡ true = rw (m.ended ∙ on, m.stopped ∙ live) refl in
         let step : goes now stop ≡ record now { is_stopped = true } = rw (m.ended ∙ on, m.stopped ∙ live) refl in
-        more Stop m.host hosts p' (enabled-plain a forks es stop ∙ may) m.alone
+        more Stop m.host hosts p' (enabled-plain a m.lone forks es stop ∙ may) m.alone
         (subst (IsAt (host_of a) (tasks_in (plays_of a.book)) m.host) (sym step) (IsAt-stop (host_of a) (tasks_in (plays_of a.book)) m.host now m.at))
         (ap (λ (r : PlainRun). r.is_over) step ∙ m.ended ∙ on ∙ sym over)
         (ap (λ (r : PlainRun). r.is_stopped) step ∙ sym halted)

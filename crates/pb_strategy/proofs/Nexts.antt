@@ -13,7 +13,6 @@ use Rattle.pb_sig.specs.Modules.{modules_of}
 use Rattle.pb_inventory.specs.Inventory.{inventory_view}
 use Rattle.pb_book.specs.Books.{plays_of, book_of}
 use Rattle.pb_book.specs.Meaning.{plain_tasks}
-use Rattle.pb_verify.specs.Meaning.{inventory_of}
 use Rattle.pb_verify.specs.declared.checked.Accepted.{Accepted}
 use Rattle.pb_verify.proofs.AcceptedRuns.{is_stuck-accepted, handed-accepted, are_distinct-hosts, judged-accepted}
 use Rattle.pb_strategy.specs.Events.{event_data, recap_data}
@@ -118,7 +117,7 @@ module _ (a : Accepted) (forks : ℕ) (es : List Event) (hosts : List HostState)
 
   next_now : next_of (there a forks es) ≡ next_by a forks (is_phase_stopped p) (is_phase_ended p) (is_done m.host.stage left) (is_waiting m.host.stage && (left && nat_lt 0 forks))
   next_now =
-      ap next_of (run_of_accepted-plain a forks es)
+      ap next_of (run_of_accepted-plain a m.lone forks es)
       ∙ next_whole a forks now (is_phase_stopped p) (is_phase_ended p) (is_done m.host.stage left) m.stopped m.ended through_now
       ∙ ap (next_by a forks (is_phase_stopped p) (is_phase_ended p) (is_done m.host.stage left)) begins_now
 
@@ -126,14 +125,14 @@ module _ (a : Accepted) (forks : ℕ) (es : List Event) (hosts : List HostState)
   next_of-stopped e = next_now ∙ rw e refl
 
   pub next_of-ended : is_phase_stopped p ≡ false → is_phase_ended p ≡ true → (next_of (there a forks es) ≡ ended) × (enabled (there a forks es) turn ≡ false)
-  next_of-ended live over = (next_now ∙ rw (live, over) refl, enabled-plain a forks es turn ∙ rw (m.stopped ∙ live, m.ended ∙ over) refl)
+  next_of-ended live over = (next_now ∙ rw (live, over) refl, enabled-plain a m.lone forks es turn ∙ rw (m.stopped ∙ live, m.ended ∙ over) refl)
 
   module _ (live : is_phase_stopped p ≡ false) (on : is_phase_ended p ≡ false) where
     pub enabled-turn : enabled (there a forks es) turn ≡ is_done m.host.stage left
-    enabled-turn = enabled-plain a forks es turn ∙ rw (m.stopped ∙ live, m.ended ∙ on) through_now
+    enabled-turn = enabled-plain a m.lone forks es turn ∙ rw (m.stopped ∙ live, m.ended ∙ on) through_now
 
     pub enabled-start : enabled (there a forks es) (start 0) ≡ is_waiting m.host.stage && (left && nat_lt 0 forks)
-    enabled-start = enabled-plain a forks es (start 0) ∙ rw (m.stopped ∙ live, m.ended ∙ on) begins_now
+    enabled-start = enabled-plain a m.lone forks es (start 0) ∙ rw (m.stopped ∙ live, m.ended ∙ on) begins_now
 
     module _ (some : 0 < forks) where
       -- the host that is ready, if there is one
@@ -180,14 +179,14 @@ pub IsSound-run : (x : Inside) → IsRun x → IsSound (run_state x)
 IsSound-run x i =
     let m = i.machine in
     let at = m.at in
-    let state = run_of_accepted-plain x.checked x.forks x.history.items in
+    let state = run_of_accepted-plain x.checked m.lone x.forks x.history.items in
     let handed = sum_by-alone (λ h. h.calls) m.host x.hosts.items m.alone ∙ at.calls ∙ sym (ap (λ s. s.handed) state) in record {
       enabled = m.enabled;
-      never_stuck = is_stuck-accepted x.checked m.accepted x.forks (map event_data x.history.items);
+      never_stuck = is_stuck-accepted x.checked m.lone m.accepted x.forks (map event_data x.history.items);
       recaps = ap (λ hs. map recap_data (recaps_of hs)) m.alone ∙ ap (λ r. r ∷ []) at.recap ∙ sym (ap (λ s. map (λ h. h.recap) s.hosts) state);
       handed = handed;
-      within = omega (arith, handed, handed-accepted x.checked m.accepted x.forks (map event_data x.history.items));
-      short = omega (arith, length-map x.history.items event_data, length-events (modules_of x.checked.registry) (inventory_of (inventory_view x.checked.inventory)) (book_of x.checked.book) x.checked.budget x.forks (map event_data x.history.items) (are_distinct-hosts x.checked) (judged-accepted x.checked m.accepted) m.enabled);
+      within = omega (arith, handed, handed-accepted x.checked m.lone m.accepted x.forks (map event_data x.history.items));
+      short = omega (arith, length-map x.history.items event_data, length-events (modules_of x.checked.registry) (inventory_view x.checked.inventory) (book_of x.checked.book) x.checked.budget x.forks (map event_data x.history.items) (are_distinct-hosts x.checked m.lone) (judged-accepted x.checked m.lone m.accepted) m.enabled);
     }
 
 -- the recap of a host is the machine's

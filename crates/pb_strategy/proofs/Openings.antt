@@ -3,17 +3,19 @@ use Rattle.std.proofs.Common.{◌≡◌, ℕ, List, [], ◌∷◌, true, false, 
 use Rattle.pb_semantics.specs.Data.{Data, Fields, text, list, no_fields, field, field_value}
 use Rattle.pb_language.specs.Expression.{Name}
 use Rattle.pb_language.specs.Machine.{empty_recap}
+use Rattle.pb_language.specs.Program.{memberships_of}
 use Rattle.pb_language.specs.Setting.{names_list}
+use Rattle.pb_language.specs.World.{Group, HostVariables}
 use Rattle.pb_language.specs.plain.Machine.{PlainRun, before}
 use Rattle.pb_value.specs.View.{view, fields_view}
 use Rattle.pb_sig.specs.Modules.{modules_of}
-use Rattle.pb_inventory.specs.Hosts.{HostData}
 use Rattle.pb_inventory.specs.Inventory.{inventory_view}
 use Rattle.pb_book.specs.Books.{plays_of}
 use Rattle.pb_book.specs.Lines.{names_known}
 use Rattle.pb_book.specs.Meaning.{plain_tasks}
 use Rattle.pb_book.specs.declared.book.Play.{Play}
 use Rattle.pb_book.specs.declared.book.Task.{Task}
+use Rattle.pb_verify.specs.Built.{is_lone}
 use Rattle.pb_verify.specs.Judges.{is_accepted}
 use Rattle.pb_verify.specs.declared.checked.Accepted.{Accepted}
 use Rattle.pb_verify.proofs.Lone.{Alone-lone}
@@ -32,13 +34,13 @@ own_parts : (n d : Data) (fs : Fields) (h : Name) (groups : List Name) → ◌�
 own_parts n d fs h groups e = (cc, (cc, cc))
 
 -- a host in its opening state is where the machine has it before anything has happened
-opening_with : (h : HostData) (s : HostState) (tasks : List Task) (r : PlainRun) → IsOpening h s → h.groups ≡ codes "ungrouped" ∷ [] → r.variables ≡ no_fields → r.place ≡ 0 → plain_tasks tasks ≡ r.tasks → r.standing ≡ before → r.recap ≡ empty_recap → r.handed ≡ 0
+opening_with : (gs : List Group) (h : HostVariables) (s : HostState) (tasks : List Task) (r : PlainRun) → IsOpening gs h s → memberships_of h.name gs ≡ codes "ungrouped" ∷ [] → r.variables ≡ no_fields → r.place ≡ 0 → plain_tasks tasks ≡ r.tasks → r.standing ≡ before → r.recap ≡ empty_recap → r.handed ≡ 0
     → IsAt h.name tasks s r
-opening_with h s tasks r o groups variables place left standing recap handed =
-    let own = own_parts (view s.vars.name) (view s.vars.groups) (fields_view s.vars.values.entries) h.name h.groups o.names in record {
+opening_with gs h s tasks r o groups variables place left standing recap handed =
+    let own = own_parts (view s.vars.name) (view s.vars.groups) (fields_view s.vars.values.entries) h.name (memberships_of h.name gs) o.names in record {
       name = o.name;
       own_name = own.0;
-      groups = own.1.0 ∙ ap (λ gs. list (names_list gs)) groups;
+      groups = own.1.0 ∙ ap (λ ns. list (names_list ns)) groups;
       values = λ p. ap (field_value p) (own.1.1 ∙ sym variables);
       place = o.place ∙ sym place;
       tasks_left = ap (λ p. plain_tasks (drop p tasks)) o.place ∙ left;
@@ -47,9 +49,9 @@ opening_with h s tasks r o groups variables place left standing recap handed =
       calls = o.calls ∙ sym handed;
     }
 
-opening_at : (ps : List Play) (h : HostData) (s : HostState) → IsOpening h s → h.groups ≡ codes "ungrouped" ∷ [] → IsAt h.name (tasks_in ps) s (opening_run ps)
-opening_at [] h s o g = opening_with h s [] (opening_run []) o g refl refl refl refl refl refl
-opening_at (p ∷ ps) h s o g = opening_with h s p.tasks.items (opening_run (p ∷ ps)) o g refl refl refl refl refl refl
+opening_at : (ps : List Play) (gs : List Group) (h : HostVariables) (s : HostState) → IsOpening gs h s → memberships_of h.name gs ≡ codes "ungrouped" ∷ [] → IsAt h.name (tasks_in ps) s (opening_run ps)
+opening_at [] gs h s o g = opening_with gs h s [] (opening_run []) o g refl refl refl refl refl refl
+opening_at (p ∷ ps) gs h s o g = opening_with gs h s p.tasks.items (opening_run (p ∷ ps)) o g refl refl refl refl refl refl
 
 opening_over : (ps : List Play) → (opening_run ps).is_over ≡ has_no_plays ps
 opening_over [] = refl
@@ -60,18 +62,19 @@ opening_halted [] = refl
 opening_halted (p ∷ ps) = refl
 
 module _ (a : Accepted) (forks : ℕ) (hosts : List HostState) (p : Phase) where
-  pub IsMachine-opening : ((h : HostData) → (inventory_view a.inventory).hosts ≡ h ∷ [] → (s : HostState) × ((hosts ≡ s ∷ []) × IsOpening h s))
-      → is_phase_ended p ≡ has_no_plays (plays_of a.book) → is_phase_stopped p ≡ false → is_accepted a ≡ true → names_known (modules_of a.registry) (plays_of a.book) ≡ true → IsMachine a forks [] hosts p
-  IsMachine-opening opening ended live accepted known =
-      let host = Alone-lone (inventory_view a.inventory) a.inventory.lone in
+  pub IsMachine-opening : ((h : HostVariables) → (inventory_view a.inventory).hosts ≡ h ∷ [] → (s : HostState) × ((hosts ≡ s ∷ []) × IsOpening (inventory_view a.inventory).groups h s))
+      → is_phase_ended p ≡ has_no_plays (plays_of a.book) → is_phase_stopped p ≡ false → is_accepted a ≡ true → is_lone (inventory_view a.inventory) ≡ true → names_known (modules_of a.registry) (plays_of a.book) ≡ true → IsMachine a forks [] hosts p
+  IsMachine-opening opening ended live accepted lone known =
+      let host = Alone-lone (inventory_view a.inventory) lone in
       let s = opening host.host host.hosts in
       let named : host_of a ≡ host.host.name = ap first_name host.hosts in record {
         host = s.0;
         alone = s.1.0;
-        at = subst (λ n. IsAt n (tasks_in (plays_of a.book)) s.0 (opening_run (plays_of a.book))) (sym named) (opening_at (plays_of a.book) host.host s.0 s.1.1 host.groups);
+        at = subst (λ n. IsAt n (tasks_in (plays_of a.book)) s.0 (opening_run (plays_of a.book))) (sym named) (opening_at (plays_of a.book) (inventory_view a.inventory).groups host.host s.0 s.1.1 host.groups);
         ended = opening_over (plays_of a.book) ∙ sym ended;
         stopped = opening_halted (plays_of a.book) ∙ sym live;
         enabled = refl;
         accepted = accepted;
+        lone = lone;
         known = known;
       }

@@ -47,7 +47,7 @@ inside_same stage.Left r x i e = rw i (and-false (is_going r) ∙ sym (and-false
 module _ (a : Accepted) (forks : ℕ) (es : List Event) (hosts : List HostState) (p : Phase) (m : IsMachine a forks es hosts p) where
   -- nothing is enabled once the run is over, and until then what the host may do
   enabled_now : (e : machine.Event) → enabled (there a forks es) e ≡ not (is_phase_over p) && plain_is_possible forks (plain_after a forks es) e
-  enabled_now e = enabled-plain a forks es e ∙ ap (λ b. b && plain_is_possible forks (plain_after a forks es) e) (ap₂ (λ x o. not x && not o) m.stopped m.ended ∙ going_in p)
+  enabled_now e = enabled-plain a m.lone forks es e ∙ ap (λ b. b && plain_is_possible forks (plain_after a forks es) e) (ap₂ (λ x o. not x && not o) m.stopped m.ended ∙ going_in p)
 
   pub enabled-none : (e : machine.Event) → (p ≡ phase.Ended) ⊎ (p ≡ phase.Stopped) → enabled (there a forks es) e ≡ false
   enabled-none e over = enabled_now e ∙ elim over [ inl x ↦ rw x refl | inr x ↦ rw x refl ]
@@ -57,12 +57,12 @@ module _ (a : Accepted) (forks : ℕ) (es : List Event) (hosts : List HostState)
 
   pub enabled-started : (k : ℕ) → is_phase_stopped p ≡ false → is_phase_ended p ≡ false → enabled (there a forks es) (start k) ≡ (k == 0) && (nat_lt 0 forks && can_run m.host (length (tasks_in (plays_of a.book))))
   enabled-started zero live on = enabled-start a forks es hosts p m live on ∙ forks_first (is_waiting m.host.stage) (nat_lt m.host.place (length (tasks_in (plays_of a.book)))) (nat_lt 0 forks)
-  enabled-started (suc k) live on = enabled-plain a forks es (start (suc k)) ∙ (plain_is_enabled-other forks (plain_after a forks es) k []).0 ∙ rw eqb-suc-zero refl
+  enabled-started (suc k) live on = enabled-plain a m.lone forks es (start (suc k)) ∙ (plain_is_enabled-other forks (plain_after a forks es) k []).0 ∙ rw eqb-suc-zero refl
 
   -- a Give is enabled where the run isn't stopped and the host has a job out
   pub give_enabled : (k : ℕ) (xs : List language.Answer) → enabled (there a forks es) (give k xs) ≡ not (is_phase_stopped p) && is_some (get_or (tickets_of hosts) k None)
-  give_enabled zero xs = enabled-plain a forks es (give 0 xs) ∙ inside_same m.host.stage (plain_after a forks es) (is_phase_stopped p) m.at.standing m.stopped ∙ rw m.alone refl
-  give_enabled (suc k) xs = enabled-plain a forks es (give (suc k) xs) ∙ (plain_is_enabled-other forks (plain_after a forks es) k xs).1 ∙ sym (rw m.alone (and-false (not (is_phase_stopped p))))
+  give_enabled zero xs = enabled-plain a m.lone forks es (give 0 xs) ∙ inside_same m.host.stage (plain_after a forks es) (is_phase_stopped p) m.at.standing m.stopped ∙ rw m.alone refl
+  give_enabled (suc k) xs = enabled-plain a m.lone forks es (give (suc k) xs) ∙ (plain_is_enabled-other forks (plain_after a forks es) k xs).1 ∙ sym (rw m.alone (and-false (not (is_phase_stopped p))))
 
 module _ (x : Inside) (i : IsRun x) (r : RunState) (view : run_state x ≡ r) where
   pub enabled-stop : enabled (state_of r) stop ≡ not (is_over r)

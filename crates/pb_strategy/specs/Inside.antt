@@ -10,6 +10,7 @@ use Rattle.pb_sig.specs.Modules.{modules_of}
 use Rattle.pb_book.specs.Books.{plays_of}
 use Rattle.pb_book.specs.Lines.{names_known}
 use Rattle.pb_inventory.specs.Inventory.{inventory_view}
+use Rattle.pb_verify.specs.Built.{is_lone}
 use Rattle.pb_verify.specs.Judges.{is_accepted, run_of_accepted}
 use Rattle.pb_verify.specs.declared.checked.Accepted.{Accepted}
 use Rattle.pb_strategy.specs.Events.{event_data}
@@ -59,7 +60,7 @@ is_phase_ended phase.Ended = true
 is_phase_ended phase.Stopped = false
 
 -- the run's one host is where the machine has it after the history, each event of which was
--- enabled; the book was accepted
+-- enabled; the book was accepted, for that host alone
 pub record IsMachine (checked : Accepted) (forks : ℕ) (es : List Event) (hosts : List HostState)
     (phase : Phase) : Type 0 where
   pub host : HostState
@@ -70,6 +71,7 @@ pub record IsMachine (checked : Accepted) (forks : ℕ) (es : List Event) (hosts
   pub stopped : (plain_after checked forks es).is_stopped ≡ is_phase_stopped phase
   pub enabled : history (run_of_accepted checked forks []) (map event_data es) ≡ map event_data es
   pub accepted : is_accepted checked ≡ true
+  pub lone : is_lone (inventory_view checked.inventory) ≡ true
   pub known : names_known (modules_of checked.registry) (plays_of checked.book) ≡ true
 
 -- where anything can still happen there is room for one Stop; the run is stopped, or over, exactly

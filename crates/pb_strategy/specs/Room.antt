@@ -1,7 +1,8 @@
 -- A host's room for what its task writes, and how a host begins.
 use Rattle.std.specs.Prelude.{◌≡◌, ◌≤◌, ℕ, List, length, IfSome, slice_get, string_bytes}
 use Rattle.indexmap.specs.IndexMap.{spare}
-use Rattle.pb_inventory.specs.Hosts.{HostData}
+use Rattle.pb_language.specs.Program.{memberships_of}
+use Rattle.pb_language.specs.World.{Group, HostVariables}
 use Rattle.pb_strategy.specs.OwnNames.{own_fields, names_fields}
 use Rattle.pb_strategy.specs.Recaps.{nothing}
 use Rattle.pb_strategy.specs.declared.host.HostState.{HostState}
@@ -28,10 +29,10 @@ pub record IsRoomier (s n : HostState) : Type 0 where
   pub recap : n.recap ≡ s.recap
   pub calls : n.calls ≡ s.calls
 
--- the host of the inventory before anything is run
-pub record IsOpening (h : HostData) (s : HostState) : Type 0 where
+-- the host of an inventory of these groups before anything is run
+pub record IsOpening (gs : List Group) (h : HostVariables) (s : HostState) : Type 0 where
   pub name : string_bytes s.name.value ≡ h.name
-  pub names : own_fields s.vars ≡ names_fields h.name h.groups
+  pub names : own_fields s.vars ≡ names_fields h.name (memberships_of h.name gs)
   pub place : s.place ≡ 0
   pub stage : s.stage ≡ stage.Waiting
   pub recap : s.recap ≡ nothing

@@ -7,15 +7,13 @@ use Rattle.pb_language.specs.Theorem.{occurrence_events}
 use Rattle.pb_sig.specs.Modules.{modules_of}
 use Rattle.pb_inventory.specs.Inventory.{inventory_view}
 use Rattle.pb_book.specs.Books.{book_of}
-use Rattle.pb_verify.specs.Meaning.{inventory_of}
 use Rattle.pb_strategy.specs.Events.{event_data, recap_data}
 use Rattle.pb_strategy.specs.History.{RunState, state_after, state_of}
 
 -- the batches of the accepted book
 abbrev pub batches_of : RunState → List Batch
-batches_of r = all_batches
-    (program_of (modules_of r.checked.registry) (inventory_of (inventory_view r.checked.inventory))
-    (book_of r.checked.book))
+batches_of r = all_batches (program_of (modules_of r.checked.registry)
+    (inventory_view r.checked.inventory) (book_of r.checked.book))
 
 -- the recap of the host of that place; of none, nothing
 abbrev pub recap_in : ℕ → List Host → Recap

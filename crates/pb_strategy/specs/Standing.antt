@@ -4,11 +4,11 @@ use Rattle.std.specs.Prelude.{false, not, ◌&&◌, nat_lt}
 use Rattle.pb_semantics.specs.Data.{text, list, no_items, item}
 use Rattle.pb_language.specs.Expression.{Name}
 use Rattle.pb_language.specs.Start.{Pass}
+use Rattle.pb_language.specs.World.{HostVariables}
 use Rattle.pb_language.specs.plain.Machine.{before, inside, away, PlainRun, plain_opening}
 use Rattle.pb_language.specs.plain.Machine.{plain_run_from, are_left, ended_opening}
 use Rattle.pb_value.specs.View.{view, fields_view}
 use Rattle.pb_sig.specs.Modules.{modules_of}
-use Rattle.pb_inventory.specs.Hosts.{HostData}
 use Rattle.pb_inventory.specs.Inventory.{inventory_view}
 use Rattle.pb_book.specs.Books.{plays_of}
 use Rattle.pb_book.specs.Meaning.{plain_tasks}
@@ -28,7 +28,7 @@ abbrev pub tasks_in : List Play → List Task
 tasks_in [] = []
 tasks_in (p ∷ ps) = p.tasks.items
 
-abbrev pub first_name : List HostData → Name
+abbrev pub first_name : List HostVariables → Name
 first_name [] = []
 first_name (h ∷ hs) = h.name
 

@@ -15,7 +15,6 @@ ghost use Rattle.pb_strategy.specs.Room.{IsSameHost};
 use crate::recap::{Ending, Recap};
 use indexmap::IndexMap;
 use pb_expr::Vars;
-use pb_inventory::Inventory;
 use pb_value::{Fields, Value, Weighed};
 use std::alloc::{AllocError, Global};
 use std::sync::Arc;

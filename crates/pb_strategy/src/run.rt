@@ -6,13 +6,14 @@ ghost use Rattle.std.specs.Prelude.{replicate, set, slice_get, true, vec_capacit
 ghost use Rattle.pb_semantics.specs.Words.{rec};
 ghost use Rattle.pb_language.specs.Words.{Registry as Modules, action_fields, enabled, plain_run};
 ghost use Rattle.pb_language.specs.Words.{plan_of, skip_fields, start, turn};
+ghost use Rattle.pb_language.specs.World.{HostVariables};
 ghost use Rattle.pb_value.specs.Words.{view};
 ghost use Rattle.pb_expr.specs.Words.{own_world};
 ghost use Rattle.pb_sig.specs.Words.{modules_of};
-ghost use Rattle.pb_inventory.specs.Words.{HostData, inventory_view};
+ghost use Rattle.pb_inventory.specs.Words.{inventory_view};
 ghost use Rattle.pb_book.specs.Words.{are_ascending, are_known, are_ordered, argument_names};
 ghost use Rattle.pb_book.specs.Words.{names_known, plain_task, plays_of};
-ghost use Rattle.pb_verify.specs.Words.{is_accepted};
+ghost use Rattle.pb_verify.specs.Words.{is_accepted, is_lone};
 ghost use Rattle.pb_strategy.specs.Events.{answer_data, event_view, recap_data, why_of};
 ghost use Rattle.pb_strategy.specs.History.{Follows, IsAfterJob, IsAfterTake, RunState, after};
 ghost use Rattle.pb_strategy.specs.History.{enabled_of, has_no_plays, is_ended, is_over};
@@ -363,8 +364,10 @@ fn opening_hosts(alloc: Global, checked: &Checked) -> Result<Vec<HostState>, All
     ensures handed { IfOk result (λ hs. handed_of hs.items ≡ 0) }
     ensures tickets { IfOk result (λ hs. tickets_of hs.items
         ≡ replicate (length (inventory_view checked.now.inventory).hosts) None) }
-    ensures opening { (h : HostData) → (inventory_view checked.now.inventory).hosts ≡ h ∷ []
-        → IfOk result (λ hs. (s : HostState) × ((hs.items ≡ s ∷ []) × IsOpening h s)) }
+    ensures lone { is_lone (inventory_view checked.now.inventory) ≡ true }
+    ensures opening { (h : HostVariables) → (inventory_view checked.now.inventory).hosts ≡ h ∷ []
+        → IfOk result (λ hs. (s : HostState) × ((hs.items ≡ s ∷ [])
+        × IsOpening (inventory_view checked.now.inventory).groups h s)) }
 {
     let inventory = checked.inventory();
     let count = inventory.hosts();

@@ -1,60 +1,155 @@
 // Texts that are an inventory, and texts that aren't.
+use crate::runs::ONE_PING;
+use pb_book::Book;
 use pb_inventory::{Inventory, InventoryFault};
+use pb_sig::Registry;
+use pb_value::{Fields, Value, field_of};
+use pb_verify::verify::verify;
+use pb_verify::{Code, VerifyFault};
 use std::alloc::Global;
+use std::sync::Arc;
 use std::test::Fail;
+
+// Groups in groups, and variables of two groups, of all hosts and of the host itself.
+const NESTED: &[u8] = br#"{"web":{"hosts":["h1"],"vars":{"p":1},"children":["w2"]},
+    "w2":{"hosts":["h1"],"vars":{"p":2}},
+    "all":{"vars":{"p":0,"q":0,"r":1.5}},
+    "_meta":{"hostvars":{"h1":{"q":5},"zz":{}}}}"#;
 
 fn is_not_json(alloc: Global, text: &[u8]) -> bool {
     matches!(&Inventory::read(alloc, text), Err(InventoryFault::NotJson))
 }
 
-fn is_not_built(alloc: Global, text: &str) -> bool {
-    matches!(
-        &Inventory::read(alloc, text.as_bytes()),
-        Err(InventoryFault::NotBuilt)
-    )
+// The name of the first host.
+fn first_name(inventory: &Inventory) -> Option<&str> {
+    if inventory.hosts() == 0 {
+        return None;
+    }
+    Some(inventory.host_name(0))
 }
 
-// Whether these are the hosts of a group whose one host is the first.
-fn is_first_host(hosts: Option<&[usize]>) -> bool {
-    matches!(hosts, Some([0]))
+// Whether the group has the first host alone.
+fn is_first_alone(inventory: &Inventory, group: &str) -> bool {
+    match inventory.groups().get(group) {
+        Some(places) => matches!(places.as_slice(), [0]),
+        None => false,
+    }
 }
 
-// Whether the inventory's first host is in no group but `ungrouped`, and has no variables.
+// The value that the last layer that has the name gives it.
+fn value_of<'v>(layers: &'v [Arc<Fields>], name: &str) -> Option<&'v Value> {
+    let mut last = None;
+    for layer in layers {
+        if let Some(value) = field_of(layer, name) {
+            last = Some(value);
+        }
+    }
+    last
+}
+
+// Whether the inventory's one host is in no group but `ungrouped`, and has no variables.
 fn is_ungrouped(inventory: &Inventory) -> bool {
-    let are_groups = is_first_host(inventory.group_hosts("all"))
-        && is_first_host(inventory.group_hosts("ungrouped"))
-        && inventory.group_hosts("h1").is_none();
+    if inventory.hosts() != 1 {
+        return false;
+    }
+    let are_groups = inventory.groups().len() == 2
+        && is_first_alone(inventory, "all")
+        && is_first_alone(inventory, "ungrouped");
     let is_in_none = matches!(inventory.group_names(0), [group] if group.as_str() == "ungrouped");
-    are_groups && is_in_none && inventory.vars_of(0).is_empty()
+    are_groups && is_in_none && inventory.vars_of(0).iter().all(|layer| layer.is_empty())
 }
 
 #[test]
 fn one_host(rt: HostRuntime) -> Result<(), Fail> {
     let inventory = Inventory::read(rt.alloc(), br#"{"all":{"hosts":["db-1.Example_org"]}}"#)?;
-    assert_eq!(rt;
-        (inventory.hosts(), inventory.host_name(0)),
-        (1, "db-1.Example_org")
-    );
+    assert_eq!(rt; first_name(&inventory), Some("db-1.Example_org"));
     assert!(rt; is_ungrouped(&inventory));
     Ok(())
 }
 
+// Whether the first host is in the groups `w2` and `web`, in this order.
+fn is_in_both(inventory: &Inventory) -> bool {
+    if inventory.hosts() == 0 {
+        return false;
+    }
+    match inventory.group_names(0) {
+        [first, second] => first.as_str() == "w2" && second.as_str() == "web",
+        _ => false,
+    }
+}
+
+// Whether the first host has the variables of the inventory of groups in groups.
+fn has_nested_variables(inventory: &Inventory) -> bool {
+    if inventory.hosts() == 0 {
+        return false;
+    }
+    let layers = inventory.vars_of(0);
+    matches!(value_of(layers, "p"), Some(Value::Int(2)))
+        && matches!(value_of(layers, "q"), Some(Value::Int(5)))
+        && matches!(value_of(layers, "r"), Some(Value::Opaque))
+        && value_of(layers, "s").is_none()
+}
+
 #[test]
-fn other_texts(rt: HostRuntime) {
+fn groups_in_groups(rt: HostRuntime) -> Result<(), Fail> {
+    let inventory = Inventory::read(rt.alloc(), NESTED)?;
+    assert_eq!(rt;
+        (inventory.hosts(), first_name(&inventory)),
+        (1, Some("h1"))
+    );
+    assert!(rt; is_in_both(&inventory));
+    assert!(rt; has_nested_variables(&inventory));
+    Ok(())
+}
+
+#[test]
+fn no_json(rt: HostRuntime) {
     assert!(rt; is_not_json(rt.alloc(), b""));
     assert!(rt; is_not_json(rt.alloc(), br#"{"all":"#));
     assert!(rt; is_not_json(rt.alloc(), b"\"\xff\""));
-    let rows = [
-        "{}",
-        r#"{"all":{"hosts":[]}}"#,
-        r#"{"all":{"hosts":["a","b"]}}"#,
-        r#"{"all":{"hosts":[""]}}"#,
-        r#"{"all":{"hosts":["a b"]}}"#,
-        r#"{"all":{"hosts":["a"],"vars":{}}}"#,
-        r#"{"all":{"hosts":["a"]},"web":{}}"#,
-        r#"{"web":{"hosts":["a"]}}"#,
-    ];
-    for text in rows {
-        assert!(rt; is_not_built(rt.alloc(), text), "{text}");
+}
+
+#[test]
+fn no_inventories(rt: HostRuntime) {
+    let form = Inventory::read(rt.alloc(), br#"{"web":1}"#);
+    assert!(rt; matches!(&form, Err(InventoryFault::Form)));
+    let name = Inventory::read(rt.alloc(), br#"{"web":{"hosts":["a b"]}}"#);
+    assert!(rt; matches!(&name, Err(InventoryFault::HostName)));
+    let cycle = br#"{"a":{"children":["b"]},"b":{"children":["a"]}}"#;
+    assert!(rt;
+        matches!(
+            &Inventory::read(rt.alloc(), cycle),
+            Err(InventoryFault::Cycle)
+        )
+    );
+}
+
+#[test]
+fn too_long(rt: HostRuntime) -> Result<(), Fail> {
+    let blanks = vec![in rt.alloc(); b' '; 4_194_305]?;
+    let read = Inventory::read(rt.alloc(), blanks.as_slice());
+    assert!(rt; matches!(&read, Err(InventoryFault::Limit)));
+    Ok(())
+}
+
+// The code with which a book of one ping is refused for the inventory; none where it isn't refused.
+fn code_for(alloc: Global, inventory: &[u8]) -> Option<Code> {
+    let registry = Registry::builtin(alloc).ok()?;
+    let inventory = Inventory::read(alloc, inventory).ok()?;
+    let book = Book::read(alloc, ONE_PING, &registry).ok()?;
+    match verify(alloc, book, inventory, registry) {
+        Err(VerifyFault::Refused(refusal)) => Some(refusal.code),
+        Ok(_) | Err(VerifyFault::NoMemory) => None,
     }
+}
+
+#[test]
+fn not_built_yet(rt: HostRuntime) {
+    let two = code_for(rt.alloc(), br#"{"all":{"hosts":["h1","h2"]}}"#);
+    let grouped = code_for(rt.alloc(), br#"{"web":{"hosts":["h1"]}}"#);
+    let variable = code_for(rt.alloc(), br#"{"all":{"hosts":["h1"],"vars":{"a":1}}}"#);
+    assert_eq!(rt;
+        (two, grouped, variable),
+        (Some(Code::N00), Some(Code::N00), Some(Code::N00))
+    );
 }

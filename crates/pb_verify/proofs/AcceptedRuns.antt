@@ -11,25 +11,25 @@ use Rattle.pb_language.proofs.Started.{start_claim}
 use Rattle.pb_sig.specs.Modules.{modules_of}
 use Rattle.pb_inventory.specs.Inventory.{inventory_view}
 use Rattle.pb_book.specs.Books.{book_of}
+use Rattle.pb_verify.specs.Built.{is_lone}
 use Rattle.pb_verify.specs.Judges.{is_accepted, run_of_accepted}
-use Rattle.pb_verify.specs.Meaning.{inventory_of}
 use Rattle.pb_verify.specs.declared.checked.Accepted.{Accepted}
 use Rattle.pb_verify.proofs.Lone.{Alone-lone}
 use Rattle.pb_verify.proofs.Verdicts.{accepts-accepted, are_distinct-lone}
 
-module _ (a : Accepted) where
-  pub are_distinct-hosts : are_distinct (host_names (inventory_of (inventory_view a.inventory)).hosts) ≡ true
+module _ (a : Accepted) (lone : is_lone (inventory_view a.inventory) ≡ true) where
+  pub are_distinct-hosts : are_distinct (host_names (inventory_view a.inventory).hosts) ≡ true
   are_distinct-hosts =
-      let host = Alone-lone (inventory_view a.inventory) a.inventory.lone in
-      are_distinct-lone host.host.name (inventory_of (inventory_view a.inventory)) host.stands
+      let host = Alone-lone (inventory_view a.inventory) lone in
+      are_distinct-lone host.host.name (inventory_view a.inventory) host.stands
 
   module _ (h : is_accepted a ≡ true) where
-    pub judged-accepted : judged (modules_of a.registry) (inventory_of (inventory_view a.inventory)) (book_of a.book) ≡ accepted a.budget
-    judged-accepted = accepts-accepted a.budget (judged (modules_of a.registry) (inventory_of (inventory_view a.inventory)) (book_of a.book)) h
+    pub judged-accepted : judged (modules_of a.registry) (inventory_view a.inventory) (book_of a.book) ≡ accepted a.budget
+    judged-accepted = accepts-accepted a.budget (judged (modules_of a.registry) (inventory_view a.inventory) (book_of a.book)) h
 
     module _ (forks : ℕ) (es : List Event) where
       pub is_stuck-accepted : (run_of_accepted a forks es).is_stuck ≡ false
-      is_stuck-accepted = never_stuck_from after_claim start_claim give_claim (modules_of a.registry) (inventory_of (inventory_view a.inventory)) (book_of a.book) a.budget forks es are_distinct-hosts judged-accepted
+      is_stuck-accepted = never_stuck_from after_claim start_claim give_claim (modules_of a.registry) (inventory_view a.inventory) (book_of a.book) a.budget forks es are_distinct-hosts judged-accepted
 
       pub handed-accepted : (run_of_accepted a forks es).handed ≤ a.budget
-      handed-accepted = within_budget_from after_claim start_claim give_claim (modules_of a.registry) (inventory_of (inventory_view a.inventory)) (book_of a.book) a.budget forks es are_distinct-hosts judged-accepted
+      handed-accepted = within_budget_from after_claim start_claim give_claim (modules_of a.registry) (inventory_view a.inventory) (book_of a.book) a.budget forks es are_distinct-hosts judged-accepted

@@ -7,16 +7,17 @@ use Rattle.pb_language.specs.Book.{Registry}
 use Rattle.pb_language.specs.Expression.{Name}
 use Rattle.pb_language.specs.Program.{Inventory}
 use Rattle.pb_language.specs.Scope.{spot_kind, view_of}
+use Rattle.pb_language.specs.World.{HostVariables}
 use Rattle.pb_language.specs.plain.Books.{lone_host, are_plain_tasks}
 use Rattle.pb_language.specs.plain.Flow.{plain_writes}
 use Rattle.pb_language.specs.plain.Tables.{Joins}
 use Rattle.pb_language.proofs.PlainTables.{alike, play_joined}
-use Rattle.pb_inventory.specs.Hosts.{HostData}
 use Rattle.pb_inventory.specs.Inventory.{inventory_view}
 use Rattle.pb_book.specs.Meaning.{are_plain_plays, plain_tasks}
 use Rattle.pb_book.specs.Books.{plain_plays}
 use Rattle.pb_book.specs.declared.book.Play.{Play}
 use Rattle.pb_value.specs.KindView.{slots_view}
+use Rattle.pb_verify.specs.Built.{is_lone}
 use Rattle.pb_verify.specs.Known.{table_for, table_of, AreAlike, HasTable, IsTable, known_spot, view_at}
 use Rattle.pb_verify.specs.declared.checked.Accepted.{Accepted}
 use Rattle.pb_verify.proofs.Lone.{Alone-lone}
@@ -38,13 +39,13 @@ IsTable-play ms inventory p ss q f = record {
       subst (λ (i : Inventory). AreAlike (slot_at n ss) (slot_at n (view_of h (table_for ms i (plain_plays (p ∷ [])))))) (sym e) here;
 }
 
-first_host : (hs : List HostData) (h : HostData) (i : ℕ) → hs ≡ h ∷ [] → i < length hs → option_map (λ (x : HostData). x.name) (slice_get hs i) ≡ Some h.name
+first_host : (hs : List HostVariables) (h : HostVariables) (i : ℕ) → hs ≡ h ∷ [] → i < length hs → option_map (λ (x : HostVariables). x.name) (slice_get hs i) ≡ Some h.name
 first_host hs h zero e l = rw e refl
 first_host hs h (suc i) e l = absurd (omega (ap length e, l, arith))
 
-module _ (a : Accepted) (table : HasTable a) (i : ℕ) (n : Name) (l : i < length (inventory_view a.inventory).hosts) where
+module _ (a : Accepted) (lone : is_lone (inventory_view a.inventory) ≡ true) (table : HasTable a) (i : ℕ) (n : Name) (l : i < length (inventory_view a.inventory).hosts) where
   pub slot_at-known : AreAlike (slot_at n (slots_view a.known.entries)) (known_spot a i n)
   slot_at-known =
-      let host = Alone-lone (inventory_view a.inventory) a.inventory.lone in
+      let host = Alone-lone (inventory_view a.inventory) lone in
       subst (λ (o : Option Name). AreAlike (slot_at n (slots_view a.known.entries)) (slot_at n (view_at o (table_of a)))) (sym (first_host (inventory_view a.inventory).hosts host.host i host.hosts l))
       (table.at host.host.name host.stands n)

@@ -1,85 +1,94 @@
--- An inventory of one host without variables stands for that host Alone-lone.
-use Rattle.std.proofs.Common.{◌≡◌, ℕ, zero, suc, List, [], ◌∷◌, true, codes, refl, sym, ap, ◌∙◌, map, length, Some, option_map, slice_get}
+-- An inventory that is lone is that of its host alone, and the other way round.
+use Rattle.std.proofs.Common.{◌≡◌, List, [], ◌∷◌, true, false, cond, codes, refl, sym, ap, ◌∙◌, map, length, Some, option_map, slice_get}
 use Rattle.std.specs.Str.{bytes_eq}
 use Rattle.pb_semantics.specs.Data.{Fields, no_fields, field}
 use Rattle.pb_semantics.proofs.Bools.{untrue, and-left, and-right}
-use Rattle.pb_semantics.proofs.Names.{same_name}
+use Rattle.pb_semantics.proofs.Names.{same_name, own_name}
+use Rattle.pb_language.specs.Book.{Book, Registry}
 use Rattle.pb_language.specs.Expression.{Name}
-use Rattle.pb_language.specs.Program.{Inventory}
-use Rattle.pb_language.specs.World.{Group}
+use Rattle.pb_language.specs.Judged.{judged}
+use Rattle.pb_language.specs.Program.{Inventory, memberships_of}
+use Rattle.pb_language.specs.World.{Group, HostVariables}
 use Rattle.pb_language.specs.plain.Books.{lone_host}
-use Rattle.pb_inventory.specs.Hosts.{HostData, GroupData, InventoryData, is_empty, are_names, is_zero_alone, holds_first, are_alone, are_first_groups, is_lone}
-use Rattle.pb_verify.specs.Meaning.{inventory_of, member_names}
+use Rattle.pb_verify.specs.Built.{is_empty, are_only, is_group_of, are_groups_of, are_lone, is_lone, built_verdict, not_built}
 
 empty_fields : (fs : Fields) → is_empty fs ≡ true → fs ≡ no_fields
-empty_fields no_fields h = refl
-empty_fields (field n d fs) h = untrue h
+empty_fields no_fields e = refl
+empty_fields (field n d fs) e = untrue e
 
-zero_alone : (ns : List ℕ) → is_zero_alone ns ≡ true → ns ≡ 0 ∷ []
-zero_alone [] h = untrue h
-zero_alone (zero ∷ []) h = refl
-zero_alone (suc n ∷ []) h = untrue h
-zero_alone (zero ∷ m ∷ ns) h = untrue h
-zero_alone (suc n ∷ m ∷ ns) h = untrue h
+only_name : (h : Name) (ns : List Name) → are_only h ns ≡ true → ns ≡ h ∷ []
+only_name h [] e = untrue e
+only_name h (n ∷ []) e = ap (λ m. m ∷ []) (same_name n h e)
+only_name h (n ∷ m ∷ ns) e = untrue e
 
-names_same : (ns ms : List Name) → are_names ns ms ≡ true → ms ≡ ns
-names_same [] [] h = refl
-names_same [] (m ∷ ms) h = untrue h
-names_same (n ∷ ns) [] h = untrue h
-names_same (n ∷ ns) (m ∷ ms) h = rw (same_name n m (and-left (bytes_eq n m) (are_names ns ms) h), names_same ns ms (and-right (bytes_eq n m) (are_names ns ms) h)) refl
+named_group : (n h : Name) (g : Group) → is_group_of n h g ≡ true → g ≡ record { name = n; hosts = h ∷ [] }
+named_group n h g e =
+    rw (← same_name g.name n (and-left (bytes_eq g.name n) (are_only h g.hosts) e), ← only_name h g.hosts (and-right (bytes_eq g.name n) (are_only h g.hosts) e)) refl
 
--- the host that it stands for, and its groups
-pub record Alone (v : InventoryData) : Type 0 where
-  pub host : HostData
-  pub hosts : v.hosts ≡ host ∷ []
-  pub groups : host.groups ≡ codes "ungrouped" ∷ []
-  pub stands : inventory_of v ≡ lone_host host.name
+lone_groups : (h : Name) (gs : List Group) → are_groups_of h gs ≡ true → gs ≡ (lone_host h).groups
+lone_groups h [] e = untrue e
+lone_groups h (g ∷ []) e = untrue e
+lone_groups h (g ∷ k ∷ []) e =
+    let first = named_group (codes "all") h g (and-left (is_group_of (codes "all") h g) (is_group_of (codes "ungrouped") h k) e) in
+    let second = named_group (codes "ungrouped") h k (and-right (is_group_of (codes "all") h g) (is_group_of (codes "ungrouped") h k) e) in
+    rw (first, second) refl
+lone_groups h (g ∷ k ∷ j ∷ gs) e = untrue e
 
-first_group : (g : GroupData) (h : HostData) (n : Name) → holds_first n g ≡ true → ◌≡◌ {A = Group} (record { name = g.name; hosts = member_names (h ∷ []) g.members }) (record { name = n; hosts = h.name ∷ [] })
-first_group g h n e = rw (zero_alone g.members (and-right (bytes_eq n g.name) (is_zero_alone g.members) e), ← same_name n g.name (and-left (bytes_eq n g.name) (is_zero_alone g.members) e)) refl
+pub memberships_of-lone : (h : Name) → memberships_of h (lone_host h).groups ≡ codes "ungrouped" ∷ []
+memberships_of-lone h = rw (own_name h) refl
 
-lone_inventory : (h : HostData) (g k : GroupData) → is_empty h.vars ≡ true → holds_first (codes "all") g ≡ true → holds_first (codes "ungrouped") k ≡ true
-    → inventory_of (record { hosts = h ∷ []; groups = g ∷ k ∷ [] }) ≡ lone_host h.name
-lone_inventory h g k e i j = rw (empty_fields h.vars e, first_group g h (codes "all") i, first_group k h (codes "ungrouped") j) refl
+-- the host that is there alone
+pub record Alone (i : Inventory) : Type 0 where
+  pub host : HostVariables
+  pub hosts : i.hosts ≡ host ∷ []
+  pub groups : memberships_of host.name i.groups ≡ codes "ungrouped" ∷ []
+  pub stands : i ≡ lone_host host.name
 
-alone_with : (hs : List HostData) (gs : List GroupData) → are_alone hs ≡ true → are_first_groups gs ≡ true → Alone (record { hosts = hs; groups = gs })
-alone_with [] gs a b = untrue a
-alone_with (h ∷ k ∷ hs) gs a b = untrue a
-alone_with (h ∷ []) [] a b = untrue b
-alone_with (h ∷ []) (g ∷ []) a b = untrue b
-alone_with (h ∷ []) (g ∷ k ∷ j ∷ gs) a b = untrue b
-alone_with (h ∷ []) (g ∷ k ∷ []) a b =
-    let e = and-left (is_empty h.vars) (are_names (codes "ungrouped" ∷ []) h.groups) a in
-    let f = and-right (is_empty h.vars) (are_names (codes "ungrouped" ∷ []) h.groups) a in
-    record {
-      host = h;
-      hosts = refl;
-      groups = names_same (codes "ungrouped" ∷ []) h.groups f;
-      stands = lone_inventory h g k e (and-left (holds_first (codes "all") g) (holds_first (codes "ungrouped") k) b) (and-right (holds_first (codes "all") g) (holds_first (codes "ungrouped") k) b);
-    }
+alone_by : (i : Inventory) (h : Name) → i ≡ lone_host h → Alone i
+alone_by i h e = record {
+  host = record { name = h; variables = no_fields };
+  hosts = ap (λ j. j.hosts) e;
+  groups = ap (λ j. memberships_of h j.groups) e ∙ memberships_of-lone h;
+  stands = e;
+}
 
-pub Alone-lone : (v : InventoryData) → is_lone v ≡ true → Alone v
-Alone-lone v l = alone_with v.hosts v.groups (and-left (are_alone v.hosts) (are_first_groups v.groups) l) (and-right (are_alone v.hosts) (are_first_groups v.groups) l)
+lone_by : (hs : List HostVariables) (gs : List Group) → are_lone hs gs ≡ true → (h : Name) × (◌≡◌ {A = Inventory} (record { hosts = hs; groups = gs }) (lone_host h))
+lone_by [] gs e = untrue e
+lone_by (h ∷ []) gs e =
+    (h.name, rw (empty_fields h.variables (and-left (is_empty h.variables) (are_groups_of h.name gs) e), lone_groups h.name gs (and-right (is_empty h.variables) (are_groups_of h.name gs) e)) refl)
+lone_by (h ∷ k ∷ hs) gs e = untrue e
+
+pub Alone-lone : (i : Inventory) → is_lone i ≡ true → Alone i
+Alone-lone i l = let x = lone_by i.hosts i.groups l in alone_by i x.0 x.1
+
+pub is_lone-host : (h : Name) → is_lone (lone_host h) ≡ true
+is_lone-host h = rw (own_name h) refl
+
+pub length-lone : (i : Inventory) → is_lone i ≡ true → length i.hosts ≡ 1
+length-lone i l = ap length (Alone-lone i l).hosts
 
 one_item : {A B : Type 0} (f : A → B) (y : B) (xs : List A) → map f xs ≡ y ∷ [] → length xs ≡ 1
 one_item f y [] h = let e : [] ≡ y ∷ [] = h in absurd (cc)
 one_item f y (x ∷ []) h = refl
 one_item f y (x ∷ z ∷ xs) h = let e : f x ∷ f z ∷ map f xs ≡ y ∷ [] = h in absurd (cc)
 
-abbrev host_names_of : Inventory → List Name
-host_names_of i = map (λ x. x.name) i.hosts
-
--- the first host of an inventory that stands for a host Alone-lone is that host, in one group
-pub name-first : (v : InventoryData) → is_lone v ≡ true → (h n : Name) → inventory_of v ≡ lone_host h → option_map (λ (x : HostData). x.name) (slice_get v.hosts 0) ≡ Some n → n ≡ h
-name-first v l h n e i =
-    let a = Alone-lone v l in
-    let named : a.host.name ∷ [] ≡ h ∷ [] = ap host_names_of (sym a.stands ∙ e) in
-    let first : Some a.host.name ≡ Some n = sym (ap (λ hs. option_map (λ (x : HostData). x.name) (slice_get hs 0)) a.hosts) ∙ i in
+-- the first host of an inventory of a host alone is that host, in one group
+pub name-first : (i : Inventory) (h n : Name) → i ≡ lone_host h → option_map (λ (x : HostVariables). x.name) (slice_get i.hosts 0) ≡ Some n → n ≡ h
+name-first i h n e f =
+    let first : Some h ≡ Some n = sym (ap (λ (j : Inventory). option_map (λ (x : HostVariables). x.name) (slice_get j.hosts 0)) e) ∙ f in
     (cc)
 
-pub length-groups : {A : Type 0} (f : A → Name) (v : InventoryData) → is_lone v ≡ true → (gs : List A) → option_map (λ (x : HostData). x.groups) (slice_get v.hosts 0) ≡ Some (map f gs) → length gs ≡ 1
-length-groups f v l gs i =
-    let a = Alone-lone v l in
-    let first : Some (codes "ungrouped" ∷ []) ≡ Some (map f gs) = sym (ap (λ hs. option_map (λ (x : HostData). x.groups) (slice_get hs 0)) a.hosts ∙ ap Some a.groups) ∙ i in
+pub length-groups : {A : Type 0} (f : A → Name) (i : Inventory) → is_lone i ≡ true → (gs : List A) → option_map (λ (x : HostVariables). memberships_of x.name i.groups) (slice_get i.hosts 0) ≡ Some (map f gs)
+    → length gs ≡ 1
+length-groups f i l gs e =
+    let a = Alone-lone i l in
+    let first : Some (codes "ungrouped" ∷ []) ≡ Some (map f gs) = sym (ap (λ hs. option_map (λ (x : HostVariables). memberships_of x.name i.groups) (slice_get hs 0)) a.hosts ∙ ap Some a.groups) ∙ e in
     let groups : map f gs ≡ codes "ungrouped" ∷ [] = (cc) in
     one_item f (codes "ungrouped") gs groups
+
+-- what is built is judged
+pub built_verdict-lone : (ms : Registry) (i : Inventory) (b : Book) → is_lone i ≡ true → built_verdict ms i b ≡ judged ms i b
+built_verdict-lone ms i b l = ap (λ q. cond q (judged ms i b) not_built) l
+
+pub built_verdict-other : (ms : Registry) (i : Inventory) (b : Book) → is_lone i ≡ false → built_verdict ms i b ≡ not_built
+built_verdict-other ms i b l = ap (λ q. cond q (judged ms i b) not_built) l

@@ -2,8 +2,9 @@
 use Rattle.std.specs.Prelude.{ℕ, List, codes}
 use Rattle.pb_verify.specs.declared.refusal.Code.{Code}
 use Rattle.pb_verify.specs.declared.refusal.Code.TheVariants.{N00, S01, S02, S03, S04, S05, P01}
-use Rattle.pb_verify.specs.declared.refusal.Code.TheVariants.{I01, A01, A02, A03, V01, V02, V03}
-use Rattle.pb_verify.specs.declared.refusal.Code.TheVariants.{V04, V06, V07, V08}
+use Rattle.pb_verify.specs.declared.refusal.Code.TheVariants.{I01, I02, I03, I04, I05, A01, A02}
+use Rattle.pb_verify.specs.declared.refusal.Code.TheVariants.{A03, V01, V02, V03, V04, V06, V07}
+use Rattle.pb_verify.specs.declared.refusal.Code.TheVariants.{V08}
 
 abbrev pub code_text : Code → List ℕ
 code_text N00 = codes "N00"
@@ -14,6 +15,10 @@ code_text S04 = codes "S04"
 code_text S05 = codes "S05"
 code_text P01 = codes "P01"
 code_text I01 = codes "I01"
+code_text I02 = codes "I02"
+code_text I03 = codes "I03"
+code_text I04 = codes "I04"
+code_text I05 = codes "I05"
 code_text A01 = codes "A01"
 code_text A02 = codes "A02"
 code_text A03 = codes "A03"

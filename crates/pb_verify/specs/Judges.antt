@@ -13,7 +13,7 @@ use Rattle.pb_language.specs.plain.Pass.{plain_rules, plain_flow, plain_calls}
 use Rattle.pb_sig.specs.Modules.{modules_of}
 use Rattle.pb_inventory.specs.Inventory.{inventory_view}
 use Rattle.pb_book.specs.Books.{book_of}
-use Rattle.pb_verify.specs.Meaning.{inventory_of, refusal_of, accepts, or_later}
+use Rattle.pb_verify.specs.Meaning.{refusal_of, accepts, or_later}
 use Rattle.pb_verify.specs.declared.checked.Accepted.{Accepted}
 use Rattle.pb_verify.specs.declared.verify.VerifyFault.{VerifyFault}
 use Rattle.pb_verify.specs.declared.verify.VerifyFault.TheVariants.{Refused, NoMemory}
@@ -26,12 +26,12 @@ tasks_verdict ms h ts = offence_verdict
 -- what was handed in is accepted, with that budget
 abbrev pub is_accepted : Accepted → Bool
 is_accepted a = accepts a.budget
-    (judged (modules_of a.registry) (inventory_of (inventory_view a.inventory)) (book_of a.book))
+    (judged (modules_of a.registry) (inventory_view a.inventory) (book_of a.book))
 
 -- the run of what was accepted, after these events
 abbrev pub run_of_accepted : Accepted → ℕ → List Event → State
-run_of_accepted a forks es = run_of (modules_of a.registry)
-    (inventory_of (inventory_view a.inventory)) (book_of a.book) forks es
+run_of_accepted a forks es =
+    run_of (modules_of a.registry) (inventory_view a.inventory) (book_of a.book) forks es
 
 -- the verdict that refuses so, none for want of memory
 abbrev pub refused_verdict : VerifyFault → Option Verdict

@@ -16,7 +16,6 @@ use Rattle.pb_value.specs.declared.kind.Kind.{Kind}
 use Rattle.pb_sig.specs.Modules.{modules_of}
 use Rattle.pb_inventory.specs.Inventory.{inventory_view}
 use Rattle.pb_book.specs.Books.{book_of}
-use Rattle.pb_verify.specs.Meaning.{inventory_of}
 use Rattle.pb_verify.specs.declared.checked.Accepted.{Accepted}
 
 -- the fourth table
@@ -25,8 +24,7 @@ table_for ms inventory b = views_after 4 inventory (program_of ms inventory b)
     (found_laters (program_of ms inventory b) inventory)
 
 abbrev pub table_of : Accepted → List View
-table_of a =
-    table_for (modules_of a.registry) (inventory_of (inventory_view a.inventory)) (book_of a.book)
+table_of a = table_for (modules_of a.registry) (inventory_view a.inventory) (book_of a.book)
 
 abbrev pub IsThere : Spot → Type 0
 IsThere (spot a k) = Unit {0}
@@ -61,5 +59,5 @@ pub record IsTable (ms : Registry) (inventory : Inventory) (b : Book) (ss : Slot
       → AreAlike (slot_at p ss) (slot_at p (view_of h (table_for ms inventory b)))
 
 abbrev pub HasTable : Accepted → Type 0
-HasTable a = IsTable (modules_of a.registry) (inventory_of (inventory_view a.inventory))
-    (book_of a.book) (slots_view a.known.entries)
+HasTable a = IsTable (modules_of a.registry) (inventory_view a.inventory) (book_of a.book)
+    (slots_view a.known.entries)

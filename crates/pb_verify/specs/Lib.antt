@@ -1,5 +1,6 @@
 pub mod Codes
 pub mod Meaning
+pub mod Built
 pub mod Way
 pub mod Avoids
 pub mod Environments

@@ -1,29 +1,11 @@
--- What an inventory and a refusal stand for.
-use Rattle.std.specs.Prelude.{ℕ, List, [], ◌∷◌, map, Option, Some, None, option_map, string_bytes}
-use Rattle.std.specs.Prelude.{Bool, false, nat_eq}
-use Rattle.pb_language.specs.Expression.{Name}
-use Rattle.pb_language.specs.World.{name_at}
-use Rattle.pb_language.specs.Program as program
+-- What a refusal stands for.
+use Rattle.std.specs.Prelude.{ℕ, Option, Some, None, option_map, string_bytes, Bool, false, nat_eq}
 use Rattle.pb_language.specs.Verdict as verdict
 use Rattle.pb_language.specs.Verdict.{Verdict, accepted, refused}
-use Rattle.pb_inventory.specs.Hosts.{HostData, InventoryData}
 use Rattle.pb_verify.specs.declared.refusal.Code.{Code}
 use Rattle.pb_verify.specs.declared.refusal.Code.TheVariants.{V01, V02, V03, V04, V06, V07}
 use Rattle.pb_verify.specs.declared.refusal.Code.TheVariants.{V08}
 use Rattle.pb_verify.specs.declared.refusal.Refusal.{Refusal}
-
-abbrev pub member_names : List HostData → List ℕ → List Name
-member_names hs [] = []
-member_names hs (n ∷ ns) = with_name (name_at n (map (λ h. h.name) hs)) (member_names hs ns) where
-  with_name : Option Name → List Name → List Name
-  with_name None rest = rest
-  with_name (Some h) rest = h ∷ rest
-
-abbrev pub inventory_of : InventoryData → program.Inventory
-inventory_of i = record {
-  hosts = map (λ h. record { name = h.name; variables = h.vars }) i.hosts;
-  groups = map (λ g. record { name = g.name; hosts = member_names i.hosts g.members }) i.groups;
-}
 
 -- the number of a V code, 0 for another
 abbrev pub code_number : Code → ℕ

@@ -31,8 +31,10 @@ pub struct Checked {
 impl Model for Checked {
     ghost use Rattle.std.specs.Prelude.{◌≡◌, true};
     ghost use Rattle.pb_sig.specs.Modules.{modules_of};
+    ghost use Rattle.pb_inventory.specs.Inventory.{inventory_view};
     ghost use Rattle.pb_book.specs.Books.{plays_of};
     ghost use Rattle.pb_book.specs.Lines.{names_known};
+    ghost use Rattle.pb_verify.specs.Built.{is_lone};
     ghost use Rattle.pb_verify.specs.Judges.{is_accepted};
     ghost use Rattle.pb_verify.specs.Known.{HasTable};
     ghost use Rattle.pb_verify.specs.declared.checked.Accepted.{Accepted};
@@ -57,9 +59,10 @@ impl Model for Checked {
     ghost view = { λ a. a.accepted.value };
 
     ghost invariant = { λ a. (is_accepted a.accepted.value ≡ true)
+        × ((is_lone (inventory_view a.accepted.value.inventory) ≡ true)
         × ((names_known (modules_of a.accepted.value.registry) (plays_of a.accepted.value.book)
         ≡ true)
-        × HasTable a.accepted.value) };
+        × HasTable a.accepted.value)) };
 }
 
 impl Clone for Checked {
@@ -81,12 +84,14 @@ impl Checked {
     ghost use Rattle.pb_inventory.specs.Inventory.{inventory_view};
     ghost use Rattle.pb_book.specs.Books.{plays_of};
     ghost use Rattle.pb_book.specs.Lines.{names_known};
+    ghost use Rattle.pb_verify.specs.Built.{is_lone};
     ghost use Rattle.pb_verify.specs.Judges.{is_accepted, run_of_accepted};
     ghost use Rattle.pb_verify.specs.Known.{HasTable, IsKnownAs, known_spot};
 
     // What was accepted.
     pub(crate) fn of(alloc: Global, accepted: Accepted) -> Result<Checked, AllocError>
         requires accepted { is_accepted accepted ≡ true }
+        requires lone { is_lone (inventory_view accepted.inventory) ≡ true }
         requires known { names_known (modules_of accepted.registry) (plays_of accepted.book)
             ≡ true }
         requires table { HasTable accepted }
@@ -119,9 +124,10 @@ impl Checked {
         &self.accepted.book
     }
 
-    /// The inventory as it was handed in.
+    /// The inventory as it was handed in, of the one form that is built so far.
     pub fn inventory(&self) -> &Inventory
-        ensures { result.now ≡ self.now.inventory }
+        ensures value { result.now ≡ self.now.inventory }
+        ensures lone { is_lone (inventory_view self.now.inventory) ≡ true }
     {
         &self.accepted.inventory
     }

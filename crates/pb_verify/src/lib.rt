@@ -9,6 +9,7 @@
 #![tactic(auto)]
 
 mod budget;
+mod built;
 pub mod checked;
 mod environment;
 mod reads;

@@ -21,6 +21,14 @@ pub enum Code {
     P01,
     /// The inventory isn't JSON.
     I01,
+    /// The inventory is malformed.
+    I02,
+    /// The inventory names a host as none can be named.
+    I03,
+    /// The inventory has a group below itself.
+    I04,
+    /// The inventory passes a limit.
+    I05,
     /// The answers aren't JSON.
     A01,
     /// The answers have another shape than an object from host names to lists of objects.
@@ -57,6 +65,10 @@ impl Code {
             Code::S05 => "S05",
             Code::P01 => "P01",
             Code::I01 => "I01",
+            Code::I02 => "I02",
+            Code::I03 => "I03",
+            Code::I04 => "I04",
+            Code::I05 => "I05",
             Code::A01 => "A01",
             Code::A02 => "A02",
             Code::A03 => "A03",

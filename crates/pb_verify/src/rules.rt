@@ -1,6 +1,6 @@
 // The rules that need no following of hosts: parameters and reserved names.
 ghost use Rattle.std.specs.Prelude.{[], ◌&&◌, ◌∷◌, ◌≡◌, List, Some, codes, map, option_map, true};
-ghost use Rattle.pb_semantics.specs.Words.{ModuleData, is_among};
+ghost use Rattle.pb_semantics.specs.Words.{ModuleData};
 ghost use Rattle.pb_language.specs.Words.{any_among, are_known as are_among, are_parameters};
 ghost use Rattle.pb_language.specs.Words.{can_be_set, has_part, has_required};
 ghost use Rattle.pb_language.specs.Words.{is_parameter as names_parameter};
@@ -13,38 +13,8 @@ ghost use Rattle.pb_verify.specs.Meaning.{refusal_of};
 
 use crate::refusal::{Code, Refusal};
 use pb_book::{Argument, Task, Work};
-use pb_sig::{Module, Parameter, Registry, is_one_of, is_variable};
-
-// The names that no task may register or set.
-const RESERVED: [&str; 27] = [
-    "inventory_hostname",
-    "groups",
-    "group_names",
-    "hostvars",
-    "ansible_play_batch",
-    "item",
-    "ansible_failed_result",
-    "ansible_facts",
-    "ansible_hostname",
-    "ansible_system",
-    "ansible_os_family",
-    "ansible_distribution",
-    "ansible_processor_vcpus",
-    "ansible_memtotal_mb",
-    "and",
-    "or",
-    "not",
-    "in",
-    "is",
-    "true",
-    "false",
-    "True",
-    "False",
-    "none",
-    "None",
-    "if",
-    "else",
-];
+use pb_inventory::is_reserved;
+use pb_sig::{Module, Parameter, Registry, is_variable};
 
 /// The first offence of the tasks against them: the least line, and on one line parameters before
 /// names.
@@ -212,11 +182,4 @@ fn any_reserved(arguments: &[Argument]) -> bool
         }
     }
     false
-}
-
-// A name of expressions, of the executor or of gathered facts.
-fn is_reserved(name: &str) -> bool
-    ensures { result ≡ is_among name.now reserved_names }
-{
-    is_one_of(name, &RESERVED)
 }

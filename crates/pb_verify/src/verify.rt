@@ -10,13 +10,15 @@ ghost use Rattle.pb_sig.specs.Words.{modules_of};
 ghost use Rattle.pb_inventory.specs.Words.{inventory_view};
 ghost use Rattle.pb_book.specs.Words.{are_known, are_plain_plays, book_of, is_numbered};
 ghost use Rattle.pb_book.specs.Words.{names_known, plain_plays, plain_tasks, plays_of};
+ghost use Rattle.pb_verify.specs.Built.{built_verdict, is_lone};
 ghost use Rattle.pb_verify.specs.Faults.{fault_refusal};
 ghost use Rattle.pb_verify.specs.Judges.{refused_verdict, refuses_without_host, tasks_verdict};
 ghost use Rattle.pb_verify.specs.Known.{IsTable};
-ghost use Rattle.pb_verify.specs.Meaning.{code_number, inventory_of, or_later, refusal_of};
+ghost use Rattle.pb_verify.specs.Meaning.{code_number, or_later, refusal_of};
 ghost use Rattle.pb_verify.specs.Way.{Stands};
 
 use crate::budget::calls_in;
+use crate::built::is_lone;
 use crate::checked::{Accepted, Checked};
 use crate::refusal::{Code, Refusal};
 use crate::rules::first_offence;
@@ -58,10 +60,10 @@ impl<T: Drop> From<AllocFailed<T>> for VerifyFault {
 }
 
 /// Judges a book for an inventory: accepted with its budget of module calls, or the first refusal
-/// in this order: the rules that follow no host (parameters, then names, by line), then the texts
-/// that may meet an undefined variable, a missing field or a value of the wrong kind, by line and
-/// then by host. A refusal that names no host takes no memory. Each module that the book names is
-/// in the registry.
+/// in this order: an inventory that isn't built yet, the rules that follow no host (parameters,
+/// then names, by line), then the texts that may meet an undefined variable, a missing field or a
+/// value of the wrong kind, by line and then by host. A refusal that names no host takes no memory.
+/// Each module that the book names is in the registry.
 pub fn verify(
     alloc: Global,
     book: Book,
@@ -72,12 +74,18 @@ pub fn verify(
     ensures handed { IfOk result
         (λ c. (c.book ≡ book) × (c.inventory ≡ inventory) × (c.registry ≡ registry)) }
     ensures verdict { Gives (λ c. accepted c.budget) refused_verdict result
-        (judged (modules_of registry) (inventory_of (inventory_view inventory)) (book_of book)) }
+        (built_verdict (modules_of registry) (inventory_view inventory) (book_of book)) }
     ensures apart { refuses_without_host
-        (judged (modules_of registry) (inventory_of (inventory_view inventory)) (book_of book))
-        ≡ true
+        (built_verdict (modules_of registry) (inventory_view inventory) (book_of book)) ≡ true
         → result ≡ Err VerifyFault.NoMemory → ⊥ }
 {
+    if !is_lone(&inventory) {
+        return Err(VerifyFault::Refused(Refusal {
+            code: Code::N00,
+            line: 0,
+            host: None,
+        }));
+    }
     let Findings { budget, known } = judge(alloc, book.plays(), &inventory, &registry)?;
     let accepted = Accepted {
         book,
@@ -119,15 +127,15 @@ fn judge(
     requires numbered { is_numbered plays.now ≡ true }
     requires plain { are_plain_plays plays.now ≡ true }
     requires known { names_known (modules_of registry.now) plays.now ≡ true }
+    requires lone { is_lone (inventory_view inventory.now) ≡ true }
     ensures verdict { Gives (λ f. accepted f.budget) refused_verdict result
-        (judged (modules_of registry.now) (inventory_of (inventory_view inventory.now))
-        (plain_plays plays.now)) }
+        (judged (modules_of registry.now) (inventory_view inventory.now) (plain_plays plays.now)) }
     ensures known { IfOk result
-        (λ f. IsTable (modules_of registry.now) (inventory_of (inventory_view inventory.now))
+        (λ f. IsTable (modules_of registry.now) (inventory_view inventory.now)
         (plain_plays plays.now) (slots_view f.known.entries)) }
     ensures apart { refuses_without_host
-        (judged (modules_of registry.now) (inventory_of (inventory_view inventory.now))
-        (plain_plays plays.now)) ≡ true
+        (judged (modules_of registry.now) (inventory_view inventory.now) (plain_plays plays.now))
+        ≡ true
         → result ≡ Err VerifyFault.NoMemory → ⊥ }
 {
     match plays {
@@ -145,11 +153,12 @@ fn judge_tasks(
 ) -> Result<Findings, VerifyFault>
     requires known { are_known (modules_of registry.now) tasks.now ≡ true }
     requires plain { are_plain_tasks (plain_tasks tasks.now) ≡ true }
-    ensures verdict { (h : Name) → inventory_of (inventory_view inventory.now) ≡ lone_host h
+    requires lone { is_lone (inventory_view inventory.now) ≡ true }
+    ensures verdict { (h : Name) → inventory_view inventory.now ≡ lone_host h
         → Gives (λ f. accepted f.budget) refused_verdict result
         (tasks_verdict (modules_of registry.now) h (plain_tasks tasks.now)) }
     ensures known { IfOk result
-        (λ f. (h : Name) → inventory_of (inventory_view inventory.now) ≡ lone_host h
+        (λ f. (h : Name) → inventory_view inventory.now ≡ lone_host h
         → Joins (plain_writes (modules_of registry.now) h 0 no_slots (plain_tasks tasks.now))
         (slots_view f.known.entries)) }
     ensures apart { result ≡ Err VerifyFault.NoMemory
@@ -180,13 +189,14 @@ fn first_refusal(
 ) -> Result<Way, AllocError>
     requires known { are_known (modules_of registry.now) tasks.now ≡ true }
     requires plain { are_plain_tasks (plain_tasks tasks.now) ≡ true }
+    requires lone { is_lone (inventory_view inventory.now) ≡ true }
     ensures refusal { IfOk result
-        (λ w. (h : Name) → inventory_of (inventory_view inventory.now) ≡ lone_host h
+        (λ w. (h : Name) → inventory_view inventory.now ≡ lone_host h
         → option_map refusal_of w.refusal
         ≡ or_later (plain_rules (modules_of registry.now) (plain_tasks tasks.now))
         (plain_flow (modules_of registry.now) h 0 no_slots (plain_tasks tasks.now))) }
     ensures known { IfOk result
-        (λ w. (h : Name) → inventory_of (inventory_view inventory.now) ≡ lone_host h
+        (λ w. (h : Name) → inventory_view inventory.now ≡ lone_host h
         → w.refusal ≡ None
         → Joins (plain_writes (modules_of registry.now) h 0 no_slots (plain_tasks tasks.now))
         (slots_view w.known.entries)) }
@@ -196,12 +206,6 @@ fn first_refusal(
     if let Some(refusal) = first_offence(tasks, registry) {
         return Ok(Way {
             refusal: Some(refusal),
-            known: Slots::new(alloc),
-        });
-    }
-    if inventory.hosts() == 0 {
-        return Ok(Way {
-            refusal: None,
             known: Slots::new(alloc),
         });
     }

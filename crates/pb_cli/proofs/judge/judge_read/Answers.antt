@@ -1,10 +1,8 @@
 use Rattle.std.proofs.Common.{Ok, Err, sym, ap, ◌∙◌}
 use Rattle.std.proofs.lemmas.Result.{err_from_is_err_and}
-use Rattle.pb_language.specs.Judged.{judged}
 use Rattle.pb_inventory.specs.Inventory.{inventory_view}
 use Rattle.pb_book.specs.Books.{book_of}
 use Rattle.pb_sig.specs.Modules.{modules_of}
-use Rattle.pb_verify.specs.Meaning.{inventory_of}
 use Rattle.pb_cli.specs.FileVerdicts.{book_verdict}
 use Rattle.pb_cli.proofs.Verdicts.{book_verdict-read, BookSays-fault, Tells-accepted, Tells-book, Tells-refused}
 use Rattle.pb_cli.proofs.judge.judge_read.Goals as goal

@@ -1,5 +1,5 @@
 use Rattle.std.proofs.Common.{◌≡◌, ◌<◌, [], ◌∷◌, None, replicate}
-use Rattle.pb_inventory.specs.Hosts.{HostData}
+use Rattle.pb_language.specs.World.{HostVariables}
 use Rattle.pb_inventory.specs.Inventory.{inventory_view}
 use Rattle.pb_strategy.specs.Inside.{recaps_of, tickets_of, handed_of}
 use Rattle.pb_strategy.specs.Recaps.{nothing}
@@ -12,5 +12,5 @@ invariant-loop-host l = record {
   recaps : recaps_of l.hosts.items ≡ replicate l.host nothing;
   tickets : tickets_of l.hosts.items ≡ replicate l.host None;
   handed : handed_of l.hosts.items ≡ 0;
-  opening : (h : HostData) → (inventory_view l.checked.inventory).hosts ≡ h ∷ [] → 0 < l.host → (s : HostState) × ((l.hosts.items ≡ s ∷ []) × IsOpening h s);
+  opening : (h : HostVariables) → (inventory_view l.checked.inventory).hosts ≡ h ∷ [] → 0 < l.host → (s : HostState) × ((l.hosts.items ≡ s ∷ []) × IsOpening (inventory_view l.checked.inventory).groups h s);
 }

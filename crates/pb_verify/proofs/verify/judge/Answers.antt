@@ -17,28 +17,27 @@ use Rattle.pb_book.specs.Meaning.{are_plain_plays, plain_tasks}
 use Rattle.pb_book.specs.declared.book.Play.{Play}
 use Rattle.pb_book.specs.Books.{plain_plays}
 use Rattle.pb_verify.specs.Judges.{refused_verdict, refuses_without_host, tasks_verdict}
-use Rattle.pb_verify.specs.Meaning.{inventory_of}
 use Rattle.pb_verify.proofs.Lone.{Alone-lone}
 use Rattle.pb_verify.proofs.Verdicts.{judged-one_play, items-one, tasks_verdict-ruled}
 use Rattle.pb_verify.proofs.verify.judge.Goals as goal
 
 pub returns-in-len1-clause-verdict : goal.returns-in-len1-clause-verdict
 returns-in-len1-clause-verdict c =
-    let a = Alone-lone (inventory_view c.args.inventory.now) c.args.inventory.now.lone in
+    let a = Alone-lone (inventory_view c.args.inventory.now) c.requires.lone in
     let p = c.play-item.result in
     let ms = modules_of c.args.registry.now in
     let is = items-one c.args.plays.now p c.in-len1.len_at_least c.in-len1.len_below c.play-item.is in
     let numbered = subst (λ (ps : List Play). is_numbered ps ≡ true) is c.requires.numbered in
     let plain = subst (λ (ps : List Play). are_plain_plays ps ≡ true) is c.requires.plain in
     subst (λ (v : Verdict). Gives (λ f. accepted f.budget) refused_verdict c.judge_tasks.result v)
-    (ap (λ ts. tasks_verdict ms a.host.name (plain_tasks ts)) c.as_slice.ensures.value ∙ sym (ap (λ ps. judged ms (inventory_of (inventory_view c.args.inventory.now)) (plain_plays ps)) is ∙ judged-one_play ms a.host.name (inventory_of (inventory_view c.args.inventory.now)) p a.stands numbered plain))
+    (ap (λ ts. tasks_verdict ms a.host.name (plain_tasks ts)) c.as_slice.ensures.value ∙ sym (ap (λ ps. judged ms (inventory_view c.args.inventory.now) (plain_plays ps)) is ∙ judged-one_play ms a.host.name (inventory_view c.args.inventory.now) p a.stands numbered plain))
     (c.judge_tasks.ensures.verdict a.host.name a.stands)
 
 pub returns-in-len1-clause-known : goal.returns-in-len1-clause-known
 returns-in-len1-clause-known c =
     let p = c.play-item.result in
     let ms = modules_of c.args.registry.now in
-    let inventory = inventory_of (inventory_view c.args.inventory.now) in
+    let inventory = inventory_view c.args.inventory.now in
     let is = items-one c.args.plays.now p c.in-len1.len_at_least c.in-len1.len_below c.play-item.is in
     let plain = subst (λ (ps : List Play). are_plain_plays ps ≡ true) is c.requires.plain in
     MatchResult-weaker c.judge_tasks.result c.judge_tasks.ensures.known
@@ -49,10 +48,10 @@ returns-in-len1-clause-known c =
 
 pub returns-in-len1-clause-apart : goal.returns-in-len1-clause-apart
 returns-in-len1-clause-apart c = λ refuses memory.
-    let a = Alone-lone (inventory_view c.args.inventory.now) c.args.inventory.now.lone in
+    let a = Alone-lone (inventory_view c.args.inventory.now) c.requires.lone in
     let p = c.play-item.result in
     let ms = modules_of c.args.registry.now in
-    let inventory = inventory_of (inventory_view c.args.inventory.now) in
+    let inventory = inventory_view c.args.inventory.now in
     let is = items-one c.args.plays.now p c.in-len1.len_at_least c.in-len1.len_below c.play-item.is in
     let numbered = subst (λ (ps : List Play). is_numbered ps ≡ true) is c.requires.numbered in
     let plain = subst (λ (ps : List Play). are_plain_plays ps ≡ true) is c.requires.plain in

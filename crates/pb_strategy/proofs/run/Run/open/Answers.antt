@@ -27,6 +27,6 @@ invariant_of-run c =
       skipped = c.in_ok-new.ensures.skipped;
       unchanged = c.in_ok-new.ensures.unchanged;
       machine = IsMachine-same c.args.checked.now _ c.args.forks c.args.forks [] _ _ _ _ copy refl none refl
-          (IsMachine-opening c.args.checked.now c.args.forks _ _ c.in_ok-opening_hosts.ensures.opening c.opening_phase.ensures.ended c.opening_phase.ensures.going c.opening_phase.ensures.accepted c.opening_phase.ensures.known);
+          (IsMachine-opening c.args.checked.now c.args.forks _ _ c.in_ok-opening_hosts.ensures.opening c.opening_phase.ensures.ended c.opening_phase.ensures.going c.opening_phase.ensures.accepted c.opening_hosts.ensures.lone c.opening_phase.ensures.known);
       forks = c.requires;
     }

@@ -1,0 +1,7 @@
+use Rattle.std.proofs.Common.{ap, map}
+use Rattle.pb_inventory.specs.Views.{group_view}
+use Rattle.pb_inventory.proofs.HostAt.{names-of_views}
+use Rattle.pb_inventory.proofs.inventory.Inventory.groups.Goals as goal
+
+pub returns-clause-groups : goal.returns-clause-groups
+returns-clause-groups c = ap (λ hs. map (group_view hs) c.args.self.now.groups.entries) (names-of_views c.args.self.now.hosts.entries)

@@ -46,8 +46,8 @@ def write_book(folder, name, tasks):
 # Measuring.
 
 
-def measured(words, wanted=None):
-    """Seconds of wall time and peak memory in KiB of one process; what it prints has to be what is wanted."""
+def measured(words, wanted=None, ended=0):
+    """Seconds of wall time and peak memory in KiB of one process; its status and what it prints have to be what is wanted."""
     reading, writing = os.pipe()
     taken = [(os.POSIX_SPAWN_DUP2, writing, 1), (os.POSIX_SPAWN_CLOSE, reading)]
     began = time.perf_counter()
@@ -57,7 +57,7 @@ def measured(words, wanted=None):
     os.close(writing)
     with os.fdopen(reading, "rb") as file:
         printed = file.read().decode()
-    if status != 0 or wanted not in (None, printed):
+    if os.waitstatus_to_exitcode(status) != ended or wanted not in (None, printed):
         sys.exit(f"{' '.join(words)}: status {os.waitstatus_to_exitcode(status)}, printed {printed!r}")
     return seconds, usage.ru_maxrss, printed
 
@@ -70,9 +70,9 @@ def in_rounds(commands):
     """
     taken = {name: [] for name in commands}
     for _ in range(ROUNDS):
-        for name, (words, wanted) in commands.items():
-            measured(words, wanted)
-            taken[name].append(measured(words, wanted))
+        for name, command in commands.items():
+            measured(*command)
+            taken[name].append(measured(*command))
     return {name: Figures(runs) for name, runs in taken.items()}
 
 
@@ -119,14 +119,14 @@ def launcher(found):
     line("launcher over the program", f"{ms(through - alone)} ({detail})", "at most 20 ms", through - alone <= 0.020)
 
 
-def against_json_load(found):
+def against_json_load(found, name="check"):
     check, process = found["check"], found["python"]
     load = median(float(seconds) for seconds in found["load"].printed)
     detail = f"{ms(check.seconds)} over {ms(process.seconds)}"
-    at_most("check over a process of json.load, time", check.seconds / process.seconds, 3, detail)
-    at_most("check over json.load alone, time", check.seconds / load, 3, f"{ms(check.seconds)} over {ms(load)}")
+    at_most(f"{name} over a process of json.load, time", check.seconds / process.seconds, 3, detail)
+    at_most(f"{name} over json.load alone, time", check.seconds / load, 3, f"{ms(check.seconds)} over {ms(load)}")
     detail = f"{check.memory:,.0f} KiB over {process.memory:,.0f} KiB"
-    at_most("check over a process of json.load, memory", check.memory / process.memory, 4, detail)
+    at_most(f"{name} over a process of json.load, memory", check.memory / process.memory, 4, detail)
 
 
 def growth(found):

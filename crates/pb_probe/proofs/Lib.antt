@@ -1,1 +1,2 @@
 mod Shapes
+mod Tellings

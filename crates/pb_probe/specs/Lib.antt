@@ -1,3 +1,4 @@
 pub mod OneHost
 pub mod Registered
 pub mod Said
+pub mod Told

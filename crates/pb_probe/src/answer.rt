@@ -5,22 +5,24 @@
 // the modules whose results they are; `values`, what variables hold beside what is known; `set`, a
 // list of records of a `name` and a `text`, facts that are set one after the other before the text
 // is asked; `then`, an expression that is asked behind the text; `repeat`, how many times more than
-// the once each step is done.
+// the once each step is done. Or it is a record of a text under `inventory`, which is told.
 ghost use Rattle.std.specs.Prelude.{◌≡◌, cond};
 ghost use Rattle.pb_semantics.specs.Words.{Gives};
 ghost use Rattle.pb_language.specs.Words.{expression_of, template_of};
 ghost use Rattle.pb_syntax.specs.ExprView.{expr_view};
 ghost use Rattle.pb_syntax.specs.Trees.{no_tree};
 
+use crate::inventory::told_of;
 use crate::lines::line_for;
 use crate::question::{fields_at, flag_at, items_at, text_at};
+use crate::records::{put, put_record, said};
 use crate::repeat::repeat;
 use crate::scene::Scene;
 use crate::words::{fault_word, sort_word};
 use pb_expr::eval::eval;
 use pb_expr::narrow::narrow;
 use pb_expr::{Expr, ExprFault, KindFault, Taught, kind_of, parse_expr, parse_template};
-use pb_value::{Fields, Kind, Value, put_field};
+use pb_value::{Fields, Kind, Value};
 use std::alloc::{AllocError, Global};
 
 /// The line of the answer, without its end.
@@ -33,6 +35,13 @@ pub fn line_of(alloc: Global, question: &Value) -> Result<String, AllocError> {
 }
 
 fn answer_of(alloc: Global, asked: &Fields) -> Result<Fields, AllocError> {
+    match text_at(asked, "inventory") {
+        Some(text) => told_of(alloc, text),
+        None => expression_told(alloc, asked),
+    }
+}
+
+fn expression_told(alloc: Global, asked: &Fields) -> Result<Fields, AllocError> {
     let Some(text) = text_at(asked, "text") else {
         return said(alloc, "refused", "question");
     };
@@ -204,25 +213,4 @@ fn refused(alloc: Global, fault: &ExprFault) -> Result<Fields, AllocError> {
         ExprFault::TooDeep => said(alloc, "refused", "E02"),
         ExprFault::NoMemory => Err(AllocError),
     }
-}
-
-// An answer of that one word.
-fn said(alloc: Global, name: &str, word: &str) -> Result<Fields, AllocError> {
-    let mut answer = Fields::new(alloc);
-    let word = Value::of_text(alloc, String::from_str(alloc, word)?)?;
-    put(alloc, &mut answer, name, word)?;
-    Ok(answer)
-}
-
-fn put_record(
-    alloc: Global,
-    answer: &mut Fields,
-    name: &str,
-    fields: Fields,
-) -> Result<(), AllocError> {
-    put(alloc, answer, name, Value::of_fields(alloc, fields)?)
-}
-
-fn put(alloc: Global, answer: &mut Fields, name: &str, value: Value) -> Result<(), AllocError> {
-    put_field(answer, String::from_str(alloc, name)?, value)
 }

@@ -2,7 +2,8 @@
 use pb_value::{Fields, Value};
 use std::alloc::{AllocError, Global};
 
-/// The line of JSON, without its end, for a record of those fields. What may not be read is `null`.
+/// The line of JSON, without its end, for a record of those fields. What may not be read is
+/// `{"opaque":true}`.
 pub fn line_for(alloc: Global, fields: &Fields) -> Result<String, AllocError> {
     let mut line = String::new(alloc);
     write_fields(alloc, &mut line, fields)?;
@@ -12,7 +13,8 @@ pub fn line_for(alloc: Global, fields: &Fields) -> Result<String, AllocError> {
 #[cycle(write)]
 fn write(alloc: Global, line: &mut String, value: &Value) -> Result<(), AllocError> {
     match value {
-        Value::Null | Value::Opaque => line.push_str("null"),
+        Value::Null => line.push_str("null"),
+        Value::Opaque => line.push_str("{\"opaque\":true}"),
         Value::Bool(true) => line.push_str("true"),
         Value::Bool(false) => line.push_str("false"),
         Value::Int(number) => write_number(alloc, line, *number),

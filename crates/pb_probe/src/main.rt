@@ -1,12 +1,15 @@
-// Puts texts to the libraries: what each is read as, its kind and its value.
+// Puts texts to the libraries: what each is read as, its kind and its value, or the inventory that
+// it is.
 //
 // Standard input is a JSON list of questions (`answer.rt` says what stands in one); a line of JSON
 // is printed for each. The status is 64 where it is no such list.
 #![tactic(auto)]
 
 mod answer;
+mod inventory;
 mod lines;
 mod question;
+mod records;
 mod repeat;
 mod scene;
 mod words;

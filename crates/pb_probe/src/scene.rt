@@ -8,6 +8,7 @@ ghost use Rattle.pb_sig.specs.Words.{known_view, result_kind};
 ghost use Rattle.pb_probe.specs.OneHost.{one_host_scope};
 ghost use Rattle.pb_probe.specs.Registered.{registered_kind};
 
+use crate::records::lay;
 use pb_expr::{Expr, KindFault, Known as KnownVariables, Taught, kind_of};
 use pb_sig::{Known, Module, Registry, Results};
 use pb_value::below::find;
@@ -104,10 +105,7 @@ impl Scene {
 
     /// Each variable holds that value.
     pub fn hold(&mut self, values: &Fields) -> Result<(), AllocError> {
-        for (name, value) in values.iter() {
-            put_field(&mut self.values, name.clone()?, value.clone()?)?;
-        }
-        Ok(())
+        lay(&mut self.values, values)
     }
 
     /// Each variable is the register of a task of the module of that name that always runs.

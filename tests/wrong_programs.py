@@ -228,10 +228,10 @@ class Followed:
         return ""
 
     def is_proved(self, library):
-        """Waits until rt ci has said so, or has ended."""
+        """Waits until rt ci has said so, or that an earlier run on this machine proved it, or has ended."""
         while True:
             lines = self.log.read_text(errors="replace").splitlines()
-            if f"rt: {library.name} proved" in lines:
+            if any(line.startswith((f"rt: {library.name} proved", f"rt: {library.name} is kept: ")) for line in lines):
                 return True
             if ENDED in lines:
                 return False

@@ -18,12 +18,24 @@ FILES = {
     "book": json.dumps([{"hosts": "all", "tasks": TASKS}]),
     "inventory": '{"all":{"hosts":["h1"]}}',
     "answers": json.dumps({"h1": [OK]}),
+    # Groups below one another, layers of variables with a reserved and an opaque one, and hosts of all sorts of groups.
+    "groups": json.dumps(
+        {
+            "_meta": {"hostvars": {"h1": {"a": [1, {"b": "{{ x }}"}], "item": 1}, "h9": {}}},
+            "all": {"vars": {"p": 1}},
+            "ungrouped": ["h3"],
+            "web": {"hosts": ["h1", "h2"], "children": ["row"], "vars": {"p": 2, "q": 1.5}},
+            "row": {"hosts": ["h2"], "vars": {"p": 3}},
+        }
+    ),
 }
 CHECK = ["check", "book", "-i", "inventory"]
+CHECK_GROUPS = ["check", "book", "-i", "groups"]
 RUN = ["run", "book", "-i", "inventory", "--answers", "answers"]
 
 ACCEPTED = Outcome(0, b"accepted budget 1\n", b"")
 RECAP = Outcome(0, b"h1 : ok=2 changed=1 unreachable=0 failed=0 skipped=0 rescued=0 ignored=0\n", b"")
+NOT_BUILT = Outcome(1, b"refused N00 line 0 host -\n", b"")
 WANT = Outcome(3, b"", b"playcheck: want of memory\n")
 
 BY_HAND = ["refusals::a_command_and_a_debug", "refusals::a_refused_give_and_a_stop"]
@@ -54,11 +66,12 @@ def outcomes(library, folder, words):
 def program_failures(library, folder, words, answer):
     """How many refusals were tried, and what is to be said of those that went wrong."""
     seen = list(outcomes(library, folder, words))
-    said = [f"refused-{number} {words[1]}\n  got: {outcome}" for number, outcome in seen if outcome not in (answer, WANT)]
+    call = " ".join(words[1:])
+    said = [f"refused-{number} {call}\n  got: {outcome}" for number, outcome in seen if outcome not in (answer, WANT)]
     if WANT not in [outcome for _, outcome in seen]:
-        said.append(f"refused {words[1]}\n  never: {WANT}")
+        said.append(f"refused {call}\n  never: {WANT}")
     if seen[-1][1] != answer:
-        said.append(f"refused {words[1]}\n  wanted with none refused: {answer}\n  got: {seen[-1][1]}")
+        said.append(f"refused {call}\n  wanted with none refused: {answer}\n  got: {seen[-1][1]}")
     return len(seen), said
 
 
@@ -78,6 +91,7 @@ def refused_failures(program, tests):
         library = build(folder)
         counts = [
             program_failures(library, folder, [program, *CHECK], ACCEPTED),
+            program_failures(library, folder, [program, *CHECK_GROUPS], NOT_BUILT),
             program_failures(library, folder, [program, *RUN], RECAP),
             *(by_hand_failures(library, folder, tests, name) for name in BY_HAND),
         ]

@@ -19,4 +19,4 @@ mod test;
 pub use expr::{Comparison, Expr, Member, Names, Path, Root, Status, Term};
 pub use fault::ExprFault;
 pub use parse::parse_expr;
-pub use template::parse_template;
+pub use template::{closing_of, opening_of, parse_template};

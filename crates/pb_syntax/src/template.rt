@@ -103,8 +103,8 @@ fn braced_at(alloc: Global, text: &[u8], opening: usize) -> Result<(Expr, usize)
     Ok((expr, end + 2))
 }
 
-// The place of the first `{{`, `{%` or `{#` from there on, or the text's end.
-fn opening_of(text: &[u8], from: usize) -> usize
+/// The place of the first `{{`, `{%` or `{#` from there on, or the text's end.
+pub fn opening_of(text: &[u8], from: usize) -> usize
     requires { from ≤ length text.now }
     ensures begins { from ≤ result }
     ensures ends { result ≤ length text.now }
@@ -128,8 +128,9 @@ fn is_opening(byte: u8) -> bool
     byte == b'{' || byte == b'%' || byte == b'#'
 }
 
-// The place of the first `}}` from there on that isn't inside a quoted text.
-fn closing_of(text: &[u8], from: usize) -> Option<usize>
+/// The place of the first `}}` from there on that isn't inside a quoted text, where an expression
+/// that begins there ends; none where there is no such place.
+pub fn closing_of(text: &[u8], from: usize) -> Option<usize>
     requires { from ≤ length text.now }
     ensures begins { IfSome result (λ at. from ≤ at) }
     ensures ends { IfSome result (λ at. at + 2 ≤ length text.now) }

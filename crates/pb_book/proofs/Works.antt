@@ -4,7 +4,7 @@ use Rattle.std.specs.declared.sync.Arc.{Arc}
 use Rattle.pb_semantics.specs.Data.{Data, Fields, no_fields, field, field_value}
 use Rattle.pb_semantics.specs.Signature.{ModuleData}
 use Rattle.pb_sig.specs.Modules.{module_at}
-use Rattle.pb_sig.specs.Names.{without_prefix}
+use Rattle.pb_language.specs.TaskForm.{without_prefix}
 use Rattle.pb_language.specs.Book as language
 use Rattle.pb_language.specs.Book.{module_work}
 use Rattle.pb_language.specs.Cases.{is_setup}

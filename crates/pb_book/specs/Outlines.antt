@@ -7,7 +7,7 @@ use Rattle.pb_semantics.specs.Data.{field_value}
 use Rattle.pb_semantics.specs.Limits.{most_expression_bytes}
 use Rattle.pb_semantics.specs.Signature.{ModuleData}
 use Rattle.pb_language.specs.Expression.{Name, no_parts}
-use Rattle.pb_sig.specs.Names.{without_prefix}
+use Rattle.pb_language.specs.TaskForm.{without_prefix}
 use Rattle.pb_book.specs.Reading.{is_named, is_play, lone, work_with, works_of}
 
 -- a list of one play at most

@@ -10,7 +10,7 @@ use Rattle.pb_semantics.specs.Limits.{most_expression_bytes, most_levels, most_t
 use Rattle.pb_semantics.specs.Limits.{most_template_bytes, most_text_bytes}
 use Rattle.pb_semantics.specs.Signature.{ModuleData}
 use Rattle.pb_sig.specs.Modules.{module_at}
-use Rattle.pb_sig.specs.Names.{without_prefix}
+use Rattle.pb_language.specs.TaskForm.{without_prefix}
 use Rattle.pb_value.specs.FromJson.{json_data}
 use Rattle.pb_language.specs.Cases.{is_setup}
 use Rattle.pb_language.specs.Expression.{Name, Expression, literal, list_of, record_of, Expressions}

@@ -1,7 +1,6 @@
 pub mod Views
 pub mod ModuleView
 pub mod Modules
-pub mod Names
 pub mod Rows
 pub mod Table
 pub mod AdmissionView

@@ -1,5 +1,7 @@
 -- What a module means, and which modules a run may have.
 use Rattle.std.specs.Prelude.{List, [], ◌∷◌, Bool, true, ◌&&◌, map, None, option_map, string_bytes}
+use Rattle.std.specs.declared.alloc.Global.{Global}
+use Rattle.std.specs.declared.sync.Arc.{Arc}
 use Rattle.pb_value.specs.KindView.{kind_view}
 use Rattle.pb_semantics.specs.Signature.{ModuleData}
 use Rattle.pb_language.specs.Judgement.{is_lawful}
@@ -30,6 +32,10 @@ declared_view m = record {
 abbrev pub known_view : Known → ModuleData
 known_view (known.Builtin m) = builtin_view m
 known_view (known.Declared m) = declared_view m
+
+-- a module in a block that its copies share
+abbrev pub shared_view : Arc Known Global → ModuleData
+shared_view m = known_view m.value
 
 -- each keeps the laws of modules
 abbrev pub are_lawful_modules : List ModuleData → Bool

@@ -1,9 +1,9 @@
 // Names of variables and of modules.
 ghost use Rattle.std.specs.Prelude.{◌≡◌, map};
 ghost use Rattle.pb_semantics.specs.Words.{is_among};
+ghost use Rattle.pb_language.specs.TaskForm.{without_prefix};
 ghost use Rattle.pb_language.specs.Words.{are_name_bytes, is_digit as is_name_digit};
 ghost use Rattle.pb_language.specs.Words.{is_letter as is_name_letter, is_variable_name};
-ghost use Rattle.pb_sig.specs.Names.{without_prefix};
 ghost use Rattle.pb_sig.specs.Signatures.{are_module_bytes, has_taken_prefix as has_prefix};
 ghost use Rattle.pb_sig.specs.Signatures.{is_module_byte, is_module_name, is_small_letter};
 ghost use Rattle.pb_sig.specs.Signatures.{taken_names};

@@ -7,7 +7,7 @@ ghost use Rattle.pb_semantics.specs.Words.{Gives, is_among, recs, slot_at, spot}
 ghost use Rattle.pb_language.specs.Judgement.{is_lawful as is_lawful_module};
 ghost use Rattle.pb_value.specs.Words.{items_view, kind_view, slots_view, view};
 ghost use Rattle.pb_sig.specs.Drafts.{draft_view};
-ghost use Rattle.pb_sig.specs.ModuleView.{are_lawful_modules, known_view};
+ghost use Rattle.pb_sig.specs.ModuleView.{are_lawful_modules, shared_view};
 ghost use Rattle.pb_sig.specs.Modules.{modules_of};
 ghost use Rattle.pb_sig.specs.Offences.{offence_of};
 ghost use Rattle.pb_sig.specs.Registered.{registry_of};
@@ -30,6 +30,7 @@ use crate::signature::{Module, Parameter, SIGNATURES_LIMIT};
 use pb_value::below::{find, has_field};
 use pb_value::{Kind, Slots, Value, read_json};
 use std::alloc::Global;
+use std::sync::Arc;
 
 // The most modules of a file.
 const MOST_MODULES: usize = 256;
@@ -72,10 +73,10 @@ impl Registry {
     }
 }
 
-fn declared_in(alloc: Global, value: &Value) -> Result<Vec<Known>, SignatureFault>
-    ensures given { Gives (λ ms. Ok (map known_view ms.items)) offence_of result
+fn declared_in(alloc: Global, value: &Value) -> Result<Vec<Arc<Known>>, SignatureFault>
+    ensures given { Gives (λ ms. Ok (map shared_view ms.items)) offence_of result
         (signatures_in (Some (view value.now))) }
-    ensures lawful { IfOk result (λ ms. are_lawful_modules (map known_view ms.items) ≡ true) }
+    ensures lawful { IfOk result (λ ms. are_lawful_modules (map shared_view ms.items) ≡ true) }
 {
     match value {
         Value::List(items) => all_declared(alloc, items.as_slice()),
@@ -83,10 +84,10 @@ fn declared_in(alloc: Global, value: &Value) -> Result<Vec<Known>, SignatureFaul
     }
 }
 
-fn all_declared(alloc: Global, items: &[Value]) -> Result<Vec<Known>, SignatureFault>
-    ensures given { Gives (λ ms. Ok (map known_view ms.items)) offence_of result
+fn all_declared(alloc: Global, items: &[Value]) -> Result<Vec<Arc<Known>>, SignatureFault>
+    ensures given { Gives (λ ms. Ok (map shared_view ms.items)) offence_of result
         (modules_after [] (items_view items.now)) }
-    ensures lawful { IfOk result (λ ms. are_lawful_modules (map known_view ms.items) ≡ true) }
+    ensures lawful { IfOk result (λ ms. are_lawful_modules (map shared_view ms.items) ≡ true) }
 {
     let mut found = Vec::new(alloc);
     for item in items {
@@ -98,10 +99,10 @@ fn all_declared(alloc: Global, items: &[Value]) -> Result<Vec<Known>, SignatureF
 }
 
 // The module of the draft, where it may stand after those modules.
-fn judged(alloc: Global, draft: Draft, earlier: &[Known]) -> Result<Known, SignatureFault>
-    ensures given { Gives (λ m. Ok (known_view m)) offence_of result
-        (judged_module (map known_view earlier.now) (Some (draft_view draft))) }
-    ensures lawful { IfOk result (λ m. is_lawful_module (known_view m) ≡ true) }
+fn judged(alloc: Global, draft: Draft, earlier: &[Arc<Known>]) -> Result<Arc<Known>, SignatureFault>
+    ensures given { Gives (λ m. Ok (shared_view m)) offence_of result
+        (judged_module (map shared_view earlier.now) (Some (draft_view draft))) }
+    ensures lawful { IfOk result (λ m. is_lawful_module (shared_view m) ≡ true) }
 {
     if !keeps_laws(&draft) {
         return Err(SignatureFault::Law);
@@ -112,7 +113,8 @@ fn judged(alloc: Global, draft: Draft, earlier: &[Known]) -> Result<Known, Signa
     if !keeps_limits(&draft) || earlier.len() >= MOST_MODULES {
         return Err(SignatureFault::Limit);
     }
-    Ok(Known::Declared(Declared::of(alloc, draft)?))
+    let module = Known::Declared(Declared::of(alloc, draft)?);
+    Ok(Arc::new(alloc, module)?)
 }
 
 fn keeps_laws(draft: &Draft) -> bool
@@ -177,14 +179,14 @@ fn has_any(shape: &Slots, names: &[&str]) -> bool
 }
 
 // An earlier module has the name, or none can have it.
-fn is_taken(earlier: &[Known], name: &str) -> bool
-    ensures { result ≡ has_taken (map known_view earlier.now) name.now }
+fn is_taken(earlier: &[Arc<Known>], name: &str) -> bool
+    ensures { result ≡ has_taken (map shared_view earlier.now) name.now }
 {
     is_declared(earlier, name) || is_taken_word(name) || has_taken_prefix(name)
 }
 
-fn is_declared(earlier: &[Known], name: &str) -> bool
-    ensures { result ≡ is_among name.now (names_of (map known_view earlier.now)) }
+fn is_declared(earlier: &[Arc<Known>], name: &str) -> bool
+    ensures { result ≡ is_among name.now (names_of (map shared_view earlier.now)) }
 {
     for module in earlier {
         if name == module.name() {

@@ -1,7 +1,8 @@
 // The modules of a run, found by their names.
 ghost use Rattle.std.specs.Prelude.{◌++◌, ◌≡◌, IfOk, map, option_map, string_bytes, true};
 ghost use Rattle.pb_language.specs.Cases.{is_setup};
-ghost use Rattle.pb_sig.specs.ModuleView.{are_lawful_modules, known_view};
+ghost use Rattle.pb_sig.specs.ModuleView.{are_lawful_modules, builtin_view, known_view};
+ghost use Rattle.pb_sig.specs.ModuleView.{shared_view};
 
 use crate::builtin::Builtin;
 use crate::declared::Declared;
@@ -77,11 +78,18 @@ impl Known {
     }
 }
 
+// A module that is there in every run, in a block that its copies share.
+fn shared(alloc: Global, built: Builtin) -> Result<Arc<Known>, AllocError>
+    ensures { IfOk result (λ m. shared_view m ≡ builtin_view built) }
+{
+    Ok(Arc::new(alloc, Known::Builtin(built))?)
+}
+
 /// The modules of a run, each name once.
 #[derive(Drop)]
 pub struct Registry {
-    modules: Vec<Known>,
-    ghost lawful: { are_lawful_modules (map known_view modules.items) ≡ true },
+    modules: Vec<Arc<Known>>,
+    ghost lawful: { are_lawful_modules (map shared_view modules.items) ≡ true },
 }
 
 impl Registry {
@@ -93,22 +101,22 @@ impl Registry {
         ensures { IfOk result (λ r. modules_of r ≡ builtins) }
     {
         let modules = vec![in alloc;
-            Known::Builtin(Builtin::ping(alloc)?),
-            Known::Builtin(Builtin::command(alloc)?),
-            Known::Builtin(Builtin::shell(alloc)?),
-            Known::Builtin(Builtin::stat(alloc)?),
-            Known::Builtin(Builtin::copy(alloc)?),
-            Known::Builtin(Builtin::file(alloc)?),
-            Known::Builtin(Builtin::service(alloc)?),
-            Known::Builtin(Builtin::setup(alloc)?),
+            shared(alloc, Builtin::ping(alloc)?)?,
+            shared(alloc, Builtin::command(alloc)?)?,
+            shared(alloc, Builtin::shell(alloc)?)?,
+            shared(alloc, Builtin::stat(alloc)?)?,
+            shared(alloc, Builtin::copy(alloc)?)?,
+            shared(alloc, Builtin::file(alloc)?)?,
+            shared(alloc, Builtin::service(alloc)?)?,
+            shared(alloc, Builtin::setup(alloc)?)?,
         ]?;
         Ok(Registry { modules })
     }
 
     // The built-in modules, and those of a file.
-    pub(crate) fn with(alloc: Global, declared: Vec<Known>) -> Result<Registry, AllocError>
-        requires { are_lawful_modules (map known_view declared.items) ≡ true }
-        ensures { IfOk result (λ r. modules_of r ≡ builtins ++ map known_view declared.items) }
+    pub(crate) fn with(alloc: Global, declared: Vec<Arc<Known>>) -> Result<Registry, AllocError>
+        requires { are_lawful_modules (map shared_view declared.items) ≡ true }
+        ensures { IfOk result (λ r. modules_of r ≡ builtins ++ map shared_view declared.items) }
     {
         let mut declared = declared;
         let mut modules = Registry::builtin(alloc)?.modules;
@@ -117,8 +125,8 @@ impl Registry {
     }
 
     /// All modules. Each keeps the laws of modules.
-    pub fn modules(&self) -> &[Known]
-        ensures { map known_view result.now ≡ modules_of self.now }
+    pub fn modules(&self) -> &[Arc<Known>]
+        ensures { map shared_view result.now ≡ modules_of self.now }
     {
         self.modules.as_slice()
     }
@@ -126,6 +134,17 @@ impl Registry {
     /// The module of that name, or none where there is none.
     pub fn find(&self, name: &str) -> Option<&Known>
         ensures { option_map (λ m. known_view m.now) result
+            ≡ module_at name.now (modules_of self.now) }
+    {
+        match self.resolve(name) {
+            Some(found) => Some(&**found),
+            None => None,
+        }
+    }
+
+    /// The module of that name, in a block that its copies share, or none where there is none.
+    pub fn resolve(&self, name: &str) -> Option<&Arc<Known>>
+        ensures { option_map (λ m. shared_view m.now) result
             ≡ module_at name.now (modules_of self.now) }
     {
         for found in &self.modules {

@@ -4,7 +4,7 @@ use Rattle.std.specs.Option.{MatchOption}
 use Rattle.std.specs.Str.{IsCharBoundary}
 use Rattle.std.specs.Str.Pattern.{FindsTextPrefix, StripsPrefix}
 use Rattle.std.proofs.lemmas.Str.Pattern.{starts_text}
-use Rattle.pb_sig.specs.Names.{builtin_prefix, without_prefix}
+use Rattle.pb_language.specs.TaskForm.{builtin_prefix, without_prefix}
 use Rattle.pb_sig.proofs.names.without_prefix.Goals as goal
 
 abbrev IsStripped : List ℕ → Option (Bor (List ℕ)) → Type 0

@@ -33,3 +33,5 @@ pub mod Withins
 pub mod Overlays
 pub mod HostRows
 pub mod HostGroups
+pub mod WordBytes
+pub mod PatternHosts

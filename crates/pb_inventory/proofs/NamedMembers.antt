@@ -17,7 +17,7 @@ use Rattle.pb_inventory.proofs.Members.{flat_map-same, from-flat_map, is_in-appe
 use Rattle.pb_inventory.proofs.NamedCycles.{child-within, flat_map-named, is_in-named, named-append, named-flat_map, parents_count-few}
 use Rattle.pb_inventory.proofs.Orders.{held_enough}
 
-abbrev AreWithin : List Name → List ℕ → Type 0
+abbrev pub AreWithin : List Name → List ℕ → Type 0
 AreWithin hs ms = (j : ℕ) → is_in j ms ≡ true → j < length hs
 
 named_step : (b : Bool) (hs : List Name) (m : ℕ) (ms : List ℕ) → named hs (cond b ms (ms ++ m ∷ [])) ≡ cond b (named hs ms) (named hs ms ++ name_of hs m ∷ [])
@@ -35,7 +35,7 @@ within_step hs m ms lt within = cond_both (is_in m ms) ms (ms ++ m ∷ []) (λ x
       ]
     ])
 
-named-add_numbers : (hs : List Name) → are_apart hs ≡ true → (ms ls : List ℕ) → AreWithin hs ms → AreWithin hs ls → named hs (add_numbers ms ls) ≡ add_hosts (named hs ms) (named hs ls)
+pub named-add_numbers : (hs : List Name) → are_apart hs ≡ true → (ms ls : List ℕ) → AreWithin hs ms → AreWithin hs ls → named hs (add_numbers ms ls) ≡ add_hosts (named hs ms) (named hs ls)
 named-add_numbers hs apart ms [] within others = refl
 named-add_numbers hs apart ms (l ∷ ls) within others =
     let lt = others l (is_in-head l ls) in

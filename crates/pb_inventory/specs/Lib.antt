@@ -11,3 +11,4 @@ pub mod Hosts
 pub mod Tables
 pub mod Words
 pub mod HostGroups
+pub mod Patterns

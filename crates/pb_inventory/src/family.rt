@@ -84,7 +84,7 @@ fn family_of(
 }
 
 // Adds the hosts that are not yet there.
-fn add_hosts(
+pub(crate) fn add_hosts(
     family: &mut Vec<usize>,
     hosts: &[usize],
     seen: &mut [usize],
@@ -105,7 +105,7 @@ fn add_hosts(
 }
 
 // Adds the host if it is not yet there.
-fn add_host(
+pub(crate) fn add_host(
     family: &mut Vec<usize>,
     host: usize,
     seen: &mut [usize],

@@ -1,4 +1,4 @@
-// Why a text gives no inventory.
+// Why a text gives no inventory, and why a pattern finds no hosts.
 ghost use Rattle.std.specs.Prelude.{◌≡◌};
 
 use pb_value::JsonFault;
@@ -58,5 +58,25 @@ impl From<JsonFault> for InventoryFault {
             JsonFault::NotJson => InventoryFault::NotJson,
             JsonFault::NoMemory => InventoryFault::NoMemory,
         }
+    }
+}
+
+/// Why a pattern finds no hosts.
+#[derive(Debug, Drop, Error)]
+pub enum PatternFault {
+    #[error("the pattern has a word that names no group and no host")]
+    Unknown,
+    #[error("want of memory")]
+    NoMemory,
+}
+
+impl From<AllocError> for PatternFault {
+    ghost use Rattle.std.specs.Prelude.{◌≡◌};
+    ghost use Rattle.pb_inventory.specs.declared.fault.PatternFault.TheVariants.{NoMemory};
+
+    ghost from_gives = { λ _ e. e ≡ NoMemory };
+
+    fn from(_: AllocError) -> PatternFault {
+        PatternFault::NoMemory
     }
 }

@@ -1,7 +1,10 @@
 // The hosts of a run in their order, and the groups that they stand in.
-ghost use Rattle.std.specs.Prelude.{◌<◌, ◌≡◌, Some, length, map, option_map, slice_get};
-ghost use Rattle.std.specs.Prelude.{string_bytes, true};
+ghost use Rattle.std.specs.Prelude.{◌<◌, ◌≡◌, IfSome, Some, is_some, length, map, option_map};
+ghost use Rattle.std.specs.Prelude.{slice_get, string_bytes, true};
+ghost use Rattle.std.specs.List.{All};
+ghost use Rattle.pb_language.specs.Plays.{group_named, is_host};
 ghost use Rattle.pb_language.specs.Program.{memberships_of};
+ghost use Rattle.pb_inventory.specs.Numbered.{are_apart, name_of, named};
 ghost use Rattle.pb_inventory.specs.Views.{are_placed, group_view, host_names, kept_groups};
 
 use indexmap::IndexMap;
@@ -24,6 +27,7 @@ pub(crate) struct Host {
 pub struct Inventory {
     hosts: IndexMap<String, Host>,
     groups: IndexMap<String, Vec<usize>>,
+    ghost apart: { are_apart (host_names hosts.entries) ≡ true },
     ghost placed: { are_placed (length hosts.entries) groups.entries ≡ true },
     ghost grouped: { kept_groups hosts.entries
         ≡ map (λ n. memberships_of n (map (group_view (host_names hosts.entries)) groups.entries))
@@ -40,6 +44,7 @@ impl Inventory {
         hosts: IndexMap<String, Host>,
         groups: IndexMap<String, Vec<usize>>,
     ) -> Inventory
+        requires apart { are_apart (host_names hosts.entries) ≡ true }
         requires placed { are_placed (length hosts.entries) groups.entries ≡ true }
         requires grouped { kept_groups hosts.entries ≡ map (λ n. memberships_of n
             (map (group_view (host_names hosts.entries)) groups.entries))
@@ -107,5 +112,29 @@ impl Inventory {
             ≡ true }
     {
         &self.groups
+    }
+
+    // The places of the hosts of the group of that name.
+    pub(crate) fn members_of(&self, name: &str) -> Option<&[usize]>
+        ensures named { option_map
+            (λ ps. named (map (λ h. h.name) (inventory_view self.now).hosts) ps.now) result
+            ≡ group_named name.now (inventory_view self.now).groups }
+        ensures placed { IfSome result
+            (λ ps. All (λ p. p < length (inventory_view self.now).hosts) ps.now) }
+    {
+        match self.groups.get(name) {
+            Some(members) => Some(members.as_slice()),
+            None => None,
+        }
+    }
+
+    // The place of the host of that name.
+    pub(crate) fn place_of(&self, name: &str) -> Option<usize>
+        ensures known { is_some result ≡ is_host name.now (inventory_view self.now).hosts }
+        ensures placed { IfSome result (λ p. p < length (inventory_view self.now).hosts) }
+        ensures named { IfSome result (λ p.
+            name_of (map (λ h. h.name) (inventory_view self.now).hosts) p ≡ name.now) }
+    {
+        self.hosts.get_index_of(name)
     }
 }

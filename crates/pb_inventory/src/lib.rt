@@ -6,6 +6,7 @@
 //         let groups = inventory.group_names(host); // web
 //         let variables = inventory.vars_of(host);
 //     }
+//     let web = inventory.hosts_of(alloc, "web")?; // the places of the hosts of web
 #![tactic(auto)]
 
 mod assembly;
@@ -22,12 +23,13 @@ mod layers;
 mod limits;
 mod names;
 mod numbers;
+pub mod pattern;
 mod placing;
 pub mod read;
 mod ungrouped;
 pub mod variables;
 
-pub use fault::InventoryFault;
+pub use fault::{InventoryFault, PatternFault};
 pub use inventory::Inventory;
 pub use read::INVENTORY_LIMIT;
 pub use variables::is_reserved;

@@ -16,7 +16,7 @@ use Rattle.pb_inventory.specs.Graph.{children_at, is_in}
 use Rattle.pb_inventory.specs.HostGroups.{by_depth, layer_views, row_of}
 use Rattle.pb_inventory.specs.Numbered.{are_apart, name_of}
 use Rattle.pb_inventory.specs.Views.{are_placed, group_view, host_names, host_view}
-use Rattle.pb_inventory.proofs.Apart.{group_names-all, group_names-apart}
+use Rattle.pb_inventory.proofs.Apart.{group_names-all, group_names-apart, host_order-apart}
 use Rattle.pb_inventory.proofs.Built.{groups-placed, inventory-is, root-free, some-written}
 use Rattle.pb_inventory.proofs.HostAt.{names-of_variables, names-of_views}
 use Rattle.pb_inventory.proofs.NamedDepths.{depth-numbered}
@@ -76,6 +76,14 @@ known_hosts-requires c =
 
 pub placed_groups-requires-clause-apart : goal.placed_groups-requires-clause-apart
 placed_groups-requires-clause-apart c = ap are_apart c.requires.numbered.names ∙ group_names-apart (document_view c.args.document.now).groups
+
+pub of_parts-requires-clause-apart : goal.of_parts-requires-clause-apart
+of_parts-requires-clause-apart c =
+    let es = c.in_ok-known.known.entries in
+    let hs = key_names c.args.hosts.now.keys in
+    let d = document_view c.args.document.now in
+    let names : host_names es ≡ hs = sym (names-of_views es) ∙ ap (map (λ (h : HostVariables). h.name)) c.in_ok-known.ensures.hosts ∙ names-of_variables d hs in
+    ap are_apart (names ∙ c.requires.numbered.hosts) ∙ host_order-apart d.groups
 
 pub of_parts-requires-clause-placed : goal.of_parts-requires-clause-placed
 of_parts-requires-clause-placed c =

@@ -1,7 +1,7 @@
 // Texts that are an inventory, and texts that aren't.
 use crate::runs::ONE_PING;
 use pb_book::Book;
-use pb_inventory::{Inventory, InventoryFault};
+use pb_inventory::{Inventory, InventoryFault, PatternFault};
 use pb_sig::Registry;
 use pb_value::{Fields, Value, field_of};
 use pb_verify::verify::verify;
@@ -99,6 +99,21 @@ fn groups_in_groups(rt: HostRuntime) -> Result<(), Fail> {
     );
     assert!(rt; is_in_both(&inventory));
     assert!(rt; has_nested_variables(&inventory));
+    Ok(())
+}
+
+#[test]
+fn patterns(rt: HostRuntime) -> Result<(), Fail> {
+    // in host order h3, h1, h2
+    let text = br#"{"web":{"hosts":["h1","h2"]},"db":{"hosts":["h3","h1"]}}"#;
+    let inventory = Inventory::read(rt.alloc(), text)?;
+    let groups = inventory.hosts_of(rt.alloc(), "web:db")?;
+    let mixed = inventory.hosts_of(rt.alloc(), " h2 ,\tweb")?;
+    assert!(rt; matches!((groups.as_slice(), mixed.as_slice()), ([1, 2, 0], [2, 1])));
+    let unknown = inventory.hosts_of(rt.alloc(), "web:zz");
+    assert!(rt; matches!(&unknown, Err(PatternFault::Unknown)));
+    let empty = inventory.hosts_of(rt.alloc(), "web:");
+    assert!(rt; matches!(&empty, Err(PatternFault::Unknown)));
     Ok(())
 }
 

@@ -23,6 +23,8 @@ mod runs;
 #[cfg(test)]
 mod signatures;
 #[cfg(test)]
+mod tasks;
+#[cfg(test)]
 mod teaching;
 #[cfg(test)]
 mod views;

@@ -41,7 +41,8 @@ pub(crate) fn task_of(
     given: &Value,
 ) -> Result<Option<Task>, TemplateFault>
     ensures given { Gives (λ t. Some (option_map task_view t)) refused result
-        (task_doing (doing_view doing.entry) line (fields_view fields.now.entries) (view given.now)) }
+        (task_doing (doing_view doing.entry) line (fields_view fields.now.entries)
+        (view given.now)) }
     ensures resolved { (ms : Registry) → IsFound ms (doing_view doing.entry)
         → IfOk result (λ t. IfSome t (IsResolved ms)) }
     ensures ordered { IfOk result (λ t. IfSome t IsOrdered) }

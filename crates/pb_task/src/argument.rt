@@ -22,7 +22,7 @@ use std::alloc::Global;
 use std::sync::Arc;
 
 // The conditions of an `assert`.
-const THAT: &str = "that";
+pub(crate) const THAT: &str = "that";
 
 // The work and its arguments; none of a flush.
 pub(crate) fn work_with(

@@ -8,6 +8,7 @@ ghost use Rattle.pb_value.specs.Words.{fields_view, items_view, view};
 ghost use Rattle.pb_task.specs.Limits.{are_keywords_within, are_values_within_limits};
 ghost use Rattle.pb_task.specs.Standings.{standing_view};
 
+use crate::argument::THAT;
 use crate::keyword::Standing;
 use crate::work::lone_work;
 use pb_template::{
@@ -18,9 +19,6 @@ use pb_value::{Fields, Value, field_of};
 
 // The most items of a loop that is written out.
 const MOST_LOOP_ITEMS: usize = 1_024;
-
-// The conditions of an `assert`.
-const THAT: &str = "that";
 
 // Whether a text, an expression, a loop or a value is past its limit.
 pub(crate) fn is_past_limits(standing: Standing, fields: &Fields) -> bool

@@ -108,8 +108,8 @@ fn task_with(
     })
 }
 
-// The conditions, which are none where none are given.
-pub(crate) fn given_or_none(alloc: Global, given: Option<Vec<Expr>>) -> Vec<Expr>
+/// The conditions, which are none where none are given.
+pub fn given_or_none(alloc: Global, given: Option<Vec<Expr>>) -> Vec<Expr>
     ensures { exprs_view result.items
         ≡ unwrap_or (option_map (λ es. exprs_view es.items) given) no_expressions }
 {

@@ -66,6 +66,10 @@ abbrev pub onto : List Before → Steps → Steps
 onto [] ss = ss
 onto (f ∷ fs) ss = f (onto fs ss)
 
+pub onto-nothing : (r : Reading Steps) → r ≡ changed (onto []) r
+onto-nothing (Err o) = refl
+onto-nothing (Ok r) = refl
+
 pub onto-push : (fs : List Before) (f : Before) (r : Reading Steps) → changed (onto fs) (changed f r) ≡ changed (onto (fs ++ f ∷ [])) r
 onto-push fs f (Err o) = refl
 onto-push fs f (Ok r) = ap (λ ss. Ok (ss, r.1)) (at fs) where

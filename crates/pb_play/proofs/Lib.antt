@@ -5,3 +5,5 @@ pub mod Handlers
 pub mod Plays
 pub mod Refusals
 pub mod Cuts
+pub mod Sounds
+pub mod Counted

@@ -5,4 +5,6 @@ pub mod Parts
 pub mod Handlers
 pub mod Heads
 pub mod Sections
+pub mod Sound
+pub mod Counted
 pub mod Words

@@ -10,6 +10,7 @@ ghost use Rattle.pb_play.specs.Faults.{offence_of};
 ghost use Rattle.pb_play.specs.Handlers.{handler_of, handler_read, is_named, names_met};
 ghost use Rattle.pb_play.specs.Handlers.{work_read};
 ghost use Rattle.pb_play.specs.Plays.{handler_view};
+ghost use Rattle.pb_play.specs.Sound.{AreSound, IsSound, handler_tasks};
 
 use crate::fault::PlayFault;
 use crate::form::MOST_LINES;
@@ -30,9 +31,11 @@ pub(crate) fn handlers_at(
     line: u32,
     handlers: Option<&Value>,
 ) -> Result<(Vec<Handler>, u32), PlayFault>
-    ensures { Gives (λ r. Ok (map handler_view r.0.items, r.1)) offence_of result
+    ensures given { Gives (λ r. Ok (map handler_view r.0.items, r.1)) offence_of result
         (handlers_of (modules_of registry.now) line
         (option_map (λ v. view v.now) handlers.entry)) }
+    ensures sound { IfOk result
+        (λ r. AreSound (modules_of registry.now) (handler_tasks r.0.items)) }
 {
     match handlers {
         Some(Value::List(items)) => handlers_in(alloc, registry, line, items),
@@ -46,8 +49,10 @@ fn handlers_in(
     line: u32,
     items: &[Value],
 ) -> Result<(Vec<Handler>, u32), PlayFault>
-    ensures { Gives (λ r. Ok (map handler_view r.0.items, r.1)) offence_of result
+    ensures given { Gives (λ r. Ok (map handler_view r.0.items, r.1)) offence_of result
         (handlers_in (modules_of registry.now) line 0 [] (items_view items.now)) }
+    ensures sound { IfOk result
+        (λ r. AreSound (modules_of registry.now) (handler_tasks r.0.items)) }
 {
     let mut handlers: Vec<Handler> = Vec::new(alloc);
     let mut next = line;
@@ -70,6 +75,7 @@ fn handler_in(
     ensures given { Gives (λ h. Ok (handler_view h)) offence_of result
         (handler_read (modules_of registry.now) line (map handler_view earlier.now)
         (view item.now)) }
+    ensures sound { IfOk result (λ h. IsSound (modules_of registry.now) h.task) }
     ensures within { IfOk result (λ h. line ≤ most_lines) }
 {
     match item {
@@ -88,6 +94,7 @@ fn handler_of(
     ensures given { Gives (λ h. Ok (handler_view h)) offence_of result
         (handler_of (modules_of registry.now) line (map handler_view earlier.now)
         (fields_view fields.now.entries)) }
+    ensures sound { IfOk result (λ h. IsSound (modules_of registry.now) h.task) }
     ensures within { IfOk result (λ h. line ≤ most_lines) }
 {
     let task = work_of(alloc, registry, line, fields)?;
@@ -109,8 +116,9 @@ fn work_of(
     line: u32,
     fields: &Fields,
 ) -> Result<Task, PlayFault>
-    ensures { Gives (λ t. Ok (task_view t)) offence_of result
+    ensures given { Gives (λ t. Ok (task_view t)) offence_of result
         (work_read (modules_of registry.now) line (fields_view fields.now.entries)) }
+    ensures sound { IfOk result (IsSound (modules_of registry.now)) }
 {
     match read_task(alloc, registry, Standing::AsHandler, line, fields) {
         Ok(Some(task)) => Ok(task),

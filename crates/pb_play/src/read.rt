@@ -1,12 +1,14 @@
 // The plays that a value is.
-ghost use Rattle.std.specs.Prelude.{◌≡◌, Ok, map, option_map, suc};
+ghost use Rattle.std.specs.Prelude.{◌≡◌, IfOk, Ok, map, true};
 ghost use Rattle.pb_semantics.specs.Words.{Gives, rec};
 ghost use Rattle.pb_language.specs.BookForm.{book_from, gathering_in, play_in};
 ghost use Rattle.pb_value.specs.Words.{fields_view, items_view, view};
 ghost use Rattle.pb_sig.specs.Words.{modules_of};
+ghost use Rattle.pb_play.specs.Counted.{is_counted};
 ghost use Rattle.pb_play.specs.Faults.{offence_of};
 ghost use Rattle.pb_play.specs.Heads.{play_head_view};
 ghost use Rattle.pb_play.specs.Plays.{play_view};
+ghost use Rattle.pb_play.specs.Sound.{AreSound, all_tasks, play_tasks, section_tasks};
 ghost use Rattle.pb_play.specs.Sections.{gathering_at, play_with, plays_from, sections_in};
 ghost use Rattle.pb_play.specs.Sections.{sections_view};
 
@@ -45,8 +47,10 @@ struct Sections {
 /// The first line on which something is wrong with the least code that applies to it, P02 to P09;
 /// or want of memory.
 pub fn read_plays(alloc: Global, registry: &Registry, value: &Value) -> Result<Vec<Play>, PlayFault>
-    ensures { Gives (λ ps. Ok (map play_view ps.items)) offence_of result
+    ensures given { Gives (λ ps. Ok (map play_view ps.items)) offence_of result
         (book_from (modules_of registry.now) (view value.now)) }
+    ensures counted { IfOk result (λ ps. is_counted (map play_view ps.items) ≡ true) }
+    ensures sound { IfOk result (λ ps. AreSound (modules_of registry.now) (all_tasks ps.items)) }
 {
     match value {
         Value::List(items) => plays_in(alloc, registry, items),
@@ -55,8 +59,9 @@ pub fn read_plays(alloc: Global, registry: &Registry, value: &Value) -> Result<V
 }
 
 fn plays_in(alloc: Global, registry: &Registry, items: &[Value]) -> Result<Vec<Play>, PlayFault>
-    ensures { Gives (λ ps. Ok (map play_view ps.items)) offence_of result
+    ensures given { Gives (λ ps. Ok (map play_view ps.items)) offence_of result
         (plays_from (modules_of registry.now) (items_view items.now)) }
+    ensures sound { IfOk result (λ ps. AreSound (modules_of registry.now) (all_tasks ps.items)) }
 {
     let mut plays = Vec::new(alloc);
     let mut line = FIRST_LINE;
@@ -76,8 +81,9 @@ fn play_in(
     line: u32,
     item: &Value,
 ) -> Result<(Play, u32), PlayFault>
-    ensures { Gives (λ r. Ok (play_view r.0, r.1)) offence_of result
+    ensures given { Gives (λ r. Ok (play_view r.0, r.1)) offence_of result
         (play_in (modules_of registry.now) earlier line (view item.now)) }
+    ensures sound { IfOk result (λ r. AreSound (modules_of registry.now) (play_tasks r.0)) }
 {
     match item {
         Value::Rec(fields) => play_of(alloc, registry, earlier, line, fields),
@@ -92,8 +98,9 @@ fn play_of(
     line: u32,
     fields: &Fields,
 ) -> Result<(Play, u32), PlayFault>
-    ensures { Gives (λ r. Ok (play_view r.0, r.1)) offence_of result
+    ensures given { Gives (λ r. Ok (play_view r.0, r.1)) offence_of result
         (play_in (modules_of registry.now) earlier line (rec (fields_view fields.now.entries))) }
+    ensures sound { IfOk result (λ r. AreSound (modules_of registry.now) (play_tasks r.0)) }
 {
     let head = play_head(alloc, earlier, line, fields)?;
     let (gathering, first) = gathering_at(line + 1, head.gathers)?;
@@ -121,8 +128,9 @@ fn sections_in(
     line: u32,
     fields: &Fields,
 ) -> Result<(Sections, u32), PlayFault>
-    ensures { Gives (λ r. Ok (sections_view r.0, r.1)) offence_of result
+    ensures given { Gives (λ r. Ok (sections_view r.0, r.1)) offence_of result
         (sections_in (modules_of registry.now) line (fields_view fields.now.entries)) }
+    ensures sound { IfOk result (λ r. AreSound (modules_of registry.now) (section_tasks r.0)) }
 {
     let (pre_tasks, next) = steps_at(alloc, registry, 0, line, field_of(fields, "pre_tasks"))?;
     let (tasks, next) = steps_at(alloc, registry, 0, next, field_of(fields, "tasks"))?;
@@ -138,8 +146,9 @@ fn sections_in(
 }
 
 fn play_with(line: u32, head: Head, gathering: Option<u32>, sections: Sections) -> Play
-    ensures { play_view result
+    ensures given { play_view result
         ≡ play_with line (play_head_view head) gathering (sections_view sections) }
+    ensures tasks { play_tasks result ≡ section_tasks sections }
 {
     let Head {
         pattern,

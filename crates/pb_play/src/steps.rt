@@ -1,5 +1,5 @@
 // The steps of sections and of the parts of blocks.
-ghost use Rattle.std.specs.Prelude.{◌≡◌, Ok, codes, option_map};
+ghost use Rattle.std.specs.Prelude.{◌≡◌, IfOk, Ok, option_map};
 ghost use Rattle.pb_semantics.specs.Words.{Gives, rec};
 ghost use Rattle.pb_language.specs.BookForm.{standing, step_in, steps_in, task_in};
 ghost use Rattle.pb_value.specs.Words.{fields_view, items_view, view};
@@ -8,6 +8,7 @@ ghost use Rattle.pb_task.specs.Words.{standing_view, task_view};
 ghost use Rattle.pb_play.specs.Faults.{offence_of};
 ghost use Rattle.pb_play.specs.Parts.{block_at, step_with, steps_at};
 ghost use Rattle.pb_play.specs.Plays.{step_view, steps_view};
+ghost use Rattle.pb_play.specs.Sound.{AreSound, as_list, step_tasks, tasks_in};
 
 use crate::block::head_in;
 use crate::fault::PlayFault;
@@ -27,8 +28,9 @@ pub(crate) fn steps_at(
     line: u32,
     part: Option<&Value>,
 ) -> Result<(Vec<Step>, u32), PlayFault>
-    ensures { Gives (λ r. Ok (steps_view r.0.items, r.1)) offence_of result
+    ensures given { Gives (λ r. Ok (steps_view r.0.items, r.1)) offence_of result
         (steps_at (modules_of registry.now) depth line (option_map (λ v. view v.now) part.entry)) }
+    ensures sound { IfOk result (λ r. AreSound (modules_of registry.now) (tasks_in r.0.items)) }
 {
     match part {
         Some(Value::List(items)) => steps_in(alloc, registry, depth, line, items),
@@ -44,8 +46,9 @@ fn steps_in(
     line: u32,
     items: &[Value],
 ) -> Result<(Vec<Step>, u32), PlayFault>
-    ensures { Gives (λ r. Ok (steps_view r.0.items, r.1)) offence_of result
+    ensures given { Gives (λ r. Ok (steps_view r.0.items, r.1)) offence_of result
         (steps_in (modules_of registry.now) depth line (items_view items.now)) }
+    ensures sound { IfOk result (λ r. AreSound (modules_of registry.now) (tasks_in r.0.items)) }
 {
     let mut steps = Vec::new(alloc);
     let mut next = line;
@@ -65,8 +68,9 @@ fn step_in(
     line: u32,
     item: &Value,
 ) -> Result<(Step, u32), PlayFault>
-    ensures { Gives (λ r. Ok (step_view r.0, r.1)) offence_of result
+    ensures given { Gives (λ r. Ok (step_view r.0, r.1)) offence_of result
         (step_in (modules_of registry.now) depth line (view item.now)) }
+    ensures sound { IfOk result (λ r. AreSound (modules_of registry.now) (step_tasks r.0)) }
 {
     match item {
         Value::Rec(fields) => step_of(alloc, registry, depth, line, fields),
@@ -82,8 +86,9 @@ fn step_of(
     line: u32,
     fields: &Fields,
 ) -> Result<(Step, u32), PlayFault>
-    ensures { Gives (λ r. Ok (step_view r.0, r.1)) offence_of result
+    ensures given { Gives (λ r. Ok (step_view r.0, r.1)) offence_of result
         (step_in (modules_of registry.now) depth line (rec (fields_view fields.now.entries))) }
+    ensures sound { IfOk result (λ r. AreSound (modules_of registry.now) (step_tasks r.0)) }
 {
     if has_key(fields, "block") {
         block_in(alloc, registry, depth, line, fields)
@@ -100,8 +105,9 @@ fn block_in(
     line: u32,
     fields: &Fields,
 ) -> Result<(Step, u32), PlayFault>
-    ensures { Gives (λ r. Ok (step_view r.0, r.1)) offence_of result
+    ensures given { Gives (λ r. Ok (step_view r.0, r.1)) offence_of result
         (block_at (modules_of registry.now) depth line (fields_view fields.now.entries)) }
+    ensures sound { IfOk result (λ r. AreSound (modules_of registry.now) (step_tasks r.0)) }
 {
     let head = head_in(alloc, depth, line, fields)?;
     let inside = depth + 1;
@@ -125,8 +131,9 @@ fn task_in(
     line: u32,
     fields: &Fields,
 ) -> Result<(Step, u32), PlayFault>
-    ensures { Gives (λ r. Ok (step_view r.0, r.1)) offence_of result
+    ensures given { Gives (λ r. Ok (step_view r.0, r.1)) offence_of result
         (task_in (modules_of registry.now) depth line (fields_view fields.now.entries)) }
+    ensures sound { IfOk result (λ r. AreSound (modules_of registry.now) (step_tasks r.0)) }
 {
     let step = match read_task(alloc, registry, standing(depth), line, fields) {
         Ok(task) => step_with(line, task),
@@ -139,7 +146,8 @@ fn task_in(
 }
 
 fn step_with(line: u32, task: Option<Task>) -> Step
-    ensures { step_view result ≡ step_with line (option_map task_view task) }
+    ensures given { step_view result ≡ step_with line (option_map task_view task) }
+    ensures tasks { step_tasks result ≡ as_list task }
 {
     match task {
         None => Step::Flush(line),

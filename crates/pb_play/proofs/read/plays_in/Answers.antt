@@ -8,6 +8,8 @@ use Rattle.pb_value.specs.View.{view, items_view}
 use Rattle.pb_play.specs.Plays.{play_view}
 use Rattle.pb_play.proofs.Blocks.{more-read}
 use Rattle.pb_play.proofs.Plays.{play-first}
+use Rattle.pb_play.specs.Sound.{play_tasks}
+use Rattle.pb_play.proofs.Sounds.{one-more}
 use Rattle.pb_play.proofs.read.plays_in.Goals as goal
 
 pub loop-earlier-preserved : goal.loop-earlier-preserved
@@ -22,8 +24,10 @@ loop-earlier-preserved c =
     let n = c.in_ok-play.next in
     let i = l.earlier in
     let next = ap (λ xs. plays_in ms i l.line (items_view xs)) (values-next vs l.earlier v c.loop-earlier-test.true c.index-items-earlier.is) in
-    let first = play-first ms i l.line n (view v) rest p c.in_ok-play.ensures in
-    let all : c.push.new.self.items ≡ l.plays.items ++ c.in_ok-play.play ∷ [] = c.in_ok-push.ensures.items in
-    l.invariant ∙ ap (λ r. book_read (changed (λ xs. done ++ xs) r)) (next ∙ first) ∙ ap book_read (more-read done p (plays_in ms (suc i) n rest))
-    ∙ ap (λ k. book_read (changed (λ xs. (done ++ p ∷ []) ++ xs) (plays_in ms k n rest))) (sym (add-one i))
-    ∙ ap (λ (ps : List PlayData). book_read (changed (λ xs. ps ++ xs) (plays_in ms (i + 1) n rest))) (sym (ap (map play_view) all ∙ map-append play_view l.plays.items (c.in_ok-play.play ∷ [])))
+    let first = play-first ms i l.line n (view v) rest p c.in_ok-play.ensures.given in
+    let all : c.push.new.self.items ≡ l.plays.items ++ c.in_ok-play.play ∷ [] = c.in_ok-push.ensures.items in record {
+      given = l.invariant.given ∙ ap (λ r. book_read (changed (λ xs. done ++ xs) r)) (next ∙ first) ∙ ap book_read (more-read done p (plays_in ms (suc i) n rest))
+          ∙ ap (λ k. book_read (changed (λ xs. (done ++ p ∷ []) ++ xs) (plays_in ms k n rest))) (sym (add-one i))
+          ∙ ap (λ (ps : List PlayData). book_read (changed (λ xs. ps ++ xs) (plays_in ms (i + 1) n rest))) (sym (ap (map play_view) all ∙ map-append play_view l.plays.items (c.in_ok-play.play ∷ [])));
+      sound = one-more ms play_tasks l.plays.items c.push.new.self.items c.in_ok-play.play all l.invariant.sound c.in_ok-play.ensures.sound;
+    }

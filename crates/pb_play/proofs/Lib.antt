@@ -7,3 +7,4 @@ pub mod Refusals
 pub mod Cuts
 pub mod Sounds
 pub mod Counted
+pub mod Batches

@@ -7,4 +7,6 @@ pub mod Heads
 pub mod Sections
 pub mod Sound
 pub mod Counted
+pub mod Batches
+pub mod Serial
 pub mod Words

@@ -6,6 +6,7 @@
 //     }
 #![tactic(auto)]
 
+pub mod batch;
 mod block;
 pub mod fault;
 mod form;

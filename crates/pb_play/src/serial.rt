@@ -1,6 +1,5 @@
 // `serial`: how many hosts the batches of a play have.
-ghost use Rattle.std.specs.Prelude.{[], ◌&&◌, ◌==◌, ◌≡◌, IfOk, None, Some, cond, map, nat_le, not, option_map};
-ghost use Rattle.std.specs.Prelude.{unwrap_or};
+ghost use Rattle.std.specs.Prelude.{[], ◌≡◌, IfOk, Some, map, not, option_map, unwrap_or};
 ghost use Rattle.pb_semantics.specs.Words.{list};
 ghost use Rattle.pb_language.specs.Book.{percentage};
 ghost use Rattle.pb_language.specs.BookForm.{cut_before, cut_in, cuts_in, is_percentage, is_serial};
@@ -8,6 +7,7 @@ ghost use Rattle.pb_language.specs.BookForm.{number_from, percentage_in, serial_
 ghost use Rattle.pb_language.specs.TaskForm.{is_missing};
 ghost use Rattle.pb_value.specs.Words.{items_view, view};
 ghost use Rattle.pb_play.specs.Plays.{cut_view};
+ghost use Rattle.pb_play.specs.Serial.{percentage_where};
 
 use crate::play::Cut;
 use pb_value::Value;
@@ -141,7 +141,7 @@ fn percentage_from(bytes: &[u8]) -> Option<u64>
 
 // The number before that byte, which ends the text or doesn't.
 fn percentage_of(number: u64, byte: u8, ends: bool) -> Option<u64>
-    ensures { result ≡ cond (ends && (byte == 37)) (cond (nat_le 1 number && nat_le number 100) (Some number) None) None }
+    ensures { result ≡ percentage_where number byte ends }
 {
     if ends && byte == b'%' && number >= 1 && number <= MOST_PERCENT {
         Some(number)

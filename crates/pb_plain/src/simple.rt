@@ -10,8 +10,8 @@ ghost use Rattle.pb_plain.specs.Simple.{is_own as is_own_root};
 use pb_syntax::{Comparison, Expr, Root};
 use std::collections::BTreeMap;
 
-/// Whether it reads the host's own variables alone, and has neither tests, filters, orders nor texts
-/// in parts.
+/// Whether it reads the host's own variables alone, and has neither tests, filters, orders nor
+/// texts in parts.
 #[cycle(simple)]
 pub fn is_simple(expr: &Expr) -> bool
     ensures { result ≡ is_simple_tree (expr_view expr.now) }

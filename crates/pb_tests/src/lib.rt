@@ -17,6 +17,8 @@ mod lattices;
 #[cfg(test)]
 mod others;
 #[cfg(test)]
+mod plays;
+#[cfg(test)]
 mod refusals;
 #[cfg(test)]
 mod runs;

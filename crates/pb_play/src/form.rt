@@ -13,7 +13,7 @@ use pb_task::{Standing, fits_keyword};
 use pb_template::{Test, holds};
 use pb_value::{Fields, Value, field_of};
 
-/// The most lines of a book.
+// The most lines of a book.
 pub(crate) const MOST_LINES: u32 = 4_096;
 
 // Whether some key is none of the words.

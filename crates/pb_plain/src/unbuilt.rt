@@ -20,9 +20,11 @@ use pb_template::Entry;
 use std::sync::Arc;
 
 /// The least line of the plays that uses a form which can't be judged and run so far, where there
-/// is one. Built are: no play, or one on `all` without variables, gathering, `serial` and
-/// handlers, whose tasks, in no block, call a module other than `setup`, show a message or set
-/// variables, with at most one condition, in expressions of the host's own variables alone.
+/// is one. Built are: no play, or one on `all` in the linear strategy, with `tasks` and no other
+/// section, handlers, variables, gathering, `serial` or `force_handlers`. Its tasks stand in no
+/// block, call a module other than `setup`, show a message or set variables, and have no keyword
+/// but `name`, `register` and `when` with at most one condition; their expressions read the host's
+/// own variables alone.
 pub fn first_unbuilt(plays: &[Play]) -> Option<u32>
     ensures { result ≡ first_unbuilt plays.now }
 {

@@ -17,7 +17,7 @@ abbrev pub refused_or : {A : Type 0} → ℕ → Option ℕ → A → Result A O
 refused_or l None a = Ok a
 refused_or l (Some n) a = Err (record { line = l; code = n })
 
--- what is read, or the code that refuses the line, which tells it anyhow
+-- what a block says of its steps, or the code that refuses its line
 abbrev pub head_read : ℕ → ℕ → Fields → Result BlockData Offence
 head_read k l fs = refused_or l (block_offence k l fs) (block_of l fs)
 

@@ -119,12 +119,12 @@ def launcher(found):
     line("launcher over the program", f"{ms(through - alone)} ({detail})", "at most 20 ms", through - alone <= 0.020)
 
 
-def against_json_load(found, name="check"):
+def against_json_load(found, name="check", most=3):
     check, process = found["check"], found["python"]
     load = median(float(seconds) for seconds in found["load"].printed)
     detail = f"{ms(check.seconds)} over {ms(process.seconds)}"
-    at_most(f"{name} over a process of json.load, time", check.seconds / process.seconds, 3, detail)
-    at_most(f"{name} over json.load alone, time", check.seconds / load, 3, f"{ms(check.seconds)} over {ms(load)}")
+    at_most(f"{name} over a process of json.load, time", check.seconds / process.seconds, most, detail)
+    at_most(f"{name} over json.load alone, time", check.seconds / load, most, f"{ms(check.seconds)} over {ms(load)}")
     detail = f"{check.memory:,.0f} KiB over {process.memory:,.0f} KiB"
     at_most(f"{name} over a process of json.load, memory", check.memory / process.memory, 4, detail)
 

@@ -43,6 +43,7 @@ class Check:
     judge: Callable  # of an Outcome: an empty text where it is as wanted, else what is wanted
     files: dict = field(default_factory=dict)  # name to content, see bytes_of
     stdout: Optional[str] = None  # a file that takes the standard output
+    stdin: Optional[str] = None  # which of the files is the standard input; none is empty
 
     def run(self, program):
         return outcome_of(program, self)
@@ -124,18 +125,19 @@ def feed(path, texts):
             time.sleep(PAUSE)
 
 
-def outcome_of(program, check):
+def outcome_of(program, check, seconds=TIMEOUT):
     with tempfile.TemporaryDirectory() as folder, tempfile.TemporaryFile() as said, tempfile.TemporaryFile() as told:
         write_files(folder, check.files)
-        with open(check.stdout or os.devnull, "wb") as taken:
+        given = os.path.join(folder, check.stdin) if check.stdin else os.devnull
+        with open(check.stdout or os.devnull, "wb") as taken, open(given, "rb") as asked:
             child = subprocess.Popen(
                 [program, *check.words],
                 cwd=folder,
-                stdin=subprocess.DEVNULL,
+                stdin=asked,
                 stdout=taken if check.stdout else said,
                 stderr=told,
             )
-            usage = waited(child)
+            usage = waited(child, seconds)
         return Outcome(
             child.returncode,
             whole(said),
@@ -145,9 +147,9 @@ def outcome_of(program, check):
         )
 
 
-def waited(child):
-    """Waits for the program's end, and answers what it used."""
-    last = time.monotonic() + TIMEOUT
+def waited(child, seconds):
+    """Waits so long for the program's end, and answers what it used."""
+    last = time.monotonic() + seconds
     while True:
         ended, status, usage = os.wait4(child.pid, os.WNOHANG)
         if ended:
@@ -156,7 +158,7 @@ def waited(child):
         if time.monotonic() > last:
             child.kill()
             child.wait()
-            raise subprocess.TimeoutExpired(child.args, TIMEOUT)
+            raise subprocess.TimeoutExpired(child.args, seconds)
         time.sleep(GLANCE)
 
 

@@ -28,6 +28,7 @@ def program_checks(top):
         *unreadable_files(),
         *unwritable_output(),
         *pipes(),
+        *standard_inputs(),
         *not_json(),
         *odd_json(),
         *answer_shapes(),
@@ -213,6 +214,28 @@ def pipes():
         Check("pipe-book", CHECK, accepted, {**FILES, "book": book}),
         Check("pipe-inventory", CHECK, accepted, {**FILES, "book": PING_BOOK, "inventory": inventory}),
         Check("pipe-cut", CHECK, refused("P01"), {**FILES, "book": Pieces(("[", "[]"))}),
+    ]
+
+
+def standard_inputs():
+    """Files in whose place `-` stands: standard input, which can stand for one of them."""
+    files = {**FILES, "book": PING_BOOK, "answers": PING_ANSWERS}
+    accepted = exactly("accepted budget 1\n", 0)
+    done = exactly(NOTHING_DONE.replace("ok=0", "ok=1"), 0)
+    twice = usage(b"playcheck: standard input stands for one file\n")
+    read = [
+        ("book", ["check", "-", "-i", "inventory"], accepted),
+        ("inventory", ["check", "book", "-i", "-"], accepted),
+        ("signatures", ["check", "book", "-i", "inventory", "-s", "-"], accepted),
+        ("answers", ["run", "book", "-i", "inventory", "--answers", "-"], done),
+    ]
+    checks = [Check(f"stdin-{name}", words, judge, files, stdin=name) for name, words, judge in read]
+    for words in [["check", "-", "-i", "-"], ["run", "-", "-i", "inventory", "--answers", "-"]]:
+        checks.append(Check(f"stdin-twice-{words[0]}", words, twice, files, stdin="book"))
+    return checks + [
+        Check("stdin-pipe", ["check", "-", "-i", "inventory"], accepted, {**files, "book": Pieces(tuple(PING_BOOK))}, stdin="book"),
+        Check("stdin-empty", ["check", "-", "-i", "inventory"], refused("P01"), files),
+        Check("stdin-named", ["check", "./-", "-i", "inventory"], accepted, {**files, "-": PING_BOOK}),
     ]
 
 

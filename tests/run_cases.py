@@ -18,16 +18,7 @@ BY_HAND = TESTS.parent / "crates/pb_tests/out/pb_tests_tests"
 LIMIT = TESTS / "not_built_yet"
 SHOWN = 20
 
-# Whether until, retries and force_handlers are built; where they aren't, some cases have another answer.
-UNTIL_BUILT = False
-
 PASSED, FAILED, NOT_BUILT = "passed", "failed", "not built yet"
-
-
-def wanted_of(case):
-    if not UNTIL_BUILT and "before_until" in case:
-        return case["before_until"]["stdout"], case["before_until"]["status"]
-    return case["expected_stdout"], case["expected_status"]
 
 
 def check_of(case):
@@ -41,7 +32,7 @@ def check_of(case):
         files["answers.json"] = case["answers"]
         words[0] = "run"
         words += ["-f", str(case["forks"]), "--answers", "answers.json"]
-    return Check(case["id"], words, exactly(*wanted_of(case)), files)
+    return Check(case["id"], words, exactly(case["expected_stdout"], case["expected_status"]), files)
 
 
 def cases():

@@ -1,17 +1,12 @@
 -- What a caller sees of a book, and what the book stands for.
 use Rattle.std.specs.Prelude.{List, map}
 use Rattle.pb_language.specs.Book as language
-use Rattle.pb_language.specs.plain.Books.{plain_play}
-use Rattle.pb_book.specs.Meaning.{plain_tasks}
+use Rattle.pb_play.specs.Plays.{play_view}
+use Rattle.pb_play.specs.declared.play.Play.{Play}
 use Rattle.pb_book.specs.declared.book.Book.{Book}
-use Rattle.pb_book.specs.declared.book.Play.{Play}
 
 abbrev pub plays_of : Book → List Play
 plays_of b = b.plays.items
 
--- the book of these plays
-abbrev pub plain_plays : List Play → language.Book
-plain_plays ps = map (λ p. plain_play p.line (plain_tasks p.tasks.items)) ps
-
-abbrev pub book_of : Book → language.Book
-book_of b = plain_plays (plays_of b)
+abbrev pub book_view : Book → language.Book
+book_view b = map play_view (plays_of b)

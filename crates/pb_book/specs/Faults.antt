@@ -1,28 +1,30 @@
--- Which fault of a book a fault of its JSON, or of an expression in it, is.
-use Rattle.std.specs.Prelude.{Option, Some, None}
+-- What a fault of a book tells, and which fault of a book a fault of its JSON or of its plays is.
+use Rattle.std.specs.Prelude.{Option, Some, None, Result, Err}
+use Rattle.pb_language.specs.BookForm as language
 use Rattle.pb_value.specs.declared.read.JsonFault.{JsonFault}
 use Rattle.pb_value.specs.declared.read.JsonFault.TheVariants as json
-use Rattle.pb_syntax.specs.declared.fault.ExprFault.{ExprFault}
-use Rattle.pb_syntax.specs.declared.fault.ExprFault.TheVariants as expr
-use Rattle.pb_book.specs.declared.fault.FormFault.{FormFault}
-use Rattle.pb_book.specs.declared.fault.FormFault.TheVariants as form
+use Rattle.pb_task.specs.declared.fault.Code.TheVariants.{Limit}
+use Rattle.pb_play.specs.Faults.{offence_view}
+use Rattle.pb_play.specs.declared.fault.PlayFault.{PlayFault}
+use Rattle.pb_play.specs.declared.fault.PlayFault.TheVariants as plays
+use Rattle.pb_book.specs.Reading.{of_file}
 use Rattle.pb_book.specs.declared.fault.BookFault.{BookFault}
-use Rattle.pb_book.specs.declared.fault.BookFault.TheVariants.{NotJson, NotBuilt, NoMemory}
+use Rattle.pb_book.specs.declared.fault.BookFault.TheVariants.{NotJson, Refused, NoMemory}
 
 abbrev pub from_json : JsonFault → BookFault
 from_json json.NotJson = NotJson
 from_json json.NoMemory = NoMemory
 
-abbrev pub from_expr : ExprFault → FormFault
-from_expr (expr.Unreadable i) = form.NotBuilt
-from_expr expr.TooDeep = form.NotBuilt
-from_expr expr.NoMemory = form.NoMemory
+abbrev pub from_plays : PlayFault → BookFault
+from_plays (plays.Refused o) = Refused o
+from_plays plays.NoMemory = NoMemory
 
--- the definition gives nothing, or it is want of memory
-abbrev pub refused : {D : Type 0} → FormFault → Option (Option D)
-refused form.NotBuilt = Some None
-refused form.NoMemory = None
+-- a file of too many bytes
+abbrev pub too_large : BookFault
+too_large = Refused (record { line = 0; code = Limit })
 
-abbrev pub from_form : FormFault → BookFault
-from_form form.NotBuilt = NotBuilt
-from_form form.NoMemory = NoMemory
+-- its offence, or it is want of memory
+abbrev pub offence_of : {D : Type 0} → BookFault → Option (Result D language.Offence)
+offence_of NotJson = Some (Err (of_file 1))
+offence_of (Refused o) = Some (Err (offence_view o))
+offence_of NoMemory = None

@@ -1,8 +1,6 @@
-pub mod Lines
-pub mod Meaning
+pub mod Filters
+pub mod Ordered
 pub mod Books
-pub mod Faults
 pub mod Reading
-pub mod Outlines
+pub mod Faults
 pub mod Words
-pub mod Simple

@@ -1,58 +1,17 @@
-// A book: its plays, their tasks, and what each task asks for.
-ghost use Rattle.std.specs.Prelude.{◌≡◌, true};
-ghost use Rattle.pb_book.specs.Lines.{are_ordered_plays, is_numbered};
-ghost use Rattle.pb_book.specs.Meaning.{are_plain_plays};
+// A book: its plays, in their order.
+ghost use Rattle.std.specs.Prelude.{◌≡◌, map, true};
+ghost use Rattle.pb_play.specs.Words.{all_tasks, is_counted, play_view};
+ghost use Rattle.pb_book.specs.Ordered.{are_in_order};
 
-use pb_expr::Expr;
-use std::sync::Arc;
+use pb_play::Play;
 
-/// An argument of a module or an action.
-#[derive(Drop)]
-pub struct Argument {
-    pub name: Arc<String>,
-    pub value: Expr,
-}
-
-/// What a task does.
-#[derive(Drop)]
-pub enum Work {
-    /// Calls the module of that name.
-    Module(Arc<String>),
-    /// Shows a message.
-    Debug,
-    /// Sets variables of the host.
-    SetFact,
-}
-
-#[derive(Drop)]
-pub struct Task {
-    /// The place in the book, where the plays and their tasks are counted from 1.
-    pub line: u32,
-    pub work: Work,
-    /// In the order of their names' bytes.
-    pub arguments: Vec<Argument>,
-    /// The condition, if one is given.
-    pub when: Option<Expr>,
-    /// The variable that keeps the result, if one is given.
-    pub register: Option<Arc<String>>,
-}
-
-#[derive(Drop)]
-pub struct Play {
-    /// The place in the book.
-    pub line: u32,
-    pub tasks: Vec<Task>,
-}
-
-/// A book, as far as it is built: no play, or one, which stands at line 1 and has at most 4,095
-/// tasks, at the lines 2, 3 and so on. Each of its expressions reads the host's own variables
-/// alone, and the arguments of a task stand in the order of their names' bytes, each name once.
+/// A book. Its plays, blocks, tasks and handlers are counted from line 1 as they run, up to line
+/// 4,096, and what each task is given stands in the order of the names' bytes, each name once.
 #[derive(Drop)]
 pub struct Book {
     plays: Vec<Play>,
-    ghost numbered: { is_numbered plays.items ≡ true },
-    ghost plain: { are_plain_plays plays.items ≡ true },
-    ghost ordered: { are_ordered_plays plays.items ≡ true },
+    ghost counted: { is_counted (map play_view plays.items) ≡ true },
+    ghost ordered: { are_in_order (all_tasks plays.items) ≡ true },
 }
 
 impl Book {
@@ -65,11 +24,19 @@ impl Book {
         self.plays.as_slice()
     }
 
+    /// The plays themselves.
+    pub fn into_plays(self) -> Vec<Play>
+        ensures plays { result.items ≡ plays_of self }
+        ensures counted { is_counted (map play_view (plays_of self)) ≡ true }
+        ensures ordered { are_in_order (all_tasks (plays_of self)) ≡ true }
+    {
+        self.plays
+    }
+
     // The book of these plays.
     pub(crate) fn of_plays(plays: Vec<Play>) -> Book
-        requires numbered { is_numbered plays.items ≡ true }
-        requires plain { are_plain_plays plays.items ≡ true }
-        requires ordered { are_ordered_plays plays.items ≡ true }
+        requires counted { is_counted (map play_view plays.items) ≡ true }
+        requires ordered { are_in_order (all_tasks plays.items) ≡ true }
         ensures { plays_of result ≡ plays.items }
     {
         Book { plays }

@@ -1,21 +1,17 @@
-// The plays of a book, read from JSON.
+// The book that the bytes of a file are.
 //
 //     let registry = Registry::builtin(alloc)?;
 //     let book = Book::read(alloc, bytes, &registry)?;
 //     for play in book.plays() {
-//         for task in &play.tasks {
-//             let line = task.line; // from 2 on: the play is line 1
-//         }
+//         let line = play.line; // the first play is at line 1
 //     }
 #![tactic(auto)]
 
-pub mod argument;
 pub mod book;
 pub mod fault;
+mod filter;
 pub mod read;
-mod simple;
-pub mod task;
 
-pub use book::{Argument, Book, Play, Task, Work};
+pub use book::Book;
 pub use fault::BookFault;
 pub use read::BOOK_LIMIT;

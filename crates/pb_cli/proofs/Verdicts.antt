@@ -1,14 +1,12 @@
 -- What the readers' answers say of the files that are judged.
-use Rattle.std.proofs.Common.{◌≡◌, ◌<◌, ◌≤◌, ℕ, List, length, nat_lt, Bool, true, false, if◌then◌else◌, Option, Some, None, Result, Ok, Err, refl, sym, ap, ◌∙◌, ◌&&◌, not, subst}
-use Rattle.std.proofs.lemmas.Bool.{ltb-true, ltb-false, le-ltb, lt-ltb}
+use Rattle.std.proofs.Common.{◌≡◌, ◌<◌, ◌≤◌, ℕ, List, length, nat_lt, Bool, true, false, Result, Ok, Err, refl, sym, ap, ◌∙◌, ◌&&◌, not, subst}
+use Rattle.std.proofs.lemmas.Bool.{ltb-true, ltb-false}
 use Rattle.std.specs.Str.{is_utf8}
-use Rattle.pb_semantics.specs.Data.{Data}
 use Rattle.pb_semantics.specs.Gives.{FaultGives}
-use Rattle.pb_semantics.specs.Limits.{most_book_bytes}
 use Rattle.pb_language.specs.Book.{Book as BookData}
+use Rattle.pb_language.specs.BookForm as language
 use Rattle.pb_language.specs.Program.{Inventory}
 use Rattle.pb_language.specs.Verdict.{accepted}
-use Rattle.pb_value.specs.FromJson.{json_data}
 use Rattle.pb_semantics.specs.Signature.{ModuleData}
 use Rattle.pb_sig.specs.Offences.{offence_of}
 use Rattle.pb_sig.specs.Signatures.{Offence}
@@ -17,19 +15,16 @@ use Rattle.pb_sig.specs.declared.fault.SignatureFault.TheVariants as signature
 use Rattle.pb_inventory.specs.Offences.{FileOffence, offence_of as inventory_offence}
 use Rattle.pb_inventory.specs.declared.fault.InventoryFault.{InventoryFault}
 use Rattle.pb_inventory.specs.declared.fault.InventoryFault.TheVariants as inventory
-use Rattle.pb_book.specs.Books.{book_of}
-use Rattle.pb_book.specs.Reading.{book_from}
-use Rattle.pb_book.specs.declared.book.Book.{Book}
+use Rattle.pb_book.specs.Faults.{offence_of as book_offence}
 use Rattle.pb_book.specs.declared.fault.BookFault.{BookFault}
 use Rattle.pb_book.specs.declared.fault.BookFault.TheVariants as book
 use Rattle.pb_verify.specs.Judges.{refused_verdict}
 use Rattle.pb_verify.specs.Built.{built_verdict}
 use Rattle.pb_verify.specs.declared.checked.Accepted.{Accepted}
 use Rattle.pb_verify.specs.declared.refusal.Code.{Code}
-use Rattle.pb_verify.specs.declared.refusal.Code.TheVariants.{N00, P01}
 use Rattle.pb_verify.specs.declared.verify.VerifyFault.{VerifyFault}
 use Rattle.pb_verify.specs.declared.verify.VerifyFault.TheVariants as verify
-use Rattle.pb_cli.specs.FileVerdicts.{Found, whole_file, verdict, Tells, book_found, book_verdict, found_after, found_by, found_with, inventory_code, is_looked_into, of_book, of_bytes, of_inventory, offence_code, of_signatures, of_text, of_verify, with_code}
+use Rattle.pb_cli.specs.FileVerdicts.{Found, whole_file, wrong_book, verdict, Tells, book_found, found_after, found_by, found_with, inventory_code, is_looked_into, of_book, of_inventory, offence_code, of_signatures, of_verify, with_code}
 use Rattle.pb_cli.specs.declared.judge.Fault.{Fault}
 use Rattle.pb_cli.specs.declared.judge.Fault.TheVariants.{NoMemory}
 
@@ -40,39 +35,11 @@ le-not_over most n bound = either (nat_lt most n) refl where
   either true e = absurd (bound (ltb-true most n e))
   either false e = ltb-false most n e
 
--- what is said of a text that is read so, with that code where it isn't JSON
-module _ {X : Type 0} (most : ℕ) (code : Code) (read : Data → Option X) (bs : List ℕ) where
-  abbrev short_text : Result X Code
-  short_text = of_text code read (json_data bs)
-
-  long : most < length bs → of_bytes most code read bs ≡ Err N00
-  long l = ap (λ b. if b then Err N00 else short_text) (lt-ltb most (length bs) l)
-
-  short : length bs ≤ most → of_bytes most code read bs ≡ short_text
-  short l = ap (λ b. if b then Err N00 else short_text) (le-ltb most (length bs) l)
-
-  is_read : (x : X) → ¬ (most < length bs) → (d : Data) × (json_data bs ≡ Some d) × (read d ≡ Some x) → of_bytes most code read bs ≡ Ok x
-  is_read x bound found = short (le-not_over most (length bs) bound) ∙ rw (found.1, found.2) refl
-
-  is_no_json : ¬ (most < length bs) → json_data bs ≡ None → of_bytes most code read bs ≡ Err code
-  is_no_json bound none = short (le-not_over most (length bs) bound) ∙ rw none refl
-
-  is_not_built : (length bs ≤ most → (d : Data) × (json_data bs ≡ Some d) × (read d ≡ None)) → of_bytes most code read bs ≡ Err N00
-  is_not_built other = either (nat_lt most (length bs)) refl where
-    either : (b : Bool) → nat_lt most (length bs) ≡ b → of_bytes most code read bs ≡ Err N00
-    either true e = long (ltb-true most (length bs) e)
-    either false e = let l = ltb-false most (length bs) e in let found = other l in short l ∙ rw (found.1, found.2) refl
-
 -- want of memory may come in the place of anything
 pub Tells-no_memory : (f : Found) → Tells (Err NoMemory) f
 Tells-no_memory (whole_file code) = tt
+Tells-no_memory (wrong_book o) = tt
 Tells-no_memory (verdict v) = tt
-
--- what a fault of a book says of the text
-abbrev pub BookSays : BookFault → Result BookData Code → Type 0
-BookSays book.NotJson v = v ≡ Err P01
-BookSays book.NotBuilt v = v ≡ Err N00
-BookSays book.NoMemory v = Unit {0}
 
 module _ (bs : List ℕ) where
   -- a file that isn't looked into is refused, as too long or as no JSON
@@ -81,17 +48,6 @@ module _ (bs : List ℕ) where
     either : (b : Bool) → nat_lt most (length bs) ≡ b → P r
     either true e = subst P (sym (large (ltb-true most (length bs) e))) by_limit
     either false e = subst P (sym (no_text (sym (ap (λ b. not b && is_utf8 bs) e) ∙ h) (ltb-false most (length bs) e))) by_json
-
-  -- by the clauses of the reader of books
-  module _ (ms : List ModuleData) (r : Result Book BookFault) (large : most_book_bytes < length bs → r ≡ Err book.NotBuilt) where
-    pub book_verdict-read : (b : Book) → r ≡ Ok b → (d : Data) × (json_data bs ≡ Some d) × (book_from ms d ≡ Some (book_of b)) → book_verdict ms bs ≡ Ok (book_of b)
-    book_verdict-read b e found = is_read most_book_bytes P01 (book_from ms) bs (book_of b) (λ l. let clash = sym e ∙ large l in cc) found
-
-    pub BookSays-fault : (f : BookFault) → r ≡ Err f → (f ≡ book.NotJson → json_data bs ≡ None)
-        → (f ≡ book.NotBuilt → length bs ≤ most_book_bytes → (d : Data) × (json_data bs ≡ Some d) × (book_from ms d ≡ None)) → BookSays f (book_verdict ms bs)
-    BookSays-fault book.NotJson e none other = is_no_json most_book_bytes P01 (book_from ms) bs (λ l. let clash = sym e ∙ large l in cc) (none refl)
-    BookSays-fault book.NotBuilt e none other = is_not_built most_book_bytes P01 (book_from ms) bs (other refl)
-    BookSays-fault book.NoMemory e none other = tt
 
 -- the answer where the signatures aren't read
 pub Tells-signatures : (e : SignatureFault) (x : Result (List ModuleData) Offence) (i b : List ℕ) → FaultGives (offence_of e) x → Tells (Err (of_signatures e)) (found_after (with_code offence_code x) i b)
@@ -103,7 +59,7 @@ Tells-signatures signature.Limit x i b says = rw says refl
 Tells-signatures signature.NoMemory x i b says = Tells-no_memory (found_after (with_code offence_code x) i b)
 
 -- where the inventory isn't
-pub Tells-inventory : (ms : List ModuleData) (e : InventoryFault) (x : Result Inventory FileOffence) (w : Result BookData Code) → FaultGives (inventory_offence e) x → Tells (Err (of_inventory e)) (found_by ms (with_code inventory_code x) w)
+pub Tells-inventory : (ms : List ModuleData) (e : InventoryFault) (x : Result Inventory FileOffence) (w : Result BookData language.Offence) → FaultGives (inventory_offence e) x → Tells (Err (of_inventory e)) (found_by ms (with_code inventory_code x) w)
 Tells-inventory ms inventory.NotJson x w says = rw says refl
 Tells-inventory ms inventory.Form x w says = rw says refl
 Tells-inventory ms inventory.HostName x w says = rw says refl
@@ -112,21 +68,21 @@ Tells-inventory ms inventory.Limit x w says = rw says refl
 Tells-inventory ms inventory.NoMemory x w says = Tells-no_memory (found_by ms (with_code inventory_code x) w)
 
 -- where the book isn't
-pub Tells-book : (ms : List ModuleData) (i : Inventory) (e : BookFault) (w : Result BookData Code) → BookSays e w → Tells (Err (of_book e)) (book_found ms i w)
+pub Tells-book : (ms : List ModuleData) (i : Inventory) (e : BookFault) (w : Result BookData language.Offence) → FaultGives (book_offence e) w → Tells (Err (of_book e)) (book_found ms i w)
 Tells-book ms i book.NotJson w says = rw says refl
-Tells-book ms i book.NotBuilt w says = rw says refl
+Tells-book ms i (book.Refused o) w says = rw says refl
 Tells-book ms i book.NoMemory w says = Tells-no_memory (book_found ms i w)
 
 -- where all are
-pub Tells-refused : (ms : List ModuleData) (i : Inventory) (b : BookData) (e : VerifyFault) (w : Result BookData Code) → w ≡ Ok b → FaultGives (refused_verdict e) (built_verdict ms i b) → Tells (Err (of_verify e)) (book_found ms i w)
+pub Tells-refused : (ms : List ModuleData) (i : Inventory) (b : BookData) (e : VerifyFault) (w : Result BookData language.Offence) → w ≡ Ok b → FaultGives (refused_verdict e) (built_verdict ms i b) → Tells (Err (of_verify e)) (book_found ms i w)
 Tells-refused ms i b (verify.Refused r) w read judges = rw read judges
 Tells-refused ms i b verify.NoMemory w read judges = Tells-no_memory (book_found ms i w)
 
-pub Tells-accepted : (ms : List ModuleData) (i : Inventory) (b : BookData) (a : Accepted) (w : Result BookData Code) → w ≡ Ok b → built_verdict ms i b ≡ accepted a.budget → Tells (Ok a) (book_found ms i w)
+pub Tells-accepted : (ms : List ModuleData) (i : Inventory) (b : BookData) (a : Accepted) (w : Result BookData language.Offence) → w ≡ Ok b → built_verdict ms i b ≡ accepted a.budget → Tells (Ok a) (book_found ms i w)
 Tells-accepted ms i b a w read judges = rw read judges
 
 -- what is said of the book is said of the files
-pub Tells-found : (r : Result Accepted Fault) (ms : List ModuleData) (i : Inventory) (v : Result Inventory Code) (w : Result BookData Code) → v ≡ Ok i → Tells r (book_found ms i w) → Tells r (found_by ms v w)
+pub Tells-found : (r : Result Accepted Fault) (ms : List ModuleData) (i : Inventory) (v : Result Inventory Code) (w : Result BookData language.Offence) → v ≡ Ok i → Tells r (book_found ms i w) → Tells r (found_by ms v w)
 Tells-found r ms i v w read tells = rw read tells
 
 pub Tells-after : (r : Result Accepted Fault) (x : Result (List ModuleData) Code) (ms : List ModuleData) (i b : List ℕ) → x ≡ Ok ms → Tells r (found_with ms i b) → Tells r (found_after x i b)

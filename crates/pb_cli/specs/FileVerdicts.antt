@@ -1,16 +1,15 @@
 -- What becomes of the files that are judged.
-use Rattle.std.specs.Prelude.{◌≡◌, ◌<◌, ◌≤◌, ℕ, List, length, nat_lt, if◌then◌else◌, Option, Some}
+use Rattle.std.specs.Prelude.{◌≡◌, ◌<◌, ◌≤◌, ◌==◌, ℕ, List, length, nat_lt, cond, Option, Some}
 use Rattle.std.specs.Prelude.{None, Result, Ok, Err, Bool, ◌&&◌, not}
 use Rattle.std.specs.Str.{is_utf8}
-use Rattle.pb_semantics.specs.Data.{Data}
 use Rattle.pb_semantics.specs.Gives.{FaultGives, Gives}
-use Rattle.pb_semantics.specs.Limits.{most_answer_bytes, most_book_bytes, most_inventory_bytes}
+use Rattle.pb_semantics.specs.Limits.{most_answer_bytes, most_inventory_bytes}
 use Rattle.pb_semantics.specs.Signature.{ModuleData}
 use Rattle.pb_language.specs.Book.{Book}
+use Rattle.pb_language.specs.BookForm as language
 use Rattle.pb_language.specs.Inventories as offence
 use Rattle.pb_language.specs.Program.{Inventory}
 use Rattle.pb_language.specs.Verdict.{Verdict, accepted, refused as refused_at}
-use Rattle.pb_value.specs.FromJson.{json_data}
 use Rattle.pb_sig.specs.Registered.{registry_of}
 use Rattle.pb_sig.specs.Signatures.{Offence, not_json, wrong_form, broken_law, taken_name}
 use Rattle.pb_sig.specs.Signatures.{over_limit, most_signature_bytes}
@@ -21,7 +20,8 @@ use Rattle.pb_inventory.specs.Offences as file
 use Rattle.pb_inventory.specs.Offences.{FileOffence, inventory_in}
 use Rattle.pb_inventory.specs.declared.fault.InventoryFault.{InventoryFault}
 use Rattle.pb_inventory.specs.declared.fault.InventoryFault.TheVariants as inventory
-use Rattle.pb_book.specs.Reading.{book_from}
+use Rattle.pb_play.specs.Faults.{offence_view}
+use Rattle.pb_book.specs.Reading.{book_in}
 use Rattle.pb_book.specs.declared.fault.BookFault.{BookFault}
 use Rattle.pb_book.specs.declared.fault.BookFault.TheVariants as book
 use Rattle.pb_verify.specs.Built.{built_verdict}
@@ -31,8 +31,9 @@ use Rattle.pb_verify.specs.declared.refusal.Code.{Code}
 use Rattle.pb_strategy.specs.Scripts.{script_fault, script_in}
 use Rattle.pb_strategy.specs.declared.script.ScriptFault.{ScriptFault}
 use Rattle.pb_strategy.specs.declared.script.ScriptFault.TheVariants as script
-use Rattle.pb_verify.specs.declared.refusal.Code.TheVariants.{N00, S01, S02, S03, S04, S05, P01}
-use Rattle.pb_verify.specs.declared.refusal.Code.TheVariants.{I01, I02, I03, I04, I05, A01, A02}
+use Rattle.pb_verify.specs.declared.refusal.Code.TheVariants.{S01, S02, S03, S04, S05, I01, I02}
+use Rattle.pb_verify.specs.declared.refusal.Code.TheVariants.{I03, I04, I05, P01, P02, P03, P04}
+use Rattle.pb_verify.specs.declared.refusal.Code.TheVariants.{P05, P06, P07, P08, P09, A01, A02}
 use Rattle.pb_verify.specs.declared.refusal.Code.TheVariants.{A03}
 use Rattle.pb_verify.specs.declared.verify.VerifyFault.{VerifyFault}
 use Rattle.pb_verify.specs.declared.verify.VerifyFault.TheVariants as verify
@@ -59,9 +60,18 @@ of_inventory inventory.Cycle = refused I04
 of_inventory inventory.Limit = refused I05
 of_inventory inventory.NoMemory = NoMemory
 
+-- the P code of that number
+abbrev pub book_code : ℕ → Code
+book_code n = cond (n == 1) P01 (cond (n == 2) P02 (cond (n == 3) P03 (cond (n == 4) P04
+    (cond (n == 5) P05 (cond (n == 6) P06 (cond (n == 7) P07 (cond (n == 8) P08 P09)))))))
+
+-- a book is refused at a line
+abbrev pub refused_book : language.Offence → Fault
+refused_book o = Refused (record { code = book_code o.code; line = o.line; host = None })
+
 abbrev pub of_book : BookFault → Fault
 of_book book.NotJson = refused P01
-of_book book.NotBuilt = refused N00
+of_book (book.Refused o) = refused_book (offence_view o)
 of_book book.NoMemory = NoMemory
 
 abbrev pub of_verify : VerifyFault → Fault
@@ -73,21 +83,6 @@ of_script script.NotJson = refused A01
 of_script script.Shape = refused A02
 of_script script.Limit = refused A03
 of_script script.NoMemory = NoMemory
-
--- what is read of a value, or the code of what isn't built yet
-abbrev pub built : {X : Type 0} → Option X → Result X Code
-built None = Err N00
-built (Some x) = Ok x
-
--- what a text is, by what its value is, or else the code of the whole file
-abbrev pub of_text : {X : Type 0} → Code → (Data → Option X) → Option Data → Result X Code
-of_text code read None = Err code
-of_text code read (Some d) = built (read d)
-
--- a text that is too long isn't looked at
-abbrev pub of_bytes : {X : Type 0} → ℕ → Code → (Data → Option X) → List ℕ → Result X Code
-of_bytes most code read bytes =
-    if nat_lt most (length bytes) then Err N00 else of_text code read (json_data bytes)
 
 -- a text is looked into: it isn't too long, and is UTF-8
 abbrev pub is_looked_into : ℕ → List ℕ → Bool
@@ -122,27 +117,25 @@ inventory_code (file.refused offence.over_limit) = I05
 abbrev pub inventory_verdict : List ℕ → Result Inventory Code
 inventory_verdict bytes = with_code inventory_code (inventory_in bytes)
 
--- and a book's text this book, with those modules
-abbrev pub book_verdict : List ModuleData → List ℕ → Result Book Code
-book_verdict ms bytes = of_bytes most_book_bytes P01 (book_from ms) bytes
-
--- what becomes of the files: one is refused as a whole, or the book gets a verdict for the
--- inventory
+-- what becomes of the files: one is refused as a whole, or the book at a line, or it gets a verdict
+-- for the inventory
 pub data Found : Type 0 where
   whole_file : Code → Found
+  wrong_book : language.Offence → Found
   verdict : Verdict → Found
 
-abbrev pub book_found : List ModuleData → Inventory → Result Book Code → Found
-book_found ms i (Err code) = whole_file code
+abbrev pub book_found : List ModuleData → Inventory → Result Book language.Offence → Found
+book_found ms i (Err o) = wrong_book o
 book_found ms i (Ok b) = verdict (built_verdict ms i b)
 
-abbrev pub found_by : List ModuleData → Result Inventory Code → Result Book Code → Found
+abbrev pub found_by : List ModuleData → Result Inventory Code → Result Book language.Offence
+    → Found
 found_by ms (Err code) book = whole_file code
 found_by ms (Ok i) book = book_found ms i book
 
 -- the inventory is asked before the book
 abbrev pub found_with : List ModuleData → List ℕ → List ℕ → Found
-found_with ms inventory book = found_by ms (inventory_verdict inventory) (book_verdict ms book)
+found_with ms inventory book = found_by ms (inventory_verdict inventory) (book_in ms book)
 
 abbrev pub found_after : Result (List ModuleData) Code → List ℕ → List ℕ → Found
 found_after (Err code) inventory book = whole_file code
@@ -170,6 +163,7 @@ fault_given NoMemory = None
 -- that answer says what becomes of the files
 abbrev pub Tells : Result Accepted Fault → Found → Type 0
 Tells r (whole_file code) = Gives (λ a. Ok a) fault_given r (Err (refused code))
+Tells r (wrong_book o) = Gives (λ a. Ok a) fault_given r (Err (refused_book o))
 Tells r (verdict v) = Gives (λ a. accepted a.budget) refused_verdict r v
 
 -- that answer says what becomes of these files

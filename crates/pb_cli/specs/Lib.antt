@@ -2,3 +2,4 @@ pub mod Texts
 pub mod Options
 pub mod FileVerdicts
 pub mod Outcomes
+pub mod Inputs

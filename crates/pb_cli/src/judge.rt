@@ -3,9 +3,11 @@ ghost use Rattle.std.specs.Prelude.{◌≡◌, Err, IfOk, None, Ok, Some, false,
 ghost use Rattle.pb_semantics.specs.Words.{most_inventory_bytes};
 ghost use Rattle.pb_sig.specs.Words.{builtins, modules_of};
 ghost use Rattle.pb_inventory.specs.Words.{inventory_view};
-ghost use Rattle.pb_book.specs.Words.{book_of};
+ghost use Rattle.pb_task.specs.Words.{number_of};
+ghost use Rattle.pb_plain.specs.Words.{book_of};
 ghost use Rattle.pb_sig.specs.Signatures.{most_signature_bytes};
-ghost use Rattle.pb_cli.specs.FileVerdicts.{Judges, Tells, book_found, book_verdict};
+ghost use Rattle.pb_book.specs.Words.{book_in};
+ghost use Rattle.pb_cli.specs.FileVerdicts.{Judges, Tells, book_code, book_found};
 ghost use Rattle.pb_cli.specs.FileVerdicts.{inventory_verdict, is_first_looked_into};
 ghost use Rattle.pb_cli.specs.FileVerdicts.{is_looked_into, modules_verdict, refused};
 
@@ -44,9 +46,29 @@ impl From<BookFault> for Fault {
     fn from(fault: BookFault) -> Fault {
         match fault {
             BookFault::NotJson => whole(Code::P01),
-            BookFault::NotBuilt => whole(Code::N00),
+            BookFault::Refused(offence) => Fault::Refused(Refusal {
+                code: code_of(offence.code),
+                line: offence.line,
+                host: None,
+            }),
             BookFault::NoMemory => Fault::NoMemory,
         }
+    }
+}
+
+// The code of what is wrong in a book.
+fn code_of(code: pb_task::Code) -> Code
+    ensures { result ≡ book_code (number_of code) }
+{
+    match code {
+        pb_task::Code::Shape => Code::P02,
+        pb_task::Code::Keyword => Code::P03,
+        pb_task::Code::Value => Code::P04,
+        pb_task::Code::Work => Code::P05,
+        pb_task::Code::Module => Code::P06,
+        pb_task::Code::Expression => Code::P07,
+        pb_task::Code::Limit => Code::P08,
+        pb_task::Code::Name => Code::P09,
     }
 }
 
@@ -142,7 +164,7 @@ pub fn judge(
     ensures read { IfOk result
         (λ c. inventory_verdict inventory.now ≡ Ok (inventory_view c.inventory)) }
     ensures book_read { IfOk result
-        (λ c. book_verdict (modules_of c.registry) book.now ≡ Ok (book_of c.book)) }
+        (λ c. book_in (modules_of c.registry) book.now ≡ Ok (book_of c.book)) }
     ensures modules { IfOk result (λ c. modules_verdict (option_map (λ s. s.now) signatures.entry)
         ≡ Ok (modules_of c.registry)) }
     ensures apart { is_first_looked_into (option_map (λ s. s.now) signatures.entry) inventory.now
@@ -164,7 +186,7 @@ fn judge_signed(
     ensures read { IfOk result
         (λ c. inventory_verdict inventory.now ≡ Ok (inventory_view c.inventory)) }
     ensures book_read { IfOk result
-        (λ c. book_verdict (modules_of c.registry) book.now ≡ Ok (book_of c.book)) }
+        (λ c. book_in (modules_of c.registry) book.now ≡ Ok (book_of c.book)) }
     ensures modules { IfOk result
         (λ c. modules_verdict (Some signatures.now) ≡ Ok (modules_of c.registry)) }
     ensures apart { is_looked_into most_signature_bytes signatures.now ≡ false
@@ -180,7 +202,7 @@ fn judge_unsigned(alloc: Global, book: &[u8], inventory: &[u8]) -> Result<Checke
     ensures read { IfOk result
         (λ c. inventory_verdict inventory.now ≡ Ok (inventory_view c.inventory)) }
     ensures book_read { IfOk result
-        (λ c. book_verdict (modules_of c.registry) book.now ≡ Ok (book_of c.book)) }
+        (λ c. book_in (modules_of c.registry) book.now ≡ Ok (book_of c.book)) }
     ensures modules { IfOk result (λ c. modules_of c.registry ≡ builtins) }
     ensures apart { is_looked_into most_inventory_bytes inventory.now ≡ false
         → result ≡ Err Fault.NoMemory → ⊥ }
@@ -198,10 +220,10 @@ fn judge_read(
     registry: Registry,
 ) -> Result<Checked, Fault>
     ensures verdict { Tells result (book_found (modules_of registry) (inventory_view inventory)
-        (book_verdict (modules_of registry) book.now)) }
+        (book_in (modules_of registry) book.now)) }
     ensures kept { IfOk result (λ c. c.inventory ≡ inventory) }
     ensures book_read { IfOk result
-        (λ c. book_verdict (modules_of c.registry) book.now ≡ Ok (book_of c.book)) }
+        (λ c. book_in (modules_of c.registry) book.now ≡ Ok (book_of c.book)) }
     ensures modules { IfOk result (λ c. c.registry ≡ registry) }
 {
     let book = Book::read(alloc, book, &registry)?;

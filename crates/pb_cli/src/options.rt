@@ -220,7 +220,7 @@ fn with_subject<'a>(alloc: Global, command: Command<'a>) -> Result<Command<'a>, 
             Arg::new(alloc, "book")
                 .required(true)
                 .action(ArgAction::Set)
-                .help("The playbook, a JSON file"),
+                .help("The playbook, a JSON file; - is standard input"),
         )?
         .arg(
             option(alloc, "inventory")

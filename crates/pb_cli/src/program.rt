@@ -1,6 +1,7 @@
 // The program: reads its words and the files that they name, and prints what comes of them.
 
 use crate::files::read_bounded;
+use crate::input::{is_input, names_input_twice};
 use crate::options::options;
 use crate::outcome::{Bytes, NO_MEMORY, Outcome, Stream, USAGE, line_outcome, outcome_of};
 use crate::words::{Options, Source, Subject};
@@ -13,14 +14,14 @@ use std::rt::Files;
 use std::{fs, io};
 
 /// Does what the words say; the answer is the program's status.
-pub fn run<R: Files + AllocGlobal + Print + Eprint>(rt: &R, words: &[String]) -> u8 {
+pub fn run<R: Files + AllocGlobal + Print + Eprint + Input>(rt: &R, words: &[String]) -> u8 {
     match options(rt.alloc(), words) {
         Ok(options) => act(rt, &options),
         Err(fault) => say(rt, line_outcome(fault)),
     }
 }
 
-fn act<R: Files + AllocGlobal + Print + Eprint>(rt: &R, options: &Options) -> u8 {
+fn act<R: Files + AllocGlobal + Print + Eprint + Input>(rt: &R, options: &Options) -> u8 {
     match read_all(rt, options) {
         Ok(bytes) => say(rt, outcome_of(rt.alloc(), options, &bytes)),
         Err(status) => status,
@@ -64,9 +65,15 @@ fn print_text<R: Print + Eprint>(rt: &R, text: &str, status: u8) -> u8 {
     }
 }
 
-// The files in the order book, inventory, signatures, answers; or the status where one can't be
-// read.
-fn read_all<R: Files + AllocGlobal + Eprint>(rt: &R, options: &Options) -> Result<Bytes, u8> {
+// The files in the order book, inventory, signatures, answers, of which one may be standard input;
+// or the status where one can't be read.
+fn read_all<R: Files + AllocGlobal + Eprint + Input>(
+    rt: &R,
+    options: &Options,
+) -> Result<Bytes, u8> {
+    if names_input_twice(options) {
+        return Err(tell(rt, "playcheck: standard input stands for one file\n", USAGE));
+    }
     let subject = subject_of(options);
     Ok(Bytes {
         book: read_named(rt, subject.book.as_str(), BOOK_LIMIT as u32)?,
@@ -99,7 +106,7 @@ fn answers_name(options: &Options) -> Option<&str> {
     }
 }
 
-fn read_named<R: Files + AllocGlobal + Eprint>(
+fn read_named<R: Files + AllocGlobal + Eprint + Input>(
     rt: &R,
     name: &str,
     most: u32,
@@ -116,6 +123,13 @@ fn read_named<R: Files + AllocGlobal + Eprint>(
     }
 }
 
-fn open_bounded<R: Files + AllocGlobal>(rt: &R, name: &str, most: u32) -> io::Result<Vec<u8>> {
+fn open_bounded<R: Files + AllocGlobal + Input>(
+    rt: &R,
+    name: &str,
+    most: u32,
+) -> io::Result<Vec<u8>> {
+    if is_input(name) {
+        return read_bounded(rt.alloc(), rt.reader(), most);
+    }
     read_bounded(rt.alloc(), fs::open(rt, name)?, most)
 }

@@ -31,5 +31,6 @@ pub mod variables;
 
 pub use fault::{InventoryFault, PatternFault};
 pub use inventory::Inventory;
+pub use pattern::word_in;
 pub use read::INVENTORY_LIMIT;
 pub use variables::is_reserved;

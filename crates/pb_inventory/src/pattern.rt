@@ -154,8 +154,8 @@ fn is_divider(byte: u8) -> bool
     byte == b':' || byte == b','
 }
 
-// The text without the blanks at both its ends.
-fn word_in(text: &str) -> &str
+/// The text without the blanks at both its ends: spaces, tabs and ends of lines.
+pub fn word_in(text: &str) -> &str
     ensures { result.now ≡ word_met (turned [] text.now) }
 {
     without_first_blanks(without_last_blanks(text))

@@ -1,18 +1,15 @@
 -- The line of the first form of a book that can't be judged and run so far: any but plays of tasks
 -- that call a module, show a message or set variables.
 use Rattle.std.specs.Prelude.{ℕ, List, [], ◌∷◌, Bool, true, false, not, ◌&&◌, Option, Some, None}
-use Rattle.std.specs.Prelude.{codes}
+use Rattle.std.specs.Prelude.{Result, Ok, Err, codes}
 use Rattle.std.specs.Str.{bytes_eq}
-use Rattle.pb_language.specs.Book.{HandlerData, PlayData, Steps, no_steps, task_step, block_step}
+use Rattle.pb_language.specs.Book.{Book, PlayData, Steps, no_steps, task_step, block_step}
 use Rattle.pb_language.specs.Book.{flush_step, TaskData, Work, module_work, debug_work}
 use Rattle.pb_language.specs.Book.{set_fact_work, assert_work, fail_work}
 use Rattle.pb_language.specs.Expression.{Name, Expressions, no_expressions, expression, Parts}
 use Rattle.pb_language.specs.Expression.{no_parts, part}
 use Rattle.pb_language.specs.Simple.{is_simple, parts_simple}
 use Rattle.pb_language.specs.TaskForm.{is_missing}
-use Rattle.pb_task.specs.Tasks.{names_view}
-use Rattle.pb_play.specs.Plays.{play_view}
-use Rattle.pb_play.specs.declared.play.Play.{Play}
 
 abbrev pub or_line : Option ℕ → Option ℕ → Option ℕ
 or_line None later = later
@@ -62,40 +59,40 @@ unbuilt_steps (task_step t ss) = or_line (line_unless (is_built_task t) t.line) 
 unbuilt_steps (block_step b body rescue always ss) = Some b.line
 unbuilt_steps (flush_step l ss) = Some l
 
--- of a section that isn't built, whatever stands in it
 abbrev pub first_line : Steps → Option ℕ
 first_line no_steps = None
 first_line (task_step t ss) = Some t.line
 first_line (block_step b body rescue always ss) = Some b.line
 first_line (flush_step l ss) = Some l
 
-abbrev pub first_handler : List HandlerData → Option ℕ
-first_handler [] = None
-first_handler (h ∷ hs) = Some h.work.line
-
--- the pattern is the text `all`
+-- the words of the pattern are `all` alone
 abbrev pub names_all : List Name → Bool
 names_all (n ∷ []) = bytes_eq n (codes "all")
 names_all ns = false
 
+-- no section but `tasks`, and no handlers
+abbrev pub has_tasks_alone : PlayData → Bool
+has_tasks_alone p = is_missing (first_line p.pre_tasks)
+    && (is_missing (first_line p.post_tasks) && is_nothing p.handlers)
+
 -- all hosts at once, step by step, without variables of the play's own
-abbrev pub is_built_head : List Name → PlayData → Bool
-is_built_head ns p = names_all ns && (is_missing p.gathering && (has_no_parts p.vars
-    && (p.is_linear && (is_nothing p.serial && not p.forces))))
+abbrev pub is_built_head : PlayData → Bool
+is_built_head p = names_all p.pattern && (is_missing p.gathering && (has_no_parts p.vars
+    && (p.is_linear && (is_nothing p.serial && (not p.forces && has_tasks_alone p)))))
 
-abbrev pub unbuilt_sections : PlayData → Option ℕ
-unbuilt_sections p = or_line (first_line p.pre_tasks) (or_line (unbuilt_steps p.tasks)
-    (or_line (first_line p.post_tasks) (first_handler p.handlers)))
-
--- of a play whose pattern has those texts
-abbrev pub unbuilt_play : List Name → PlayData → Option ℕ
-unbuilt_play ns p = or_line (line_unless (is_built_head ns p) p.line) (unbuilt_sections p)
-
-abbrev pub unbuilt_line : Play → Option ℕ
-unbuilt_line p = unbuilt_play (names_view p.pattern.items) (play_view p)
+abbrev pub unbuilt_play : PlayData → Option ℕ
+unbuilt_play p = or_line (line_unless (is_built_head p) p.line) (unbuilt_steps p.tasks)
 
 -- of a book; a second play isn't built
-abbrev pub first_unbuilt : List Play → Option ℕ
+abbrev pub first_unbuilt : Book → Option ℕ
 first_unbuilt [] = None
-first_unbuilt (p ∷ []) = unbuilt_line p
-first_unbuilt (p ∷ q ∷ ps) = or_line (unbuilt_line p) (Some (play_view q).line)
+first_unbuilt (p ∷ []) = unbuilt_play p
+first_unbuilt (p ∷ q ∷ ps) = or_line (unbuilt_play p) (Some q.line)
+
+abbrev pub plain_unless : Option ℕ → Book → Result Book ℕ
+plain_unless None b = Ok b
+plain_unless (Some l) b = Err l
+
+-- the book itself, or the least line of a form that isn't built
+abbrev pub plain_in : Book → Result Book ℕ
+plain_in b = plain_unless (first_unbuilt b) b

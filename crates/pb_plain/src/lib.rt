@@ -1,10 +1,20 @@
-// Which forms of a book can't be judged and run so far, and the line of the first.
+// Books as far as they can be judged and run: plain ones, and the line of the first form that isn't
+// built yet.
 //
-//     if let Some(line) = first_unbuilt(&plays) { .. } // not built yet, at that line
+//     match PlainBook::of(alloc, book) {
+//         Ok(plain) => { .. }
+//         Err(PlainFault::NotBuilt(line)) => { .. }
+//         Err(PlainFault::NoMemory) => { .. }
+//     }
 #![tactic(auto)]
 
+pub mod book;
+pub mod build;
+pub mod fault;
 pub mod simple;
 pub mod unbuilt;
 
+pub use book::{PlainBook, Play, Task, Work};
+pub use fault::PlainFault;
 pub use simple::is_simple;
 pub use unbuilt::first_unbuilt;

@@ -1,18 +1,22 @@
 // The first form of a book that can't be judged and run so far.
-ghost use Rattle.std.specs.Prelude.{◌≡◌, map};
+ghost use Rattle.std.specs.Prelude.{[], ◌==◌, ◌||◌, ◌≡◌, map};
+ghost use Rattle.std.specs.List.{list_any};
 ghost use Rattle.pb_language.specs.Book.{Steps};
+ghost use Rattle.pb_language.specs.BookForm.{words_from};
 ghost use Rattle.pb_language.specs.Simple.{parts_simple};
 ghost use Rattle.pb_syntax.specs.Words.{exprs_view};
 ghost use Rattle.pb_template.specs.Words.{entries_view};
 ghost use Rattle.pb_task.specs.Words.{names_view, task_view, work_view};
 ghost use Rattle.pb_play.specs.Words.{cut_view, handler_view, play_view, step_view, steps_view};
-ghost use Rattle.pb_plain.specs.Unbuilt.{first_handler, first_line, first_unbuilt, has_no_more};
+ghost use Rattle.pb_play.specs.Words.{words_in};
+ghost use Rattle.pb_plain.specs.Unbuilt.{first_line, first_unbuilt, has_no_more, has_tasks_alone};
 ghost use Rattle.pb_plain.specs.Unbuilt.{has_own_outcome, is_built_condition, is_built_head};
 ghost use Rattle.pb_plain.specs.Unbuilt.{is_built_task, is_built_work, names_all, or_line};
 ghost use Rattle.pb_plain.specs.Unbuilt.{has_no_parts, is_nothing};
-ghost use Rattle.pb_plain.specs.Unbuilt.{unbuilt_line, unbuilt_sections, unbuilt_steps};
+ghost use Rattle.pb_plain.specs.Unbuilt.{unbuilt_play, unbuilt_steps};
 
 use crate::simple::is_simple;
+use pb_inventory::word_in;
 use pb_play::{Cut, Handler, Play, Step, Strategy};
 use pb_syntax::Expr;
 use pb_task::{Task, Work};
@@ -20,18 +24,18 @@ use pb_template::Entry;
 use std::sync::Arc;
 
 /// The least line of the plays that uses a form which can't be judged and run so far, where there
-/// is one. Built are: no play, or one on `all` in the linear strategy, with `tasks` and no other
-/// section, handlers, variables, gathering, `serial` or `force_handlers`. Its tasks stand in no
-/// block, call a module other than `setup`, show a message or set variables, and have no keyword
-/// but `name`, `register` and `when` with at most one condition; their expressions read the host's
-/// own variables alone.
+/// is one. Built are: no play, or one on the one word `all` in the linear strategy, without another
+/// section than `tasks`, handlers, variables, gathering, `serial` or `force_handlers`, all of which
+/// are told at the play's line. Its tasks stand in no block, call a module other than `setup`, show
+/// a message or set variables, and say nothing by another keyword than `name`, `register` and
+/// `when` with at most one condition; their expressions read the host's own variables alone.
 pub fn first_unbuilt(plays: &[Play]) -> Option<u32>
-    ensures { result ≡ first_unbuilt plays.now }
+    ensures { result ≡ first_unbuilt (map play_view plays.now) }
 {
     if plays.is_empty() {
         return None;
     }
-    if let Some(line) = unbuilt_line(&plays[0]) {
+    if let Some(line) = unbuilt_play(&plays[0]) {
         return Some(line);
     }
     if plays.len() > 1 {
@@ -40,11 +44,11 @@ pub fn first_unbuilt(plays: &[Play]) -> Option<u32>
     None
 }
 
-fn unbuilt_line(play: &Play) -> Option<u32>
-    ensures { result ≡ unbuilt_line play.now }
+fn unbuilt_play(play: &Play) -> Option<u32>
+    ensures { result ≡ unbuilt_play (play_view play.now) }
 {
     if is_built_head(play) {
-        unbuilt_sections(play)
+        unbuilt_steps(play.tasks.as_slice())
     } else {
         Some(play.line)
     }
@@ -52,7 +56,7 @@ fn unbuilt_line(play: &Play) -> Option<u32>
 
 // Whether the play runs on all hosts at once, step by step, without variables of its own.
 fn is_built_head(play: &Play) -> bool
-    ensures { result ≡ is_built_head (names_view play.now.pattern.items) (play_view play.now) }
+    ensures { result ≡ is_built_head (play_view play.now) }
 {
     names_all(play.pattern.as_slice())
         && play.gathering.is_none()
@@ -60,6 +64,22 @@ fn is_built_head(play: &Play) -> bool
         && play.strategy == Strategy::Linear
         && cuts_nothing(play.serial.as_slice())
         && !play.force_handlers
+        && has_tasks_alone(play)
+}
+
+// Whether it has no section but `tasks`, and no handlers.
+fn has_tasks_alone(play: &Play) -> bool
+    ensures { result ≡ has_tasks_alone (play_view play.now) }
+{
+    first_line(play.pre_tasks.as_slice()).is_none()
+        && first_line(play.post_tasks.as_slice()).is_none()
+        && has_no_handlers(play.handlers.as_slice())
+}
+
+fn has_no_handlers(handlers: &[Handler]) -> bool
+    ensures { result ≡ is_nothing (map handler_view handlers.now) }
+{
+    handlers.is_empty()
 }
 
 fn cuts_nothing(serial: &[Cut]) -> bool
@@ -80,35 +100,29 @@ fn names_nothing(names: &[Arc<String>]) -> bool
     names.is_empty()
 }
 
+// Whether the words of the texts are `all` alone.
 fn names_all(texts: &[Arc<String>]) -> bool
-    ensures { result ≡ names_all (names_view texts.now) }
+    ensures { result ≡ names_all (words_in (names_view texts.now)) }
 {
-    texts.len() == 1 && texts[0].as_str() == "all"
+    texts.len() == 1 && is_all(texts[0].as_str())
 }
 
-fn unbuilt_sections(play: &Play) -> Option<u32>
-    ensures { result ≡ unbuilt_sections (play_view play.now) }
+fn is_all(text: &str) -> bool
+    ensures { result ≡ names_all (words_from [] text.now) }
 {
-    if let Some(line) = first_line(play.pre_tasks.as_slice()) {
-        return Some(line);
-    }
-    if let Some(line) = unbuilt_steps(play.tasks.as_slice()) {
-        return Some(line);
-    }
-    if let Some(line) = first_line(play.post_tasks.as_slice()) {
-        return Some(line);
-    }
-    first_handler(play.handlers.as_slice())
+    !is_divided(text.as_bytes()) && word_in(text) == "all"
 }
 
-fn first_handler(handlers: &[Handler]) -> Option<u32>
-    ensures { result ≡ first_handler (map handler_view handlers.now) }
+// Whether some byte divides words.
+fn is_divided(text: &[u8]) -> bool
+    ensures { result ≡ list_any (λ b. (b == 58) || (b == 44)) text.now }
 {
-    if handlers.is_empty() {
-        None
-    } else {
-        Some(handlers[0].task.line)
+    for byte in text {
+        if *byte == b':' || *byte == b',' {
+            return true;
+        }
     }
+    false
 }
 
 fn first_line(steps: &[Step]) -> Option<u32>

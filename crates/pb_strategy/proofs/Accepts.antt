@@ -15,10 +15,10 @@ use Rattle.pb_language.proofs.PlainEval.{no_play_runs}
 use Rattle.pb_language.proofs.PlainSteps.{plain_runs, plain_enabled}
 use Rattle.pb_sig.specs.Modules.{modules_of}
 use Rattle.pb_inventory.specs.Inventory.{inventory_view}
-use Rattle.pb_book.specs.Books.{plays_of, book_of}
-use Rattle.pb_book.specs.Lines.{is_numbered}
-use Rattle.pb_book.specs.Meaning.{plain_tasks, are_plain_plays}
-use Rattle.pb_book.specs.declared.book.Play.{Play}
+use Rattle.pb_plain.specs.Books.{plays_of, book_of}
+use Rattle.pb_plain.specs.Lines.{is_numbered}
+use Rattle.pb_plain.specs.Meaning.{plain_tasks, are_plain_plays}
+use Rattle.pb_plain.specs.declared.book.Play.{Play}
 use Rattle.pb_verify.specs.Built.{is_lone}
 use Rattle.pb_verify.specs.Judges.{run_of_accepted}
 use Rattle.pb_verify.specs.declared.checked.Accepted.{Accepted}

@@ -17,8 +17,8 @@ use Rattle.pb_language.proofs.PlainGives.{taken_record, taken_fields, taken_give
 use Rattle.pb_value.specs.View.{view, fields_view}
 use Rattle.pb_value.proofs.Fields.{Entry}
 use Rattle.pb_value.specs.Append.{append_fields}
-use Rattle.pb_book.specs.Meaning.{plain_task}
-use Rattle.pb_book.specs.declared.book.Task.{Task}
+use Rattle.pb_plain.specs.Meaning.{plain_task}
+use Rattle.pb_plain.specs.declared.book.Task.{Task}
 use Rattle.pb_strategy.specs.Events.{answer_data}
 use Rattle.pb_strategy.specs.Outcomes.{IsOutcome, ComesTo, AnswersAs, IsSettled}
 use Rattle.pb_strategy.specs.declared.answer.Answer.{Answer}

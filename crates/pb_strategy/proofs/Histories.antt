@@ -12,7 +12,7 @@ use Rattle.pb_strategy.specs.Jobs.{ticket_out}
 use Rattle.pb_strategy.specs.Tally.{IsTally}
 use Rattle.pb_inventory.specs.Inventory.{inventory_view}
 use Rattle.std.proofs.lemmas.List.{length-map, length_push}
-use Rattle.pb_book.specs.Books.{plays_of}
+use Rattle.pb_plain.specs.Books.{plays_of}
 use Rattle.pb_strategy.specs.declared.event.Event.{Event}
 use Rattle.pb_strategy.specs.declared.event.Event.TheVariants.{Turn, Stop}
 use Rattle.pb_strategy.specs.declared.run.Run.TheInside.{Inside}

@@ -21,13 +21,15 @@ use Rattle.pb_language.proofs.PlainEval.{plain_run_more, history_more}
 use Rattle.pb_value.specs.View.{view, fields_view}
 use Rattle.pb_expr.specs.OwnWorld.{own_world}
 use Rattle.pb_sig.specs.Modules.{modules_of, module_at}
-use Rattle.pb_book.specs.Books.{plays_of}
-use Rattle.pb_book.specs.Lines.{is_numbered, are_from, finds_plain, is_known, are_known, names_known, are_ascending, argument_names, are_ordered}
-use Rattle.pb_book.specs.Meaning.{plain_task, plain_tasks, are_plain_plays, argument_parts, work_of}
-use Rattle.pb_book.specs.declared.book.Play.{Play}
-use Rattle.pb_book.specs.declared.book.Task.{Task}
-use Rattle.pb_book.specs.declared.book.Work.{Work}
-use Rattle.pb_book.specs.declared.book.Work.TheVariants.{Module, Debug, SetFact}
+use Rattle.pb_plain.specs.Books.{plays_of}
+use Rattle.pb_template.specs.Entries.{are_ascending, entry_names}
+use Rattle.pb_plain.specs.Lines.{are_from, are_known, are_ordered, finds_plain, is_known, is_numbered, names_known}
+use Rattle.pb_template.specs.Entries.{entries_view}
+use Rattle.pb_plain.specs.Meaning.{are_plain_plays, plain_task, plain_tasks, work_of}
+use Rattle.pb_plain.specs.declared.book.Play.{Play}
+use Rattle.pb_plain.specs.declared.book.Task.{Task}
+use Rattle.pb_plain.specs.declared.book.Work.{Work}
+use Rattle.pb_plain.specs.declared.book.Work.TheVariants.{Module, Debug, SetFact}
 use Rattle.pb_inventory.specs.Inventory.{inventory_view}
 use Rattle.pb_verify.specs.Built.{is_lone}
 use Rattle.pb_verify.specs.Judges.{is_accepted, run_of_accepted}
@@ -69,8 +71,8 @@ at_each f g parts [] p t e h = cc
 at_each f g parts (x ∷ ts) zero t e h = let same : x ≡ t = cc in rw (← same) (and-left (f x) (g ts) (sym (parts x ts) ∙ h))
 at_each f g parts (x ∷ ts) (suc p) t e h = at_each f g parts ts p t e (and-right (f x) (g ts) (sym (parts x ts) ∙ h))
 
-pub ordered_at : (ts : List Task) (p : ℕ) (t : Task) → slice_get ts p ≡ Some t → are_ordered ts ≡ true → are_ascending (argument_names t.arguments.items) ≡ true
-ordered_at ts p t e h = at_each (λ x. are_ascending (argument_names x.arguments.items)) are_ordered (λ x xs. refl) ts p t e h
+pub ordered_at : (ts : List Task) (p : ℕ) (t : Task) → slice_get ts p ≡ Some t → are_ordered ts ≡ true → are_ascending (entry_names t.arguments.items) ≡ true
+ordered_at ts p t e h = at_each (λ x. are_ascending (entry_names x.arguments.items)) are_ordered (λ x xs. refl) ts p t e h
 
 pub known_at : (ms : List ModuleData) (ts : List Task) (p : ℕ) (t : Task) → slice_get ts p ≡ Some t → are_known ms ts ≡ true → is_known ms t.work ≡ true
 known_at ms ts p t e h = at_each (λ x. is_known ms x.work) (are_known ms) (λ x xs. refl) ts p t e h
@@ -103,7 +105,7 @@ named_as : (n : List ℕ) (ms : List ModuleData) (o : Option ModuleData) → mod
 named_as n ms (Some m) e h = sym (module_name n ms m e) ∙ ap (λ (k : ModuleData). k.name) (sym (module_named-found n ms m e))
 named_as n ms None e h = untrue h
 
-called_same : (ms : List ModuleData) (t : Task) (w : Work) → t.work ≡ w → is_known ms w ≡ true → called_name w ≡ action_name (plain_action ms (work_of w (argument_parts t.arguments.items)))
+called_same : (ms : List ModuleData) (t : Task) (w : Work) → t.work ≡ w → is_known ms w ≡ true → called_name w ≡ action_name (plain_action ms (work_of w (entries_view t.arguments.items)))
 called_same ms t (Module n) e h = named_as (string_bytes n.value) ms (module_at (string_bytes n.value) ms) refl h
 called_same ms t Debug e h = refl
 called_same ms t SetFact e h = refl
@@ -384,7 +386,7 @@ module _ (a : Accepted) (forks : ℕ) where
         (ap (λ (r : PlainRun). r.is_stopped) step ∙ sym halted)
 
 -- a task that is looked up stands in the order that its list has
-pub are_ascending-found : (ts : List Task) (p : ℕ) (r : Option (Bor Task)) → is_some r ≡ nat_lt p (length ts) → IfSome r (λ t. t.now ≡ get_or ts p t.now) → are_ordered ts ≡ true → IfSome r (λ t. are_ascending (argument_names t.now.arguments.items) ≡ true)
+pub are_ascending-found : (ts : List Task) (p : ℕ) (r : Option (Bor Task)) → is_some r ≡ nat_lt p (length ts) → IfSome r (λ t. t.now ≡ get_or ts p t.now) → are_ordered ts ≡ true → IfSome r (λ t. are_ascending (entry_names t.now.arguments.items) ≡ true)
 are_ascending-found ts p None i e h = tt
 are_ascending-found ts p (Some t) i e h = ordered_at ts p t.now (slice_get_read ts (length ts) p t.now refl (ltb-true p (length ts) (sym i)) e) h
 

@@ -11,8 +11,8 @@ use Rattle.pb_language.specs.plain.Machine.{PlainRun, plain_step, plain_is_enabl
 use Rattle.pb_language.proofs.PlainSteps.{plain_enabled, plain_follows}
 use Rattle.pb_sig.specs.Modules.{modules_of}
 use Rattle.pb_inventory.specs.Inventory.{inventory_view}
-use Rattle.pb_book.specs.Books.{plays_of, book_of}
-use Rattle.pb_book.specs.Meaning.{plain_tasks}
+use Rattle.pb_plain.specs.Books.{plays_of, book_of}
+use Rattle.pb_plain.specs.Meaning.{plain_tasks}
 use Rattle.pb_verify.specs.declared.checked.Accepted.{Accepted}
 use Rattle.pb_verify.proofs.AcceptedRuns.{is_stuck-accepted, handed-accepted, are_distinct-hosts, judged-accepted}
 use Rattle.pb_strategy.specs.Events.{event_data, recap_data}

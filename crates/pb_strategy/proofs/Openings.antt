@@ -10,11 +10,11 @@ use Rattle.pb_language.specs.plain.Machine.{PlainRun, before}
 use Rattle.pb_value.specs.View.{view, fields_view}
 use Rattle.pb_sig.specs.Modules.{modules_of}
 use Rattle.pb_inventory.specs.Inventory.{inventory_view}
-use Rattle.pb_book.specs.Books.{plays_of}
-use Rattle.pb_book.specs.Lines.{names_known}
-use Rattle.pb_book.specs.Meaning.{plain_tasks}
-use Rattle.pb_book.specs.declared.book.Play.{Play}
-use Rattle.pb_book.specs.declared.book.Task.{Task}
+use Rattle.pb_plain.specs.Books.{plays_of}
+use Rattle.pb_plain.specs.Lines.{names_known}
+use Rattle.pb_plain.specs.Meaning.{plain_tasks}
+use Rattle.pb_plain.specs.declared.book.Play.{Play}
+use Rattle.pb_plain.specs.declared.book.Task.{Task}
 use Rattle.pb_verify.specs.Built.{is_lone}
 use Rattle.pb_verify.specs.Judges.{is_accepted}
 use Rattle.pb_verify.specs.declared.checked.Accepted.{Accepted}

@@ -9,7 +9,7 @@ use Rattle.pb_language.specs.Machine as machine
 use Rattle.pb_language.specs.Machine.{State, enabled, history, run_from, start, give, step, stop}
 use Rattle.pb_language.specs.plain.Machine.{PlainRun, plain_is_possible, is_inside, is_going}
 use Rattle.pb_language.proofs.PlainEval.{history_kept}
-use Rattle.pb_book.specs.Books.{plays_of}
+use Rattle.pb_plain.specs.Books.{plays_of}
 use Rattle.pb_verify.specs.declared.checked.Accepted.{Accepted}
 use Rattle.pb_strategy.specs.Events.{event_data, event_view}
 use Rattle.pb_strategy.specs.History.{RunState, after, enabled_of, Follows, is_over, is_stopped, state_of}

@@ -11,16 +11,16 @@ use Rattle.pb_syntax.specs.ExprView.{parts_view}
 use Rattle.pb_expr.specs.OwnWorld.{shown}
 use Rattle.pb_syntax.specs.declared.expr.Expr.{Expr}
 use Rattle.pb_expr.proofs.Ascending.{Above, Ascending}
-use Rattle.pb_book.specs.Lines.{is_below, are_ascending, argument_names}
-use Rattle.pb_book.specs.Meaning.{argument_parts}
-use Rattle.pb_book.specs.declared.book.Argument.{Argument}
+use Rattle.pb_template.specs.Entries.{are_ascending, entry_names, is_below}
+use Rattle.pb_template.specs.Entries.{entries_view}
+use Rattle.pb_template.specs.declared.entry.Entry.{Entry}
 use Rattle.pb_strategy.specs.Outcomes.{is_true}
 
 -- the arguments as the entries of a map
-abbrev pub argument_entries : List Argument → List (String Global × Expr)
+abbrev pub argument_entries : List Entry → List (String Global × Expr)
 argument_entries xs = map (λ a. (a.name.value, a.value)) xs
 
-pub parts_of-arguments : (xs : List Argument) → parts_view (argument_entries xs) ≡ argument_parts xs
+pub parts_of-arguments : (xs : List Entry) → parts_view (argument_entries xs) ≡ entries_view xs
 parts_of-arguments [] = refl
 parts_of-arguments (a ∷ xs) = rw (parts_of-arguments xs) refl
 
@@ -29,18 +29,18 @@ less Less h = refl
 less Equal h = cc
 less Greater h = cc
 
-above-below : (n : String Global) (xs : List Argument) → is_below (string_bytes n) (argument_names xs) ≡ true → Above n (argument_entries xs)
+above-below : (n : String Global) (xs : List Entry) → is_below (string_bytes n) (entry_names xs) ≡ true → Above n (argument_entries xs)
 above-below n [] h = tt
 above-below n (a ∷ xs) h =
-    let here : is_lt (string_cmp n a.name.value) ≡ true = and-left _ (is_below (string_bytes n) (argument_names xs)) h in
+    let here : is_lt (string_cmp n a.name.value) ≡ true = and-left _ (is_below (string_bytes n) (entry_names xs)) h in
     (less (string_cmp n a.name.value) here, above-below n xs (and-right (is_lt (string_cmp n a.name.value)) _ h))
 
 -- they stand in a map's order
-pub ascending-arguments : (xs : List Argument) → are_ascending (argument_names xs) ≡ true → Ascending (argument_entries xs)
+pub ascending-arguments : (xs : List Entry) → are_ascending (entry_names xs) ≡ true → Ascending (argument_entries xs)
 unfolding IsStrictlySortedBy
 ascending-arguments [] h = tt
 ascending-arguments (a ∷ xs) h =
-    (above-below a.name.value xs (and-left _ (are_ascending (argument_names xs)) h), ascending-arguments xs (and-right (is_below (string_bytes a.name.value) (argument_names xs)) _ h))
+    (above-below a.name.value xs (and-left _ (are_ascending (entry_names xs)) h), ascending-arguments xs (and-right (is_below (string_bytes a.name.value) (entry_names xs)) _ h))
 
 -- of a task without a loop
 abbrev pub alone_plan : Made → Plan

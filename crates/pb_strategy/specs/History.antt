@@ -6,8 +6,8 @@ use Rattle.std.specs.Global.{Vec}
 use Rattle.pb_language.specs.Machine as language
 use Rattle.pb_language.specs.Machine.{State, enabled, step}
 use Rattle.pb_inventory.specs.Inventory.{inventory_view}
-use Rattle.pb_book.specs.Books.{plays_of}
-use Rattle.pb_book.specs.declared.book.Play.{Play}
+use Rattle.pb_plain.specs.Books.{plays_of}
+use Rattle.pb_plain.specs.declared.book.Play.{Play}
 use Rattle.pb_verify.specs.Judges.{run_of_accepted}
 use Rattle.pb_verify.specs.declared.checked.Accepted.{Accepted}
 use Rattle.pb_strategy.specs.Events.{event_data, event_view, call_data}

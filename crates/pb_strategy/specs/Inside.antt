@@ -7,8 +7,8 @@ use Rattle.pb_language.specs.Machine.{history}
 use Rattle.pb_language.specs.plain.Gives.{action_fields}
 use Rattle.pb_value.specs.View.{view}
 use Rattle.pb_sig.specs.Modules.{modules_of}
-use Rattle.pb_book.specs.Books.{plays_of}
-use Rattle.pb_book.specs.Lines.{names_known}
+use Rattle.pb_plain.specs.Books.{plays_of}
+use Rattle.pb_plain.specs.Lines.{names_known}
 use Rattle.pb_inventory.specs.Inventory.{inventory_view}
 use Rattle.pb_verify.specs.Built.{is_lone}
 use Rattle.pb_verify.specs.Judges.{is_accepted, run_of_accepted}

@@ -15,10 +15,10 @@ use Rattle.pb_language.specs.plain.Books.{PlainTask}
 use Rattle.pb_language.specs.plain.Gives.{a_pass, after_came, put_all, goes_on}
 use Rattle.pb_language.specs.plain.Machine.{PlainRun, answered}
 use Rattle.pb_value.specs.View.{fields_view}
-use Rattle.pb_book.specs.Meaning.{plain_task}
-use Rattle.pb_book.specs.declared.book.Task.{Task}
-use Rattle.pb_book.specs.declared.book.Work.{Work}
-use Rattle.pb_book.specs.declared.book.Work.TheVariants.{Module, Debug, SetFact}
+use Rattle.pb_plain.specs.Meaning.{plain_task}
+use Rattle.pb_plain.specs.declared.book.Task.{Task}
+use Rattle.pb_plain.specs.declared.book.Work.{Work}
+use Rattle.pb_plain.specs.declared.book.Work.TheVariants.{Module, Debug, SetFact}
 use Rattle.pb_strategy.specs.Endings.{came_of}
 use Rattle.pb_strategy.specs.Events.{answer_data, call_data}
 use Rattle.pb_strategy.specs.OwnNames.{AreSame}

@@ -10,10 +10,10 @@ use Rattle.pb_language.specs.plain.Machine.{plain_run_from, are_left, ended_open
 use Rattle.pb_value.specs.View.{view, fields_view}
 use Rattle.pb_sig.specs.Modules.{modules_of}
 use Rattle.pb_inventory.specs.Inventory.{inventory_view}
-use Rattle.pb_book.specs.Books.{plays_of}
-use Rattle.pb_book.specs.Meaning.{plain_tasks}
-use Rattle.pb_book.specs.declared.book.Play.{Play}
-use Rattle.pb_book.specs.declared.book.Task.{Task}
+use Rattle.pb_plain.specs.Books.{plays_of}
+use Rattle.pb_plain.specs.Meaning.{plain_tasks}
+use Rattle.pb_plain.specs.declared.book.Play.{Play}
+use Rattle.pb_plain.specs.declared.book.Task.{Task}
 use Rattle.pb_verify.specs.declared.checked.Accepted.{Accepted}
 use Rattle.pb_strategy.specs.Events.{event_data, recap_data}
 use Rattle.pb_strategy.specs.OwnNames.{AreSame}

@@ -11,8 +11,9 @@ ghost use Rattle.pb_language.specs.Words.{unchanged, with_pass};
 ghost use Rattle.pb_value.specs.Words.{append_fields, fields_view, view};
 ghost use Rattle.pb_expr.specs.Words.{own_world, shown};
 ghost use Rattle.pb_sig.specs.Words.{known_view, modules_of};
-ghost use Rattle.pb_book.specs.Words.{are_ascending, argument_names, argument_parts, is_known};
-ghost use Rattle.pb_book.specs.Words.{plain_task};
+ghost use Rattle.pb_template.specs.Words.{are_ascending, entries_view, entry_names};
+ghost use Rattle.pb_plain.specs.Words.{is_known};
+ghost use Rattle.pb_plain.specs.Words.{plain_task};
 ghost use Rattle.pb_strategy.specs.Outcomes.{AnswersAs, ComesTo, IsOutcome, IsSettled, Makes};
 ghost use Rattle.pb_strategy.specs.Outcomes.{calls_in, is_true as says_true};
 ghost use Rattle.pb_strategy.specs.OwnNames.{own_fields};
@@ -21,9 +22,10 @@ ghost use Rattle.pb_strategy.specs.Passes.{IsPending};
 use crate::answer::{Answer, Call};
 use crate::host::{HostState, HostVars, Pending};
 use crate::recap::Ending;
-use pb_book::{Argument, Task, Work};
 use pb_expr::eval::eval;
+use pb_plain::{Task, Work};
 use pb_sig::{Admission, Known, Registry, admit};
+use pb_template::Entry;
 use pb_value::{Fields, Value, put_field};
 use std::alloc::{AllocError, Global};
 use std::sync::Arc;
@@ -91,7 +93,7 @@ pub fn start(
     host: usize,
     state: &HostState,
 ) -> Result<Started, AllocError>
-    requires ordered { are_ascending (argument_names task.now.arguments.items) ≡ true }
+    requires ordered { are_ascending (entry_names task.now.arguments.items) ≡ true }
     ensures { IfOk result (λ s. (ms : Modules) (p : ℕ)
         → Makes s.pending (calls_in s.call) task.now host state.now
         (plan_of (own_world (own_fields state.now.vars)) (plain_run ms p (plain_task task.now))
@@ -110,7 +112,7 @@ pub fn start(
 
 // The start of a task whose condition holds.
 fn begun(alloc: Global, task: &Task, host: usize, state: &HostState) -> Result<Started, AllocError>
-    requires ordered { are_ascending (argument_names task.now.arguments.items) ≡ true }
+    requires ordered { are_ascending (entry_names task.now.arguments.items) ≡ true }
     ensures { IfOk result (λ s. (ms : Modules)
         → Makes s.pending (calls_in s.call) task.now host state.now
         (with_pass None (eval_action (own_world (own_fields state.now.vars))
@@ -157,10 +159,10 @@ fn facts_pending(arguments: Value) -> Pending
 }
 
 // The record of the arguments' values; opaque where one may not be read.
-fn evaluated(alloc: Global, arguments: &[Argument], vars: &HostVars) -> Result<Value, AllocError>
-    requires { are_ascending (argument_names arguments.now) ≡ true }
+fn evaluated(alloc: Global, arguments: &[Entry], vars: &HostVars) -> Result<Value, AllocError>
+    requires { are_ascending (entry_names arguments.now) ≡ true }
     ensures { IfOk result (λ v. view v
-        ≡ shown (eval_parts (own_world (own_fields vars.now)) (argument_parts arguments.now))) }
+        ≡ shown (eval_parts (own_world (own_fields vars.now)) (entries_view arguments.now))) }
 {
     let mut fields = Fields::new(alloc);
     for argument in arguments {

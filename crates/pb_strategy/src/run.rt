@@ -11,8 +11,9 @@ ghost use Rattle.pb_value.specs.Words.{view};
 ghost use Rattle.pb_expr.specs.Words.{own_world};
 ghost use Rattle.pb_sig.specs.Words.{modules_of};
 ghost use Rattle.pb_inventory.specs.Words.{inventory_view};
-ghost use Rattle.pb_book.specs.Words.{are_ascending, are_known, are_ordered, argument_names};
-ghost use Rattle.pb_book.specs.Words.{names_known, plain_task, plays_of};
+ghost use Rattle.pb_template.specs.Words.{are_ascending, entry_names};
+ghost use Rattle.pb_plain.specs.Words.{are_known, are_ordered};
+ghost use Rattle.pb_plain.specs.Words.{names_known, plain_task, plays_of};
 ghost use Rattle.pb_verify.specs.Words.{is_accepted, is_lone};
 ghost use Rattle.pb_strategy.specs.Events.{answer_data, event_view, recap_data, why_of};
 ghost use Rattle.pb_strategy.specs.History.{Follows, IsAfterJob, IsAfterTake, RunState, after};
@@ -35,7 +36,7 @@ use crate::event::{Event, GiveError, Given, Taken};
 use crate::host::{HostState, Pending, Stage};
 use crate::outcome::{FixedResults, Outcome, Started, finish, start};
 use crate::recap::Recap;
-use pb_book::Task;
+use pb_plain::Task;
 use pb_verify::Checked;
 use std::alloc::{AllocError, Global};
 use std::marker::Model;
@@ -671,7 +672,7 @@ fn task_of<'c>(checked: &'c Checked, hosts: &[HostState], host: usize) -> Option
         → option_map (λ t. t.now) result
         ≡ slice_get (tasks_in (plays_of checked.now.book)) s.place }
     ensures ordered { IfSome result
-        (λ t. are_ascending (argument_names t.now.arguments.items) ≡ true) }
+        (λ t. are_ascending (entry_names t.now.arguments.items) ≡ true) }
 {
     match hosts.get(host) {
         Some(state) => tasks_of(checked).get(state.place),

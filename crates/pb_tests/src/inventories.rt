@@ -1,4 +1,4 @@
-// Texts that are an inventory, and texts that aren't.
+// Texts that are an inventory, texts that aren't, and verdicts on what isn't built yet.
 use crate::runs::ONE_PING;
 use pb_book::Book;
 use pb_inventory::{Inventory, InventoryFault, PatternFault};
@@ -147,24 +147,41 @@ fn too_long(rt: HostRuntime) -> Result<(), Fail> {
     Ok(())
 }
 
-// The code with which a book of one ping is refused for the inventory; none where it isn't refused.
-fn code_for(alloc: Global, inventory: &[u8]) -> Option<Code> {
+// The code and the line with which a book is refused for an inventory; none where it isn't refused.
+fn refusal_of(alloc: Global, book: &[u8], inventory: &[u8]) -> Option<(Code, u32)> {
     let registry = Registry::builtin(alloc).ok()?;
     let inventory = Inventory::read(alloc, inventory).ok()?;
-    let book = Book::read(alloc, ONE_PING, &registry).ok()?;
+    let book = Book::read(alloc, book, &registry).ok()?;
     match verify(alloc, book, inventory, registry) {
-        Err(VerifyFault::Refused(refusal)) => Some(refusal.code),
+        Err(VerifyFault::Refused(refusal)) => Some((refusal.code, refusal.line)),
         Ok(_) | Err(VerifyFault::NoMemory) => None,
     }
 }
 
 #[test]
 fn not_built_yet(rt: HostRuntime) {
-    let two = code_for(rt.alloc(), br#"{"all":{"hosts":["h1","h2"]}}"#);
-    let grouped = code_for(rt.alloc(), br#"{"web":{"hosts":["h1"]}}"#);
-    let variable = code_for(rt.alloc(), br#"{"all":{"hosts":["h1"],"vars":{"a":1}}}"#);
-    assert_eq!(rt;
-        (two, grouped, variable),
-        (Some(Code::N00), Some(Code::N00), Some(Code::N00))
+    let two = refusal_of(rt.alloc(), ONE_PING, br#"{"all":{"hosts":["h1","h2"]}}"#);
+    let grouped = refusal_of(rt.alloc(), ONE_PING, br#"{"web":{"hosts":["h1"]}}"#);
+    let variable = refusal_of(
+        rt.alloc(),
+        ONE_PING,
+        br#"{"all":{"hosts":["h1"],"vars":{"a":1}}}"#,
     );
+    let whole = Some((Code::N00, 0));
+    assert_eq!(rt; (two, grouped, variable), (whole, whole, whole));
+}
+
+// A ping, and then what isn't built.
+const PING_AND_LOOP: &[u8] =
+    br#"[{"hosts":"all","tasks":[{"ping":null},{"ping":null,"loop":[1]}]}]"#;
+
+#[test]
+fn a_form_that_is_not_built(rt: HostRuntime) {
+    let lone = refusal_of(rt.alloc(), PING_AND_LOOP, br#"{"all":{"hosts":["h1"]}}"#);
+    let two = refusal_of(
+        rt.alloc(),
+        PING_AND_LOOP,
+        br#"{"all":{"hosts":["h1","h2"]}}"#,
+    );
+    assert_eq!(rt; (lone, two), (Some((Code::N00, 3)), Some((Code::N00, 0))));
 }

@@ -10,7 +10,7 @@ use Rattle.pb_language.proofs.Sound.{never_stuck_from, within_budget_from}
 use Rattle.pb_language.proofs.Started.{start_claim}
 use Rattle.pb_sig.specs.Modules.{modules_of}
 use Rattle.pb_inventory.specs.Inventory.{inventory_view}
-use Rattle.pb_book.specs.Books.{book_of}
+use Rattle.pb_plain.specs.Books.{book_of}
 use Rattle.pb_verify.specs.Built.{is_lone}
 use Rattle.pb_verify.specs.Judges.{is_accepted, run_of_accepted}
 use Rattle.pb_verify.specs.declared.checked.Accepted.{Accepted}

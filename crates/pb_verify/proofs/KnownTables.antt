@@ -13,9 +13,9 @@ use Rattle.pb_language.specs.plain.Flow.{plain_writes}
 use Rattle.pb_language.specs.plain.Tables.{Joins}
 use Rattle.pb_language.proofs.PlainTables.{alike, play_joined}
 use Rattle.pb_inventory.specs.Inventory.{inventory_view}
-use Rattle.pb_book.specs.Meaning.{are_plain_plays, plain_tasks}
-use Rattle.pb_book.specs.Books.{plain_plays}
-use Rattle.pb_book.specs.declared.book.Play.{Play}
+use Rattle.pb_plain.specs.Meaning.{are_plain_plays, plain_tasks}
+use Rattle.pb_plain.specs.Books.{plain_plays}
+use Rattle.pb_plain.specs.declared.book.Play.{Play}
 use Rattle.pb_value.specs.KindView.{slots_view}
 use Rattle.pb_verify.specs.Built.{is_lone}
 use Rattle.pb_verify.specs.Known.{table_for, table_of, AreAlike, HasTable, IsTable, known_spot, view_at}

@@ -1,6 +1,7 @@
 -- An inventory that is lone is that of its host alone, and the other way round.
-use Rattle.std.proofs.Common.{◌≡◌, List, [], ◌∷◌, true, false, cond, codes, refl, sym, ap, ◌∙◌, map, length, Some, option_map, slice_get}
+use Rattle.std.proofs.Common.{ℕ, Option, None, Ok, ◌≡◌, List, [], ◌∷◌, true, false, cond, codes, refl, sym, ap, ◌∙◌, map, length, Some, option_map, slice_get}
 use Rattle.std.specs.Str.{bytes_eq}
+use Rattle.pb_semantics.specs.Gives.{FaultGives}
 use Rattle.pb_semantics.specs.Data.{Fields, no_fields, field}
 use Rattle.pb_semantics.proofs.Bools.{untrue, and-left, and-right}
 use Rattle.pb_semantics.proofs.Names.{same_name, own_name}
@@ -10,7 +11,15 @@ use Rattle.pb_language.specs.Judged.{judged}
 use Rattle.pb_language.specs.Program.{Inventory, memberships_of}
 use Rattle.pb_language.specs.World.{Group, HostVariables}
 use Rattle.pb_language.specs.plain.Books.{lone_host}
-use Rattle.pb_verify.specs.Built.{is_empty, are_only, is_group_of, are_groups_of, are_lone, is_lone, built_verdict, not_built}
+use Rattle.pb_verify.specs.Built.{is_empty, are_only, is_group_of, are_groups_of, are_lone, is_lone, built_verdict, not_built, unbuilt_at, unless_unbuilt}
+use Rattle.pb_verify.specs.Faults.{from_plain}
+use Rattle.pb_verify.specs.Judges.{refused_verdict}
+use Rattle.pb_verify.specs.declared.verify.VerifyFault.TheVariants as fault
+use Rattle.pb_plain.specs.Faults.{line_of}
+use Rattle.pb_plain.specs.Unbuilt.{first_unbuilt, plain_in}
+use Rattle.pb_plain.specs.declared.fault.PlainFault.{PlainFault}
+use Rattle.pb_plain.specs.declared.fault.PlainFault.TheVariants as plain
+use Rattle.pb_plain.proofs.Built.{plain-line, plain-ok}
 
 empty_fields : (fs : Fields) → is_empty fs ≡ true → fs ≡ no_fields
 empty_fields no_fields e = refl
@@ -86,9 +95,26 @@ length-groups f i l gs e =
     let groups : map f gs ≡ codes "ungrouped" ∷ [] = (cc) in
     one_item f (codes "ungrouped") gs groups
 
--- what is built is judged
-pub built_verdict-lone : (ms : Registry) (i : Inventory) (b : Book) → is_lone i ≡ true → built_verdict ms i b ≡ judged ms i b
-built_verdict-lone ms i b l = ap (λ q. cond q (judged ms i b) not_built) l
+-- of an inventory of a host alone the forms of the book decide
+pub unbuilt_at-lone : (i : Inventory) (b : Book) → is_lone i ≡ true → unbuilt_at i b ≡ first_unbuilt b
+unbuilt_at-lone i b l = ap (λ q. cond q (first_unbuilt b) (Some 0)) l
 
-pub built_verdict-other : (ms : Registry) (i : Inventory) (b : Book) → is_lone i ≡ false → built_verdict ms i b ≡ not_built
-built_verdict-other ms i b l = ap (λ q. cond q (judged ms i b) not_built) l
+pub built_verdict-other : (ms : Registry) (i : Inventory) (b : Book) → is_lone i ≡ false → built_verdict ms i b ≡ not_built 0
+built_verdict-other ms i b l = ap (λ q. unless_unbuilt (cond q (first_unbuilt b) (Some 0)) (judged ms i b)) l
+
+built_verdict-at : (ms : Registry) (i : Inventory) (b : Book) (o : Option ℕ) → is_lone i ≡ true → first_unbuilt b ≡ o → built_verdict ms i b ≡ unless_unbuilt o (judged ms i b)
+built_verdict-at ms i b o l e = ap (λ u. unless_unbuilt u (judged ms i b)) (unbuilt_at-lone i b l ∙ e)
+
+-- a plain book is judged
+pub built_verdict-plain : (ms : Registry) (i : Inventory) (b c : Book) → is_lone i ≡ true → plain_in b ≡ Ok c → built_verdict ms i b ≡ judged ms i c
+built_verdict-plain ms i b c l h =
+    let read = plain-ok b c h in built_verdict-at ms i b None l read.0 ∙ ap (judged ms i) read.1
+
+-- and another is refused at its line
+pub refused-plain : (ms : Registry) (i : Inventory) (b : Book) (f : PlainFault) → is_lone i ≡ true → FaultGives (line_of f) (plain_in b) → FaultGives (refused_verdict (from_plain f)) (built_verdict ms i b)
+refused-plain ms i b (plain.NotBuilt l) lone h = built_verdict-at ms i b (Some l) lone (plain-line b l h)
+refused-plain ms i b plain.NoMemory lone h = tt
+
+pub no-memory : (f : PlainFault) → from_plain f ≡ fault.NoMemory → f ≡ plain.NoMemory
+no-memory (plain.NotBuilt l) e = absurd (cc)
+no-memory plain.NoMemory e = refl

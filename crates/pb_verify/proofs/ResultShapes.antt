@@ -8,7 +8,7 @@ use Rattle.pb_language.specs.Book.{module_work}
 use Rattle.pb_sig.specs.Modules.{module_at}
 use Rattle.pb_sig.specs.Results.{result_kind}
 use Rattle.pb_sig.specs.declared.results.Results.{Results}
-use Rattle.pb_book.specs.Lines.{finds_plain}
+use Rattle.pb_plain.specs.Lines.{finds_plain}
 use Rattle.pb_verify.specs.ResultTables.{Listed, module_listed, listed_at}
 use Rattle.pb_language.specs.Plays.{module_named}
 use Rattle.pb_verify.specs.Way.{work_result, written_result}

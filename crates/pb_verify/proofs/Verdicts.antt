@@ -14,11 +14,11 @@ use Rattle.pb_language.specs.Theorem.{are_distinct, host_names}
 use Rattle.pb_language.specs.plain.Books.{PlainTask, lone_host, are_plain_tasks, are_lined}
 use Rattle.pb_language.specs.plain.Pass.{fault_or, lone_setting, plain_run, plain_rules, plain_flow, plain_calls}
 use Rattle.pb_language.proofs.PlainJudged.{plain_judged}
-use Rattle.pb_book.specs.Lines.{are_from, is_numbered}
-use Rattle.pb_book.specs.Meaning.{plain_tasks, are_plain_plays}
-use Rattle.pb_book.specs.declared.book.Play.{Play}
-use Rattle.pb_book.specs.declared.book.Task.{Task}
-use Rattle.pb_book.specs.Books.{plain_plays}
+use Rattle.pb_plain.specs.Lines.{are_from, is_numbered}
+use Rattle.pb_plain.specs.Meaning.{plain_tasks, are_plain_plays}
+use Rattle.pb_plain.specs.declared.book.Play.{Play}
+use Rattle.pb_plain.specs.declared.book.Task.{Task}
+use Rattle.pb_plain.specs.Books.{plain_plays}
 use Rattle.pb_verify.specs.Judges.{refuses_without_host, tasks_verdict}
 use Rattle.pb_verify.specs.Meaning.{or_later, accepts}
 

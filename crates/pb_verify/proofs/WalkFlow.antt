@@ -15,11 +15,11 @@ use Rattle.pb_language.specs.plain.Books.{PlainTask, task_data, is_plain_task, a
 use Rattle.pb_language.specs.plain.Pass.{plain_run, lone_setting, plain_rules, plain_flow, fault_or}
 use Rattle.pb_sig.specs.ModuleView.{are_lawful_modules}
 use Rattle.pb_sig.specs.Modules.{module_at}
-use Rattle.pb_book.specs.Lines.{finds_plain, is_known, are_known}
-use Rattle.pb_book.specs.Meaning.{work_of, plain_task, plain_tasks}
-use Rattle.pb_book.specs.declared.book.Task.{Task}
-use Rattle.pb_book.specs.declared.book.Work.{Work}
-use Rattle.pb_book.specs.declared.book.Work.TheVariants.{Module, Debug, SetFact}
+use Rattle.pb_plain.specs.Lines.{finds_plain, is_known, are_known}
+use Rattle.pb_plain.specs.Meaning.{work_of, plain_task, plain_tasks}
+use Rattle.pb_plain.specs.declared.book.Task.{Task}
+use Rattle.pb_plain.specs.declared.book.Work.{Work}
+use Rattle.pb_plain.specs.declared.book.Work.TheVariants.{Module, Debug, SetFact}
 use Rattle.pb_verify.specs.Way.{Stands, own_fault, written_result, known_after}
 use Rattle.pb_verify.proofs.RuleModules.{module_named-found}
 use Rattle.pb_verify.proofs.WalkModules.{is_plain-found}

@@ -11,7 +11,7 @@ use Rattle.pb_language.specs.Judgement.{is_lawful, action_fault, arguments_fault
 use Rattle.pb_language.specs.Plays.{module_named}
 use Rattle.pb_sig.specs.ModuleView.{are_lawful_modules}
 use Rattle.pb_sig.specs.Modules.{module_at}
-use Rattle.pb_book.specs.Lines.{finds_plain}
+use Rattle.pb_plain.specs.Lines.{finds_plain}
 use Rattle.pb_verify.proofs.RuleModules.{module_named-found}
 
 lawful_step : (q : Bool) (x m : ModuleData) (o : Option ModuleData) → is_lawful x ≡ true → (o ≡ Some m → is_lawful m ≡ true) → cond q (Some x) o ≡ Some m → is_lawful m ≡ true

@@ -1,6 +1,7 @@
--- What the verifier judges so far: books for one host without variables, which stands in no group
--- of its own.
-use Rattle.std.specs.Prelude.{List, [], ◌∷◌, Bool, true, false, ◌&&◌, cond, codes, None}
+-- What the verifier judges so far: plain books for one host without variables, which stands in no
+-- group of its own.
+use Rattle.std.specs.Prelude.{ℕ, List, [], ◌∷◌, Bool, true, false, ◌&&◌, cond, codes}
+use Rattle.std.specs.Prelude.{Option, Some, None}
 use Rattle.std.specs.Str.{bytes_eq}
 use Rattle.pb_semantics.specs.Data.{Fields, no_fields, field}
 use Rattle.pb_language.specs.Book.{Book, Registry}
@@ -9,6 +10,7 @@ use Rattle.pb_language.specs.Judged.{judged}
 use Rattle.pb_language.specs.Program.{Inventory}
 use Rattle.pb_language.specs.Verdict.{Verdict, refused}
 use Rattle.pb_language.specs.World.{Group, HostVariables}
+use Rattle.pb_plain.specs.Unbuilt.{first_unbuilt}
 
 abbrev pub is_empty : Fields → Bool
 is_empty no_fields = true
@@ -35,9 +37,17 @@ are_lone hs gs = false
 abbrev pub is_lone : Inventory → Bool
 is_lone i = are_lone i.hosts i.groups
 
--- the refusal of what isn't built yet
-abbrev pub not_built : Verdict
-not_built = refused (record { code = 0; line = 0; host = None })
+-- the refusal of a form that isn't built yet, at its line; an inventory has no line
+abbrev pub not_built : ℕ → Verdict
+not_built l = refused (record { code = 0; line = l; host = None })
+
+abbrev pub unless_unbuilt : Option ℕ → Verdict → Verdict
+unless_unbuilt None v = v
+unless_unbuilt (Some l) v = not_built l
+
+-- the line of the first form that isn't built yet, where there is one; the inventory comes first
+abbrev pub unbuilt_at : Inventory → Book → Option ℕ
+unbuilt_at i b = cond (is_lone i) (first_unbuilt b) (Some 0)
 
 abbrev pub built_verdict : Registry → Inventory → Book → Verdict
-built_verdict ms i b = cond (is_lone i) (judged ms i b) not_built
+built_verdict ms i b = unless_unbuilt (unbuilt_at i b) (judged ms i b)

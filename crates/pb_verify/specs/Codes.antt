@@ -2,9 +2,10 @@
 use Rattle.std.specs.Prelude.{ℕ, List, codes}
 use Rattle.pb_verify.specs.declared.refusal.Code.{Code}
 use Rattle.pb_verify.specs.declared.refusal.Code.TheVariants.{N00, S01, S02, S03, S04, S05, P01}
-use Rattle.pb_verify.specs.declared.refusal.Code.TheVariants.{I01, I02, I03, I04, I05, A01, A02}
-use Rattle.pb_verify.specs.declared.refusal.Code.TheVariants.{A03, V01, V02, V03, V04, V06, V07}
-use Rattle.pb_verify.specs.declared.refusal.Code.TheVariants.{V08}
+use Rattle.pb_verify.specs.declared.refusal.Code.TheVariants.{P02, P03, P04, P05, P06, P07, P08}
+use Rattle.pb_verify.specs.declared.refusal.Code.TheVariants.{P09, I01, I02, I03, I04, I05, A01}
+use Rattle.pb_verify.specs.declared.refusal.Code.TheVariants.{A02, A03, V01, V02, V03, V04, V06}
+use Rattle.pb_verify.specs.declared.refusal.Code.TheVariants.{V07, V08}
 
 abbrev pub code_text : Code → List ℕ
 code_text N00 = codes "N00"
@@ -14,6 +15,14 @@ code_text S03 = codes "S03"
 code_text S04 = codes "S04"
 code_text S05 = codes "S05"
 code_text P01 = codes "P01"
+code_text P02 = codes "P02"
+code_text P03 = codes "P03"
+code_text P04 = codes "P04"
+code_text P05 = codes "P05"
+code_text P06 = codes "P06"
+code_text P07 = codes "P07"
+code_text P08 = codes "P08"
+code_text P09 = codes "P09"
 code_text I01 = codes "I01"
 code_text I02 = codes "I02"
 code_text I03 = codes "I03"

@@ -12,7 +12,7 @@ use Rattle.pb_language.specs.plain.Books.{PlainTask}
 use Rattle.pb_language.specs.plain.Pass.{plain_rules, plain_flow, plain_calls}
 use Rattle.pb_sig.specs.Modules.{modules_of}
 use Rattle.pb_inventory.specs.Inventory.{inventory_view}
-use Rattle.pb_book.specs.Books.{book_of}
+use Rattle.pb_plain.specs.Books.{book_of}
 use Rattle.pb_verify.specs.Meaning.{refusal_of, accepts, or_later}
 use Rattle.pb_verify.specs.declared.checked.Accepted.{Accepted}
 use Rattle.pb_verify.specs.declared.verify.VerifyFault.{VerifyFault}

@@ -15,7 +15,7 @@ use Rattle.pb_value.specs.KindView.{kind_view, slots_view}
 use Rattle.pb_value.specs.declared.kind.Kind.{Kind}
 use Rattle.pb_sig.specs.Modules.{modules_of}
 use Rattle.pb_inventory.specs.Inventory.{inventory_view}
-use Rattle.pb_book.specs.Books.{book_of}
+use Rattle.pb_plain.specs.Books.{book_of}
 use Rattle.pb_verify.specs.declared.checked.Accepted.{Accepted}
 
 -- the fourth table

@@ -1,9 +1,9 @@
 // How many module calls a run may hand out.
 ghost use Rattle.std.specs.Prelude.{◌≡◌, ◌≤◌, length};
 ghost use Rattle.pb_language.specs.Words.{plain_calls, work_calls};
-ghost use Rattle.pb_book.specs.Words.{plain_task, plain_tasks};
+ghost use Rattle.pb_plain.specs.Words.{plain_task, plain_tasks};
 
-use pb_book::{Task, Work};
+use pb_plain::{Task, Work};
 
 /// A call for each task of a module.
 pub fn calls_in(tasks: &[Task]) -> u64

@@ -1,8 +1,8 @@
 // A book that was accepted, with its inventory and modules.
 ghost use Rattle.std.specs.Prelude.{◌≡◌, IfOk};
 
-use pb_book::Book;
 use pb_inventory::Inventory;
+use pb_plain::PlainBook;
 use pb_sig::Registry;
 use pb_value::below::find;
 use pb_value::{Kind, Slots};
@@ -13,7 +13,7 @@ use std::sync::Arc;
 /// What was handed to the verifier, and the budget.
 #[derive(Drop)]
 pub struct Accepted {
-    pub book: Book,
+    pub book: PlainBook,
     pub inventory: Inventory,
     pub registry: Registry,
     /// The most module calls that a run hands out.
@@ -32,8 +32,8 @@ impl Model for Checked {
     ghost use Rattle.std.specs.Prelude.{◌≡◌, true};
     ghost use Rattle.pb_sig.specs.Modules.{modules_of};
     ghost use Rattle.pb_inventory.specs.Inventory.{inventory_view};
-    ghost use Rattle.pb_book.specs.Books.{plays_of};
-    ghost use Rattle.pb_book.specs.Lines.{names_known};
+    ghost use Rattle.pb_plain.specs.Books.{plays_of};
+    ghost use Rattle.pb_plain.specs.Lines.{names_known};
     ghost use Rattle.pb_verify.specs.Built.{is_lone};
     ghost use Rattle.pb_verify.specs.Judges.{is_accepted};
     ghost use Rattle.pb_verify.specs.Known.{HasTable};
@@ -82,8 +82,8 @@ impl Checked {
     ghost use Rattle.pb_language.specs.Machine.{Event};
     ghost use Rattle.pb_sig.specs.Modules.{modules_of};
     ghost use Rattle.pb_inventory.specs.Inventory.{inventory_view};
-    ghost use Rattle.pb_book.specs.Books.{plays_of};
-    ghost use Rattle.pb_book.specs.Lines.{names_known};
+    ghost use Rattle.pb_plain.specs.Books.{plays_of};
+    ghost use Rattle.pb_plain.specs.Lines.{names_known};
     ghost use Rattle.pb_verify.specs.Built.{is_lone};
     ghost use Rattle.pb_verify.specs.Judges.{is_accepted, run_of_accepted};
     ghost use Rattle.pb_verify.specs.Known.{HasTable, IsKnownAs, known_spot};
@@ -116,8 +116,8 @@ impl Checked {
         self.accepted.budget
     }
 
-    /// The book as it was handed in. Each module that it names is in the registry.
-    pub fn book(&self) -> &Book
+    /// The plain book that was handed in. Each module that it names is in the registry.
+    pub fn book(&self) -> &PlainBook
         ensures value { result.now ≡ self.now.book }
         ensures known { names_known (modules_of self.now.registry) (plays_of self.now.book) ≡ true }
     {

@@ -3,13 +3,13 @@ ghost use Rattle.std.specs.Prelude.{◌≡◌, IfOk, None, OnOk, Some, false, st
 ghost use Rattle.pb_semantics.specs.Words.{put_slot as with_slot, slot_at};
 ghost use Rattle.pb_language.specs.Words.{Registry as Modules, set_spot, written_spot};
 ghost use Rattle.pb_value.specs.Words.{kind_view, slots_view};
-ghost use Rattle.pb_book.specs.Words.{plain_task};
+ghost use Rattle.pb_plain.specs.Words.{plain_task};
 ghost use Rattle.pb_verify.specs.Environments.{Reads, SameBeside, apart_spot, environment_view};
 ghost use Rattle.pb_verify.specs.Environments.{is_left, with_apart};
 ghost use Rattle.pb_verify.specs.Way.{join_slot, put_spot};
 
 use crate::reads::is_unread;
-use pb_book::Task;
+use pb_plain::Task;
 use pb_value::below::find;
 use pb_value::grow::{Growing, close, grow};
 use pb_value::{Kind, Presence, Slot, Slots, put_slot};

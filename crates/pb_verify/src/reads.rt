@@ -4,12 +4,14 @@ ghost use Rattle.pb_language.specs.Expression.{path};
 ghost use Rattle.pb_language.specs.Words.{Name};
 ghost use Rattle.pb_syntax.specs.Words.{root_view};
 ghost use Rattle.pb_expr.specs.Words.{expr_view, exprs_view, parts_view};
-ghost use Rattle.pb_book.specs.Words.{argument_parts, condition_view, plain_task, work_of};
+ghost use Rattle.pb_template.specs.Words.{entries_view};
+ghost use Rattle.pb_plain.specs.Words.{condition_view, plain_task, work_of};
 ghost use Rattle.pb_verify.specs.Avoids.{all_avoid, avoids as is_avoided, parts_avoid};
 ghost use Rattle.pb_verify.specs.Avoids.{task_avoids, work_avoids};
 
-use pb_book::{Argument, Task, Work};
 use pb_expr::{Expr, Root};
+use pb_plain::{Task, Work};
+use pb_template::Entry;
 use std::collections::BTreeMap;
 
 /// Whether the task reads no variable of that name, as far as is told of such a task.
@@ -28,8 +30,8 @@ fn is_condition_free(condition: &Option<Expr>, name: &str) -> bool
     }
 }
 
-fn is_work_free(work: &Work, arguments: &[Argument], name: &str) -> bool
-    ensures { result ≡ work_avoids name.now (work_of work.now (argument_parts arguments.now)) }
+fn is_work_free(work: &Work, arguments: &[Entry], name: &str) -> bool
+    ensures { result ≡ work_avoids name.now (work_of work.now (entries_view arguments.now)) }
 {
     match work {
         Work::Module(_) => arguments_avoid(arguments, name),
@@ -38,8 +40,8 @@ fn is_work_free(work: &Work, arguments: &[Argument], name: &str) -> bool
     }
 }
 
-fn arguments_avoid(arguments: &[Argument], name: &str) -> bool
-    ensures { result ≡ parts_avoid name.now (argument_parts arguments.now) }
+fn arguments_avoid(arguments: &[Entry], name: &str) -> bool
+    ensures { result ≡ parts_avoid name.now (entries_view arguments.now) }
 {
     for argument in arguments {
         if !avoids(&argument.value, name) {

@@ -19,6 +19,22 @@ pub enum Code {
     S05,
     /// The playbook isn't JSON.
     P01,
+    /// A part of the playbook has the wrong shape, or a play has no `hosts`.
+    P02,
+    /// An unknown keyword, or one that is left out of the language.
+    P03,
+    /// A keyword's value is of the wrong form.
+    P04,
+    /// A task has no module, or several.
+    P05,
+    /// A module that isn't known.
+    P06,
+    /// An expression that can't be read.
+    P07,
+    /// The playbook passes a limit.
+    P08,
+    /// A second handler of a name in a play.
+    P09,
     /// The inventory isn't JSON.
     I01,
     /// The inventory is malformed.
@@ -64,6 +80,14 @@ impl Code {
             Code::S04 => "S04",
             Code::S05 => "S05",
             Code::P01 => "P01",
+            Code::P02 => "P02",
+            Code::P03 => "P03",
+            Code::P04 => "P04",
+            Code::P05 => "P05",
+            Code::P06 => "P06",
+            Code::P07 => "P07",
+            Code::P08 => "P08",
+            Code::P09 => "P09",
             Code::I01 => "I01",
             Code::I02 => "I02",
             Code::I03 => "I03",

@@ -5,13 +5,13 @@ ghost use Rattle.pb_semantics.specs.Words.{join as least_above};
 ghost use Rattle.pb_language.specs.Words.{Registry as Modules, changed_slots, no_parts};
 ghost use Rattle.pb_value.specs.Words.{kind_view, slots_view};
 ghost use Rattle.pb_sig.specs.Words.{known_view, modules_of, result_kind};
-ghost use Rattle.pb_book.specs.Words.{is_known, work_of};
+ghost use Rattle.pb_plain.specs.Words.{is_known, work_of};
 ghost use Rattle.pb_verify.specs.ResultTables.{Lists, entry_listed, listed_at, module_listed};
 ghost use Rattle.pb_verify.specs.ResultTables.{module_result};
 ghost use Rattle.pb_verify.specs.Way.{failed_result as result_of_failure, work_result};
 ghost use Rattle.pb_verify.specs.Way.{written_result};
 
-use pb_book::Work;
+use pb_plain::Work;
 use pb_sig::results::failed_kind;
 use pb_sig::{Known, Module, Registry, Results};
 use pb_value::join::join;

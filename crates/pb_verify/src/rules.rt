@@ -8,13 +8,15 @@ ghost use Rattle.pb_language.specs.Words.{is_well_formed as is_well, part_names,
 ghost use Rattle.pb_language.specs.Words.{reserved_names, set_fact_work, set_names, task_data};
 ghost use Rattle.pb_language.specs.Words.{written_names};
 ghost use Rattle.pb_sig.specs.Words.{modules_of, parameter_view};
-ghost use Rattle.pb_book.specs.Words.{are_known, argument_parts, is_known, plain_task, plain_tasks};
+ghost use Rattle.pb_template.specs.Words.{entries_view};
+ghost use Rattle.pb_plain.specs.Words.{are_known, is_known, plain_task, plain_tasks};
 ghost use Rattle.pb_verify.specs.Meaning.{refusal_of};
 
 use crate::refusal::{Code, Refusal};
-use pb_book::{Argument, Task, Work};
 use pb_inventory::is_reserved;
+use pb_plain::{Task, Work};
 use pb_sig::{Module, Parameter, Registry, is_variable};
+use pb_template::Entry;
 
 /// The first offence of the tasks against them: the least line, and on one line parameters before
 /// names.
@@ -59,17 +61,17 @@ fn is_well_formed(task: &Task, registry: &Registry) -> bool
 }
 
 // Each argument is a parameter, and each parameter that is required is given.
-fn fills(arguments: &[Argument], parameters: &[Parameter]) -> bool
+fn fills(arguments: &[Entry], parameters: &[Parameter]) -> bool
     ensures { result ≡ are_parameters (map parameter_view parameters.now)
-        (argument_parts arguments.now)
-        && has_required (map parameter_view parameters.now) (argument_parts arguments.now) }
+        (entries_view arguments.now)
+        && has_required (map parameter_view parameters.now) (entries_view arguments.now) }
 {
     all_parameters(arguments, parameters) && all_given(parameters, arguments)
 }
 
-fn all_parameters(arguments: &[Argument], parameters: &[Parameter]) -> bool
+fn all_parameters(arguments: &[Entry], parameters: &[Parameter]) -> bool
     ensures { result ≡ are_parameters (map parameter_view parameters.now)
-        (argument_parts arguments.now) }
+        (entries_view arguments.now) }
 {
     for argument in arguments {
         if !is_parameter(argument.name.as_str(), parameters) {
@@ -90,9 +92,9 @@ fn is_parameter(name: &str, parameters: &[Parameter]) -> bool
     false
 }
 
-fn all_given(parameters: &[Parameter], arguments: &[Argument]) -> bool
+fn all_given(parameters: &[Parameter], arguments: &[Entry]) -> bool
     ensures { result ≡ has_required (map parameter_view parameters.now)
-        (argument_parts arguments.now) }
+        (entries_view arguments.now) }
 {
     for parameter in parameters {
         if parameter.required && !is_given(parameter.name.as_str(), arguments) {
@@ -102,8 +104,8 @@ fn all_given(parameters: &[Parameter], arguments: &[Argument]) -> bool
     true
 }
 
-fn is_given(name: &str, arguments: &[Argument]) -> bool
-    ensures { result ≡ has_part name.now (argument_parts arguments.now) }
+fn is_given(name: &str, arguments: &[Entry]) -> bool
+    ensures { result ≡ has_part name.now (entries_view arguments.now) }
 {
     for argument in arguments {
         if name == argument.name.as_str() {
@@ -114,15 +116,15 @@ fn is_given(name: &str, arguments: &[Argument]) -> bool
 }
 
 // The message alone.
-fn is_message(arguments: &[Argument]) -> bool
-    ensures { result ≡ has_part (codes "msg") (argument_parts arguments.now)
-        && are_among (codes "msg" ∷ []) (argument_parts arguments.now) }
+fn is_message(arguments: &[Entry]) -> bool
+    ensures { result ≡ has_part (codes "msg") (entries_view arguments.now)
+        && are_among (codes "msg" ∷ []) (entries_view arguments.now) }
 {
     is_given("msg", arguments) && all_messages(arguments)
 }
 
-fn all_messages(arguments: &[Argument]) -> bool
-    ensures { result ≡ are_among (codes "msg" ∷ []) (argument_parts arguments.now) }
+fn all_messages(arguments: &[Entry]) -> bool
+    ensures { result ≡ are_among (codes "msg" ∷ []) (entries_view arguments.now) }
 {
     for argument in arguments {
         if argument.name.as_str() != "msg" {
@@ -133,15 +135,15 @@ fn all_messages(arguments: &[Argument]) -> bool
 }
 
 // At least one name, and each can be set.
-fn are_variables(arguments: &[Argument]) -> bool
+fn are_variables(arguments: &[Entry]) -> bool
     ensures { (ms : List ModuleData) → result
-        ≡ is_well ms (set_fact_work (argument_parts arguments.now)) }
+        ≡ is_well ms (set_fact_work (entries_view arguments.now)) }
 {
     !arguments.is_empty() && all_settable(arguments)
 }
 
-fn all_settable(arguments: &[Argument]) -> bool
-    ensures { result ≡ can_be_set (argument_parts arguments.now) }
+fn all_settable(arguments: &[Entry]) -> bool
+    ensures { result ≡ can_be_set (entries_view arguments.now) }
 {
     for argument in arguments {
         let name = argument.name.as_str();
@@ -173,8 +175,8 @@ fn sets_reserved(task: &Task) -> bool
     }
 }
 
-fn any_reserved(arguments: &[Argument]) -> bool
-    ensures { result ≡ any_among (part_names (argument_parts arguments.now)) reserved_names }
+fn any_reserved(arguments: &[Entry]) -> bool
+    ensures { result ≡ any_among (part_names (entries_view arguments.now)) reserved_names }
 {
     for argument in arguments {
         if is_reserved(argument.name.as_str()) {

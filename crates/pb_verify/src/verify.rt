@@ -8,10 +8,12 @@ ghost use Rattle.pb_value.specs.Words.{slots_view};
 ghost use Rattle.pb_expr.specs.Words.{fault_view};
 ghost use Rattle.pb_sig.specs.Words.{modules_of};
 ghost use Rattle.pb_inventory.specs.Words.{inventory_view};
-ghost use Rattle.pb_book.specs.Words.{are_known, are_plain_plays, book_of, is_numbered};
-ghost use Rattle.pb_book.specs.Words.{names_known, plain_plays, plain_tasks, plays_of};
-ghost use Rattle.pb_verify.specs.Built.{built_verdict, is_lone};
-ghost use Rattle.pb_verify.specs.Faults.{fault_refusal};
+ghost use Rattle.pb_play.specs.Words.{AreSound, all_tasks};
+ghost use Rattle.pb_book.specs.Words.{book_view, plays_of as whole_plays};
+ghost use Rattle.pb_plain.specs.Words.{are_known, are_plain_plays, book_of, is_numbered};
+ghost use Rattle.pb_plain.specs.Words.{names_known, plain_plays, plain_tasks, plays_of};
+ghost use Rattle.pb_verify.specs.Built.{built_verdict, is_lone, unbuilt_at};
+ghost use Rattle.pb_verify.specs.Faults.{fault_refusal, not_built_at};
 ghost use Rattle.pb_verify.specs.Judges.{refused_verdict, refuses_without_host, tasks_verdict};
 ghost use Rattle.pb_verify.specs.Known.{IsTable};
 ghost use Rattle.pb_verify.specs.Meaning.{code_number, or_later, refusal_of};
@@ -23,12 +25,16 @@ use crate::checked::{Accepted, Checked};
 use crate::refusal::{Code, Refusal};
 use crate::rules::first_offence;
 use crate::walk::{FaultAt, Followed, follow, opening};
-use pb_book::{Book, Play, Task};
+use pb_book::Book;
 use pb_expr::Unfit;
 use pb_inventory::Inventory;
+use pb_plain::{PlainBook, PlainFault, Play, Task};
 use pb_sig::Registry;
 use pb_value::Slots;
 use std::alloc::{AllocError, AllocFailed, Global};
+
+// The line of a refusal that stands at none.
+const NO_LINE: u32 = 0;
 
 /// Why there is no accepted book.
 #[derive(Drop)]
@@ -59,33 +65,74 @@ impl<T: Drop> From<AllocFailed<T>> for VerifyFault {
     }
 }
 
+impl From<PlainFault> for VerifyFault {
+    ghost use Rattle.std.specs.Prelude.{◌≡◌};
+    ghost use Rattle.pb_verify.specs.Faults.{from_plain};
+
+    ghost from_gives = { λ e f. f ≡ from_plain e };
+
+    fn from(fault: PlainFault) -> VerifyFault {
+        match fault {
+            PlainFault::NotBuilt(line) => not_built(line),
+            PlainFault::NoMemory => VerifyFault::NoMemory,
+        }
+    }
+}
+
+// The refusal of a form that isn't built yet.
+fn not_built(line: u32) -> VerifyFault
+    ensures { result ≡ not_built_at line }
+{
+    VerifyFault::Refused(Refusal {
+        code: Code::N00,
+        line,
+        host: None,
+    })
+}
+
 /// Judges a book for an inventory: accepted with its budget of module calls, or the first refusal
-/// in this order: an inventory that isn't built yet, the rules that follow no host (parameters,
-/// then names, by line), then the texts that may meet an undefined variable, a missing field or a
-/// value of the wrong kind, by line and then by host. A refusal that names no host takes no memory.
-/// Each module that the book names is in the registry.
+/// in this order: an inventory that isn't built yet, the least line of a form that isn't, the rules
+/// that follow no host (parameters, then names, by line), then the texts that may meet an undefined
+/// variable, a missing field or a value of the wrong kind, by line and then by host. What isn't
+/// built yet is refused without memory. Each module that the book names is in the registry.
 pub fn verify(
     alloc: Global,
     book: Book,
     inventory: Inventory,
     registry: Registry,
 ) -> Result<Checked, VerifyFault>
-    requires { names_known (modules_of registry) (plays_of book) ≡ true }
+    requires { AreSound (modules_of registry) (all_tasks (whole_plays book)) }
+    ensures handed { IfOk result (λ c. (book_of c.book ≡ book_view book)
+        × (c.inventory ≡ inventory) × (c.registry ≡ registry)) }
+    ensures verdict { Gives (λ c. accepted c.budget) refused_verdict result
+        (built_verdict (modules_of registry) (inventory_view inventory) (book_view book)) }
+    ensures apart { result ≡ Err VerifyFault.NoMemory
+        → unbuilt_at (inventory_view inventory) (book_view book) ≡ None }
+{
+    if !is_lone(&inventory) {
+        return Err(not_built(NO_LINE));
+    }
+    let plain = PlainBook::of(alloc, book)?;
+    verify_plain(alloc, plain, inventory, registry)
+}
+
+// Judges a plain book for one host. A refusal that names no host takes no memory.
+fn verify_plain(
+    alloc: Global,
+    book: PlainBook,
+    inventory: Inventory,
+    registry: Registry,
+) -> Result<Checked, VerifyFault>
+    requires known { names_known (modules_of registry) (plays_of book) ≡ true }
+    requires lone { is_lone (inventory_view inventory) ≡ true }
     ensures handed { IfOk result
         (λ c. (c.book ≡ book) × (c.inventory ≡ inventory) × (c.registry ≡ registry)) }
     ensures verdict { Gives (λ c. accepted c.budget) refused_verdict result
-        (built_verdict (modules_of registry) (inventory_view inventory) (book_of book)) }
+        (judged (modules_of registry) (inventory_view inventory) (book_of book)) }
     ensures apart { refuses_without_host
-        (built_verdict (modules_of registry) (inventory_view inventory) (book_of book)) ≡ true
+        (judged (modules_of registry) (inventory_view inventory) (book_of book)) ≡ true
         → result ≡ Err VerifyFault.NoMemory → ⊥ }
 {
-    if !is_lone(&inventory) {
-        return Err(VerifyFault::Refused(Refusal {
-            code: Code::N00,
-            line: 0,
-            host: None,
-        }));
-    }
     let Findings { budget, known } = judge(alloc, book.plays(), &inventory, &registry)?;
     let accepted = Accepted {
         book,

@@ -15,8 +15,9 @@ ghost use Rattle.pb_language.specs.Words.{set_spot, written_spot, wrong_kind};
 ghost use Rattle.pb_value.specs.Words.{is_always, kind_view, slots_view, spot_view};
 ghost use Rattle.pb_expr.specs.Words.{expr_view, fault_found, own_scope};
 ghost use Rattle.pb_sig.specs.Words.{module_at, modules_of, parameter_view};
-ghost use Rattle.pb_book.specs.Words.{are_known, argument_parts, condition_view, finds_plain};
-ghost use Rattle.pb_book.specs.Words.{is_known, plain_task, plain_tasks, work_of};
+ghost use Rattle.pb_template.specs.Words.{entries_view};
+ghost use Rattle.pb_plain.specs.Words.{are_known, condition_view, finds_plain};
+ghost use Rattle.pb_plain.specs.Words.{is_known, plain_task, plain_tasks, work_of};
 ghost use Rattle.pb_verify.specs.Environments.{environment_view};
 ghost use Rattle.pb_verify.specs.Faults.{fault_refusal};
 ghost use Rattle.pb_verify.specs.ResultTables.{Lists};
@@ -26,9 +27,10 @@ ghost use Rattle.pb_verify.specs.Way.{sets_of, work_result, written_after, writt
 
 use crate::environment::{Environment, environment_of, make_ready, put_known, settled, widen};
 use crate::results::ResultTable;
-use pb_book::{Argument, Task, Work};
 use pb_expr::{Expr, KindFault, Taught, Unfit, kind_of};
+use pb_plain::{Task, Work};
 use pb_sig::{Module, Parameter, Registry};
+use pb_template::Entry;
 use pb_value::below::below;
 use pb_value::{Kind, Slot, Slots, put_slot};
 use std::alloc::{AllocError, Global};
@@ -248,7 +250,7 @@ fn task_asked(
 fn call_asked(
     alloc: Global,
     name: &str,
-    arguments: &[Argument],
+    arguments: &[Entry],
     registry: &Registry,
     environment: &Slots,
 ) -> Result<(), KindFault>
@@ -256,7 +258,7 @@ fn call_asked(
     ensures { Gives (λ x. None) fault_found result
         (action_fault (own_scope (slots_view environment.now.entries))
         (call_of (module_named name.now (modules_of registry.now))
-        (argument_parts arguments.now))) }
+        (entries_view arguments.now))) }
 {
     match registry.find(name) {
         Some(found) => arguments_asked(alloc, arguments, found.params(), environment),
@@ -290,13 +292,13 @@ fn condition_asked(alloc: Global, condition: &Expr, environment: &Slots) -> Resu
 // Each argument is of its parameter's kind.
 fn arguments_asked(
     alloc: Global,
-    arguments: &[Argument],
+    arguments: &[Entry],
     parameters: &[Parameter],
     environment: &Slots,
 ) -> Result<(), KindFault>
     ensures { Gives (λ x. None) fault_found result
         (arguments_fault (own_scope (slots_view environment.now.entries))
-        (map parameter_view parameters.now) (argument_parts arguments.now)) }
+        (map parameter_view parameters.now) (entries_view arguments.now)) }
 {
     for argument in arguments {
         let kind = value_asked(alloc, &argument.value, environment)?;
@@ -307,17 +309,13 @@ fn arguments_asked(
     Ok(())
 }
 
-fn message_asked(
-    alloc: Global,
-    arguments: &[Argument],
-    environment: &Slots,
-) -> Result<(), KindFault>
+fn message_asked(alloc: Global, arguments: &[Entry], environment: &Slots) -> Result<(), KindFault>
     ensures { Gives (λ x. None) fault_found result (first
         (fault (own_scope (slots_view environment.now.entries))
-        (argument_or (part_named (codes "msg") (argument_parts arguments.now))))
+        (argument_or (part_named (codes "msg") (entries_view arguments.now))))
         (asks wrong_kind (not (is_anything
         (kind_found (own_scope (slots_view environment.now.entries))
-        (argument_or (part_named (codes "msg") (argument_parts arguments.now)))))))) }
+        (argument_or (part_named (codes "msg") (entries_view arguments.now)))))))) }
 {
     if let Some(message) = argument_named(arguments, "msg") {
         drop(value_asked(alloc, message, environment)?);
@@ -326,9 +324,9 @@ fn message_asked(
 }
 
 // The value of the first argument of that name.
-fn argument_named<'a>(arguments: &'a [Argument], name: &str) -> Option<&'a Expr>
+fn argument_named<'a>(arguments: &'a [Entry], name: &str) -> Option<&'a Expr>
     ensures { option_map (λ e. expr_view e.now) result
-        ≡ part_named name.now (argument_parts arguments.now) }
+        ≡ part_named name.now (entries_view arguments.now) }
 {
     for argument in arguments {
         if name == argument.name.as_str() {
@@ -339,13 +337,13 @@ fn argument_named<'a>(arguments: &'a [Argument], name: &str) -> Option<&'a Expr>
 }
 
 // The values are of kinds that are known.
-fn sets_asked(alloc: Global, arguments: &[Argument], environment: &Slots) -> Result<Sets, KindFault>
+fn sets_asked(alloc: Global, arguments: &[Entry], environment: &Slots) -> Result<Sets, KindFault>
     ensures fault { Gives (λ x. None) fault_found result
         (fields_fault (own_scope (slots_view environment.now.entries))
-        (argument_parts arguments.now)) }
+        (entries_view arguments.now)) }
     ensures sets { IfOk result (λ s. (a : Bool) → sets_of a s.items
         ≡ parts_set (own_scope (slots_view environment.now.entries)) a
-        (argument_parts arguments.now)) }
+        (entries_view arguments.now)) }
 {
     let mut sets = Vec::new(alloc);
     for argument in arguments {

@@ -7,7 +7,8 @@ use Rattle.pb_sig.specs.Registered.{registry_of}
 use Rattle.pb_sig.specs.Signatures.{most_signature_bytes}
 use Rattle.pb_sig.specs.declared.fault.SignatureFault.{SignatureFault}
 use Rattle.pb_sig.specs.declared.fault.SignatureFault.TheVariants as signature
-use Rattle.pb_cli.specs.FileVerdicts.{book_verdict, inventory_code, inventory_verdict, modules_verdict, offence_code, of_signatures, with_code}
+use Rattle.pb_book.specs.Reading.{book_in}
+use Rattle.pb_cli.specs.FileVerdicts.{inventory_code, inventory_verdict, modules_verdict, offence_code, of_signatures, with_code}
 use Rattle.pb_cli.specs.declared.judge.Fault.TheVariants.{NoMemory}
 use Rattle.pb_cli.proofs.Verdicts.{read-unlooked, Tells-after, Tells-found, Tells-inventory, Tells-signatures}
 use Rattle.pb_cli.proofs.judge.judge_signed.Goals as goal
@@ -22,7 +23,7 @@ returns-in_err-inventory-clause-verdict c =
     let ms = modules_of c.in_ok-registry.registry in
     let p = err_from_is_err_and c.from_residual-in_err-inventory.result c.from_residual-in_err-inventory.ensures.1 in
     Tells-after c.from_residual-in_err-inventory.result (modules_verdict (Some c.args.signatures.now)) ms c.args.inventory.now c.args.book.now (ap (with_code offence_code) c.in_ok-registry.ensures.verdict)
-    (rw (p.1, p.2) (Tells-inventory ms c.in_err-inventory.field-0.0 (inventory_in c.args.inventory.now) (book_verdict ms c.args.book.now) c.in_err-inventory.ensures.verdict))
+    (rw (p.1, p.2) (Tells-inventory ms c.in_err-inventory.field-0.0 (inventory_in c.args.inventory.now) (book_in ms c.args.book.now) c.in_err-inventory.ensures.verdict))
 
 pub returns-clause-verdict : goal.returns-clause-verdict
 returns-clause-verdict c =
@@ -30,7 +31,7 @@ returns-clause-verdict c =
     let i = inventory_view c.in_ok-inventory.inventory in
     let read = ap (with_code inventory_code) c.in_ok-inventory.ensures.verdict in
     Tells-after c.judge_read.result (modules_verdict (Some c.args.signatures.now)) ms c.args.inventory.now c.args.book.now (ap (with_code offence_code) c.in_ok-registry.ensures.verdict)
-    (Tells-found c.judge_read.result ms i (inventory_verdict c.args.inventory.now) (book_verdict ms c.args.book.now) read c.judge_read.ensures.verdict)
+    (Tells-found c.judge_read.result ms i (inventory_verdict c.args.inventory.now) (book_in ms c.args.book.now) read c.judge_read.ensures.verdict)
 
 pub returns-clause-read : goal.returns-clause-read
 returns-clause-read c =

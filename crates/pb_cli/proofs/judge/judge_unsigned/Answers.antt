@@ -6,7 +6,8 @@ use Rattle.pb_inventory.specs.Offences.{inventory_in}
 use Rattle.pb_inventory.specs.declared.fault.InventoryFault.{InventoryFault}
 use Rattle.pb_inventory.specs.declared.fault.InventoryFault.TheVariants as inventory
 use Rattle.pb_sig.specs.Table.{builtins}
-use Rattle.pb_cli.specs.FileVerdicts.{Tells, book_found, book_verdict, found, inventory_code, inventory_verdict, of_inventory, with_code}
+use Rattle.pb_book.specs.Reading.{book_in}
+use Rattle.pb_cli.specs.FileVerdicts.{Tells, book_found, found, inventory_code, inventory_verdict, of_inventory, with_code}
 use Rattle.pb_cli.specs.declared.judge.Fault.TheVariants.{NoMemory}
 use Rattle.pb_cli.proofs.Verdicts.{Tells-found, Tells-inventory, Tells-no_memory, read-unlooked}
 use Rattle.pb_cli.proofs.judge.judge_unsigned.Goals as goal
@@ -14,7 +15,7 @@ use Rattle.pb_cli.proofs.judge.judge_unsigned.Goals as goal
 pub returns-in_err-inventory-clause-verdict : goal.returns-in_err-inventory-clause-verdict
 returns-in_err-inventory-clause-verdict c =
     let p = err_from_is_err_and c.from_residual.result c.from_residual.ensures.1 in
-    rw (p.1, p.2) (Tells-inventory builtins c.in_err-inventory.field-0.0 (inventory_in c.args.inventory.now) (book_verdict builtins c.args.book.now) c.in_err-inventory.ensures.verdict)
+    rw (p.1, p.2) (Tells-inventory builtins c.in_err-inventory.field-0.0 (inventory_in c.args.inventory.now) (book_in builtins c.args.book.now) c.in_err-inventory.ensures.verdict)
 
 pub returns-in_err-registry-clause-verdict : goal.returns-in_err-registry-clause-verdict
 returns-in_err-registry-clause-verdict c =
@@ -25,8 +26,8 @@ pub returns-clause-verdict : goal.returns-clause-verdict
 returns-clause-verdict c =
     let i = inventory_view c.in_ok-inventory.inventory in
     let read = ap (with_code inventory_code) c.in_ok-inventory.ensures.verdict in
-    Tells-found c.judge_read.result builtins i (inventory_verdict c.args.inventory.now) (book_verdict builtins c.args.book.now) read
-    (subst (λ ms. Tells c.judge_read.result (book_found ms i (book_verdict ms c.args.book.now))) c.in_ok-registry.ensures c.judge_read.ensures.verdict)
+    Tells-found c.judge_read.result builtins i (inventory_verdict c.args.inventory.now) (book_in builtins c.args.book.now) read
+    (subst (λ ms. Tells c.judge_read.result (book_found ms i (book_in ms c.args.book.now))) c.in_ok-registry.ensures c.judge_read.ensures.verdict)
 
 pub returns-in_err-inventory-clause-apart : goal.returns-in_err-inventory-clause-apart
 returns-in_err-inventory-clause-apart c = λ unlooked memory.

@@ -3,7 +3,7 @@ use Rattle.pb_language.specs.Give.{unreachable, broken, object}
 use Rattle.pb_language.proofs.PlainGives.{unreached_gives, broken_gives}
 use Rattle.pb_value.specs.View.{view}
 use Rattle.pb_sig.specs.Modules.{modules_of}
-use Rattle.pb_book.specs.Meaning.{plain_task}
+use Rattle.pb_plain.specs.Meaning.{plain_task}
 use Rattle.pb_strategy.specs.Events.{answer_data}
 use Rattle.pb_strategy.proofs.Finishes.{ComesTo-first, ComesTo-none}
 use Rattle.pb_strategy.proofs.outcome.answered.Goals as goal

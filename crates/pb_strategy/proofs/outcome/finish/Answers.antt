@@ -8,7 +8,7 @@ use Rattle.pb_value.specs.Append.{append_fields}
 use Rattle.pb_value.specs.View.{fields_view}
 use Rattle.pb_value.specs.declared.value.Value.{Value}
 use Rattle.pb_sig.specs.Modules.{modules_of}
-use Rattle.pb_book.specs.Meaning.{plain_task}
+use Rattle.pb_plain.specs.Meaning.{plain_task}
 use Rattle.pb_strategy.specs.Events.{answer_data}
 use Rattle.pb_strategy.proofs.Finishes.{append_fields-writes}
 use Rattle.pb_strategy.proofs.outcome.finish.Goals as goal

@@ -4,8 +4,9 @@ use Rattle.pb_language.proofs.PlainGives.{stranger_gives}
 use Rattle.pb_value.specs.View.{view}
 use Rattle.pb_sig.specs.Modules.{modules_of, module_at}
 use Rattle.pb_sig.specs.ModuleView.{known_view}
-use Rattle.pb_book.specs.Lines.{is_known}
-use Rattle.pb_book.specs.Meaning.{argument_parts, plain_task}
+use Rattle.pb_plain.specs.Lines.{is_known}
+use Rattle.pb_template.specs.Entries.{entries_view}
+use Rattle.pb_plain.specs.Meaning.{plain_task}
 use Rattle.pb_verify.proofs.RuleModules.{module_named-found}
 use Rattle.pb_verify.proofs.WalkModules.{is_plain-found}
 use Rattle.pb_strategy.proofs.outcome.object_answered.Goals as goal
@@ -24,4 +25,4 @@ returns-in_ok-admitted-in-Some c = λ d xs.
     let named : c.as_str.result.now ≡ n = c.as_str.ensures.value ∙ ap (λ (s : String Global). string_bytes s) c.deref.ensures in
     let found : module_at n ms ≡ Some m = ap (λ k. module_at k ms) (sym named) ∙ sym c.in-Some.ensures in
     let known = subst (λ w. is_known ms w ≡ true) c.in-Module.is c.requires.known in
-    c.in_ok-admitted-in-Some.ensures ms n (argument_parts c.args.task.now.arguments.items) d xs (is_plain-found n ms m c.args.registry.now.lawful found known) (rw c.in-Module.is refl) (module_named-found n ms m found)
+    c.in_ok-admitted-in-Some.ensures ms n (entries_view c.args.task.now.arguments.items) d xs (is_plain-found n ms m c.args.registry.now.lawful found known) (rw c.in-Module.is refl) (module_named-found n ms m found)

@@ -1,6 +1,6 @@
 use Rattle.std.proofs.Common.{◌≡◌, ◌+◌, ◌≤◌, drop}
 use Rattle.pb_language.specs.plain.Pass.{plain_calls}
-use Rattle.pb_book.specs.Meaning.{plain_tasks}
+use Rattle.pb_plain.specs.Meaning.{plain_tasks}
 use Rattle.pb_verify.proofs.budget.calls_in.Given as goal
 
 abbrev pub invariant-loop-task : goal.invariant-loop-task

@@ -1,6 +1,6 @@
 use Rattle.std.proofs.Common.{sym, ◌∙◌}
 use Rattle.pb_value.specs.KindView.{slots_view}
-use Rattle.pb_book.specs.Meaning.{plain_task}
+use Rattle.pb_plain.specs.Meaning.{plain_task}
 use Rattle.pb_verify.proofs.Avoided.{left_reads}
 use Rattle.pb_verify.proofs.environment.make_ready.Goals as goal
 

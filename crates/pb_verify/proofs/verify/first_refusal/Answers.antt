@@ -7,7 +7,7 @@ use Rattle.pb_semantics.specs.Kind.{no_slots}
 use Rattle.pb_value.specs.KindView.{slots_view}
 use Rattle.pb_sig.specs.Modules.{modules_of}
 use Rattle.pb_inventory.specs.Inventory.{inventory_view}
-use Rattle.pb_book.specs.Meaning.{plain_tasks}
+use Rattle.pb_plain.specs.Meaning.{plain_tasks}
 use Rattle.pb_verify.specs.Meaning.{refusal_of, or_later}
 use Rattle.pb_verify.proofs.Lone.{length-lone, name-first, length-groups}
 use Rattle.pb_verify.proofs.verify.first_refusal.Goals as goal

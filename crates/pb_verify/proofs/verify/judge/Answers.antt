@@ -12,10 +12,10 @@ use Rattle.pb_language.specs.Judged.{judged}
 use Rattle.pb_language.specs.Verdict.{Verdict, accepted}
 use Rattle.pb_language.specs.plain.Flow.{plain_writes}
 use Rattle.pb_language.specs.plain.Tables.{Joins}
-use Rattle.pb_book.specs.Lines.{is_numbered}
-use Rattle.pb_book.specs.Meaning.{are_plain_plays, plain_tasks}
-use Rattle.pb_book.specs.declared.book.Play.{Play}
-use Rattle.pb_book.specs.Books.{plain_plays}
+use Rattle.pb_plain.specs.Lines.{is_numbered}
+use Rattle.pb_plain.specs.Meaning.{are_plain_plays, plain_tasks}
+use Rattle.pb_plain.specs.declared.book.Play.{Play}
+use Rattle.pb_plain.specs.Books.{plain_plays}
 use Rattle.pb_verify.specs.Judges.{refused_verdict, refuses_without_host, tasks_verdict}
 use Rattle.pb_verify.proofs.Lone.{Alone-lone}
 use Rattle.pb_verify.proofs.Verdicts.{judged-one_play, items-one, tasks_verdict-ruled}

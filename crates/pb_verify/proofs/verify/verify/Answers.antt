@@ -1,75 +1,62 @@
-use Rattle.std.proofs.Common.{◌≡◌, Err, true, refl, sym, ap, ◌∙◌, subst}
-use Rattle.std.proofs.lemmas.Bool.{eq-eqb}
-use Rattle.std.proofs.lemmas.Result.{err_from_is_err_and}
-use Rattle.pb_semantics.proofs.Bools.{true-false}
-use Rattle.pb_semantics.specs.Gives.{FaultGives}
-use Rattle.pb_language.specs.Judged.{judged}
+use Rattle.std.proofs.Common.{◌≡◌, ◌∙◌, Err, sym, ap, subst}
+use Rattle.std.proofs.lemmas.Result.{IfOk-weaker, err_from_is_err_and}
+use Rattle.pb_semantics.specs.Gives.{FaultGives, Gives}
 use Rattle.pb_language.specs.Verdict.{Verdict, accepted}
 use Rattle.pb_sig.specs.Modules.{modules_of}
 use Rattle.pb_inventory.specs.Inventory.{inventory_view}
-use Rattle.pb_book.specs.Books.{book_of, plain_plays}
-use Rattle.pb_value.specs.KindView.{slots_view}
-use Rattle.pb_verify.specs.Built.{built_verdict, is_lone}
-use Rattle.pb_verify.specs.Known.{IsTable}
-use Rattle.pb_verify.specs.Judges.{refused_verdict, refuses_without_host}
-use Rattle.pb_verify.specs.declared.checked.Accepted.{Accepted}
+use Rattle.pb_book.specs.Books.{book_view}
+use Rattle.pb_plain.specs.Books.{book_of}
+use Rattle.pb_plain.specs.declared.book.PlainBook.{PlainBook}
+use Rattle.pb_plain.proofs.Built.{plain-ok}
+use Rattle.pb_verify.specs.Built.{built_verdict}
+use Rattle.pb_verify.specs.Faults.{from_plain}
+use Rattle.pb_verify.specs.Judges.{refused_verdict}
+use Rattle.pb_verify.specs.declared.verify.VerifyFault.{VerifyFault}
 use Rattle.pb_verify.specs.declared.verify.VerifyFault.TheVariants as fault
-use Rattle.pb_verify.proofs.Lone.{built_verdict-lone, built_verdict-other}
+use Rattle.pb_verify.specs.declared.checked.Accepted.{Accepted}
+use Rattle.pb_verify.proofs.Lone.{built_verdict-other, built_verdict-plain, no-memory, refused-plain, unbuilt_at-lone}
 use Rattle.pb_verify.proofs.verify.verify.Goals as goal
 
 pub returns-then-not-is_lone-clause-verdict : goal.returns-then-not-is_lone-clause-verdict
 returns-then-not-is_lone-clause-verdict c =
-    built_verdict-other (modules_of c.args.registry) (inventory_view c.args.inventory) (book_of c.args.book) (sym c.is_lone.ensures ∙ c.if-not-is_lone.true)
-
-pub judge-requires-clause-lone : goal.judge-requires-clause-lone
-judge-requires-clause-lone c = sym c.is_lone.ensures ∙ c.if-not-is_lone.false
-
-pub returns-in_err-budget-clause-verdict : goal.returns-in_err-budget-clause-verdict
-returns-in_err-budget-clause-verdict c =
-    let p = err_from_is_err_and c.from_residual.result c.from_residual.ensures.1 in
     let ms = modules_of c.args.registry in
     let i = inventory_view c.args.inventory in
-    let lone : is_lone i ≡ true = sym c.is_lone.ensures ∙ c.if-not-is_lone.false in
-    let same : judged ms i (plain_plays c.plays.result.now) ≡ built_verdict ms i (book_of c.args.book) =
-    ap (λ ps. judged ms i (plain_plays ps)) c.plays.ensures ∙ sym (built_verdict-lone ms i (book_of c.args.book) lone) in
-    rw (p.1, p.2) (subst (λ (v : Verdict). FaultGives (refused_verdict c.in_err-budget.field-0.0) v) same c.in_err-budget.ensures.verdict)
+    let b = book_view c.args.book in
+    subst (λ (e : VerifyFault). FaultGives (refused_verdict e) (built_verdict ms i b)) (sym c.not_built.ensures) (built_verdict-other ms i b (sym c.is_lone.ensures ∙ c.if-not-is_lone.true))
 
-pub of-requires-clause-accepted : goal.of-requires-clause-accepted
-of-requires-clause-accepted c =
-    let n = c.in_ok-budget.field-0.budget in
-    let judge = judged (modules_of c.args.registry) (inventory_view c.args.inventory) in
-    let verdict : judge (book_of c.args.book) ≡ accepted n = sym (ap (λ ps. judge (plain_plays ps)) c.plays.ensures) ∙ c.in_ok-budget.ensures.verdict in
-    rw verdict (eq-eqb n n refl)
+pub returns-in_err-plain-clause-verdict : goal.returns-in_err-plain-clause-verdict
+returns-in_err-plain-clause-verdict c =
+    let p = err_from_is_err_and c.from_residual.result c.from_residual.ensures.1 in
+    rw (p.1, p.2) (refused-plain (modules_of c.args.registry) (inventory_view c.args.inventory) (book_view c.args.book) c.in_err-plain.field-0.0 (sym c.is_lone.ensures ∙ c.if-not-is_lone.false) c.in_err-plain.ensures.given)
 
-pub of-requires-clause-lone : goal.of-requires-clause-lone
-of-requires-clause-lone c = sym c.is_lone.ensures ∙ c.if-not-is_lone.false
+pub returns-in_err-plain-clause-apart : goal.returns-in_err-plain-clause-apart
+returns-in_err-plain-clause-apart c = λ memory.
+    let p = err_from_is_err_and c.from_residual.result c.from_residual.ensures.1 in
+    let here = p.1 in
+    let same = p.2 in
+    let is : from_plain c.in_err-plain.field-0.0 ≡ fault.NoMemory = (cc) in
+    unbuilt_at-lone (inventory_view c.args.inventory) (book_view c.args.book) (sym c.is_lone.ensures ∙ c.if-not-is_lone.false)
+    ∙ c.in_err-plain.ensures.apart (ap (λ e. Err e) (no-memory c.in_err-plain.field-0.0 is))
+
+pub verify_plain-requires-clause-known : goal.verify_plain-requires-clause-known
+verify_plain-requires-clause-known c = c.in_ok-plain.ensures.known (modules_of c.args.registry) c.requires
+
+pub verify_plain-requires-clause-lone : goal.verify_plain-requires-clause-lone
+verify_plain-requires-clause-lone c = sym c.is_lone.ensures ∙ c.if-not-is_lone.false
+
+pub returns-clause-handed : goal.returns-clause-handed
+returns-clause-handed c =
+    let read = plain-ok (book_view c.args.book) (book_of c.in_ok-plain.plain) c.in_ok-plain.ensures.given in
+    IfOk-weaker c.verify_plain.result _ _ (λ a kept. (ap (λ (x : PlainBook). book_of x) kept.0 ∙ sym read.1, kept.1, kept.2)) c.verify_plain.ensures.handed
 
 pub returns-clause-verdict : goal.returns-clause-verdict
 returns-clause-verdict c =
     let ms = modules_of c.args.registry in
     let i = inventory_view c.args.inventory in
-    built_verdict-lone ms i (book_of c.args.book) (sym c.is_lone.ensures ∙ c.if-not-is_lone.false)
-    ∙ sym (ap (λ ps. judged ms i (plain_plays ps)) c.plays.ensures) ∙ c.in_ok-budget.ensures.verdict
-    ∙ ap accepted (sym (ap (λ (a : Accepted). a.budget) c.in_ok-of.ensures))
+    let plain = built_verdict-plain ms i (book_view c.args.book) (book_of c.in_ok-plain.plain) (sym c.is_lone.ensures ∙ c.if-not-is_lone.false) c.in_ok-plain.ensures.given in
+    subst (λ (v : Verdict). Gives (λ (a : Accepted). accepted a.budget) refused_verdict c.verify_plain.result v) (sym plain) c.verify_plain.ensures.verdict
 
-pub of-requires-clause-table : goal.of-requires-clause-table
-of-requires-clause-table c =
-    subst (λ b. IsTable (modules_of c.args.registry) (inventory_view c.args.inventory) b (slots_view c.in_ok-budget.field-0.known.entries)) (ap plain_plays c.plays.ensures) c.in_ok-budget.ensures.known
-
-pub returns-in_err-budget-clause-apart : goal.returns-in_err-budget-clause-apart
-returns-in_err-budget-clause-apart c = λ refuses memory.
-    let p = err_from_is_err_and c.from_residual.result c.from_residual.ensures.1 in
-    let here = p.1 in
-    let same = p.2 in
-    let is : c.in_err-budget.field-0.0 ≡ fault.NoMemory = cc in
-    let ms = modules_of c.args.registry in
-    let i = inventory_view c.args.inventory in
-    let built = built_verdict-lone ms i (book_of c.args.book) (sym c.is_lone.ensures ∙ c.if-not-is_lone.false) in
-    c.in_err-budget.ensures.apart (ap (λ ps. refuses_without_host (judged ms i (plain_plays ps))) c.plays.ensures ∙ sym (ap refuses_without_host built) ∙ refuses) (ap (λ e. Err e) is)
-
-pub returns-in_err-of-clause-apart : goal.returns-in_err-of-clause-apart
-returns-in_err-of-clause-apart c = λ refuses memory.
-    let ms = modules_of c.args.registry in
-    let i = inventory_view c.args.inventory in
-    let verdict = built_verdict-lone ms i (book_of c.args.book) (sym c.is_lone.ensures ∙ c.if-not-is_lone.false) ∙ sym (ap (λ ps. judged ms i (plain_plays ps)) c.plays.ensures) ∙ c.in_ok-budget.ensures.verdict in
-    true-false _ refuses (ap refuses_without_host verdict)
+pub returns-clause-apart : goal.returns-clause-apart
+returns-clause-apart c = λ memory.
+    unbuilt_at-lone (inventory_view c.args.inventory) (book_view c.args.book) (sym c.is_lone.ensures ∙ c.if-not-is_lone.false)
+    ∙ (plain-ok (book_view c.args.book) (book_of c.in_ok-plain.plain) c.in_ok-plain.ensures.given).0

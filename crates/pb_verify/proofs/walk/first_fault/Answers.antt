@@ -6,7 +6,8 @@ use Rattle.pb_verify.specs.Environments.{environment_view}
 use Rattle.pb_expr.specs.FitView.{fault_found, fault_view}
 use Rattle.pb_expr.proofs.Turns.{drop-at}
 use Rattle.pb_sig.specs.Modules.{modules_of}
-use Rattle.pb_book.specs.Meaning.{argument_parts, plain_task, plain_tasks}
+use Rattle.pb_template.specs.Entries.{entries_view}
+use Rattle.pb_plain.specs.Meaning.{plain_task, plain_tasks}
 use Rattle.pb_verify.specs.Faults.{fault_refusal}
 use Rattle.pb_verify.specs.Way.{own_fault}
 use Rattle.pb_verify.proofs.WalkFlow.{Rest, Way, is_known-first, is_plain_task-first, any_among-first, Rest-later, is_kept-known, plain_flow-done, plain_flow-fault, Way-on}
@@ -62,7 +63,7 @@ loop-task-preserved c =
     let left = subst (Rest ms) next c.loop-task.invariant.left in
     let plain = is_plain_task-first ms t rest left in
     let free = any_among-first ms t rest left in
-    let kept = is_kept-known ms t.work (argument_parts t.arguments.items) c.args.registry.now.lawful (is_known-first ms t rest left) in
+    let kept = is_kept-known ms t.work (entries_view t.arguments.items) c.args.registry.now.lawful (is_known-first ms t rest left) in
     let way = subst (λ ts. Way ms before now all (plain_tasks ts)) next c.loop-task.invariant.way in
     let learned = subst (λ ts. Learned ms before now written all (plain_tasks ts)) next c.loop-task.invariant.learned in
     let knows = c.in-Ok.ensures.known c.requires.listed in

@@ -1,7 +1,7 @@
 use Rattle.std.proofs.Common.{drop}
 use Rattle.pb_verify.specs.Environments.{environment_view}
 use Rattle.pb_sig.specs.Modules.{modules_of}
-use Rattle.pb_book.specs.Meaning.{plain_tasks}
+use Rattle.pb_plain.specs.Meaning.{plain_tasks}
 use Rattle.pb_verify.proofs.WalkFlow.{Rest, Way}
 use Rattle.pb_verify.proofs.WalkKnown.{Learned}
 use Rattle.pb_verify.proofs.walk.first_fault.Given as goal

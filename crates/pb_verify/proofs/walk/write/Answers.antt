@@ -1,7 +1,7 @@
 use Rattle.std.proofs.Common.{◌≡◌, ap, not, ◌∙◌, Option, Some, None, is_some, refl}
 use Rattle.std.proofs.lemmas.Result.{on_ok_weaker}
 use Rattle.pb_language.specs.Cases.{is_conditional}
-use Rattle.pb_book.specs.Meaning.{condition_view}
+use Rattle.pb_plain.specs.Meaning.{condition_view}
 use Rattle.pb_syntax.specs.declared.expr.Expr.{Expr}
 use Rattle.pb_verify.specs.Environments.{environment_view}
 use Rattle.pb_verify.specs.Way.{all_set, sets_of}

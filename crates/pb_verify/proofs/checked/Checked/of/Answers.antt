@@ -1,8 +1,8 @@
 use Rattle.std.proofs.Common.{◌≡◌, true, sym, subst}
 use Rattle.pb_sig.specs.Modules.{modules_of}
 use Rattle.pb_inventory.specs.Inventory.{inventory_view}
-use Rattle.pb_book.specs.Books.{plays_of}
-use Rattle.pb_book.specs.Lines.{names_known}
+use Rattle.pb_plain.specs.Books.{plays_of}
+use Rattle.pb_plain.specs.Lines.{names_known}
 use Rattle.pb_verify.specs.Built.{is_lone}
 use Rattle.pb_verify.specs.Known.{HasTable}
 use Rattle.pb_verify.specs.Judges.{is_accepted}

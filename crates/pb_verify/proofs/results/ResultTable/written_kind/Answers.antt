@@ -2,8 +2,8 @@ use Rattle.std.proofs.Common.{◌≡◌, true, map, Some, None, option_map, stri
 use Rattle.std.proofs.lemmas.Result.{MatchResult-weaker}
 use Rattle.pb_language.specs.Expression.{no_parts}
 use Rattle.pb_language.specs.Plays.{module_named}
-use Rattle.pb_book.specs.Lines.{is_known}
-use Rattle.pb_book.specs.Meaning.{work_of}
+use Rattle.pb_plain.specs.Lines.{is_known}
+use Rattle.pb_plain.specs.Meaning.{work_of}
 use Rattle.pb_verify.specs.ResultTables.{entry_listed, listed_at, module_listed}
 use Rattle.pb_verify.specs.Way.{written_result}
 use Rattle.pb_verify.proofs.ResultShapes.{listed_at-module, written_result-module}

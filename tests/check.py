@@ -12,6 +12,7 @@ TIMEOUT = 60
 FOLDER = object()  # stands for a folder, in the place of a file's bytes
 PAUSE = 0.02
 TIMES = 3
+PAIRS = 12
 GLANCE = 0.001
 
 
@@ -63,19 +64,28 @@ class Cost(Check):
 
 @dataclass
 class Growth(Check):
-    """How many times as long it takes where its files are larger: the least of some runs of each."""
+    """How many times as long it takes where its files are larger, by the least of all runs of each so far: the
+    machine may slow a run down and never speeds one up, so pairs of runs are added until they are judged to be good."""
 
     larger: dict = field(default_factory=dict)
 
     def run(self, program):
-        small = fastest(program, self)
-        large = fastest(program, replace(self, files=self.larger))
-        large.growth = large.seconds / small.seconds
-        return large
+        large_files = replace(self, files=self.larger)
+        small, large = outcome_of(program, self), outcome_of(program, large_files)
+        for _ in range(PAIRS - 1):
+            if not self.judge(grown(small, large)):
+                break
+            small = faster(small, outcome_of(program, self))
+            large = faster(large, outcome_of(program, large_files))
+        return grown(small, large)
 
 
-def fastest(program, check):
-    return min((outcome_of(program, check) for _ in range(TIMES)), key=lambda outcome: outcome.seconds)
+def faster(one, other):
+    return min(one, other, key=lambda outcome: outcome.seconds)
+
+
+def grown(small, large):
+    return replace(large, growth=large.seconds / small.seconds)
 
 
 def short(data, most=300):

@@ -1,4 +1,3 @@
-pub mod Filters
 pub mod Ordered
 pub mod Books
 pub mod Reading

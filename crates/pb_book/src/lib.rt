@@ -9,7 +9,6 @@
 
 pub mod book;
 pub mod fault;
-mod filter;
 pub mod read;
 
 pub use book::Book;

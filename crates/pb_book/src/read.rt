@@ -10,11 +10,9 @@ ghost use Rattle.pb_book.specs.Reading.{book_in};
 
 use crate::book::Book;
 use crate::fault::BookFault;
-use crate::filter::ManyFilters;
 use pb_play::{Offence, read_plays};
 use pb_sig::Registry;
 use pb_task::Code;
-use pb_template::holds;
 use pb_value::read_json;
 use std::alloc::Global;
 
@@ -31,8 +29,7 @@ impl Book {
     ///
     /// `Refused` at line 0 with `Limit` where there are more than 4,194,304 bytes; else `NotJson`
     /// where they aren't JSON; else `Refused` as the value's plays are, at the least line, with the
-    /// least code on it. `NoMemory` for want of memory, and where more than 8,192 filters begin in
-    /// a text: each may make the tree of an expression one level deeper.
+    /// least code on it. `NoMemory` for want of memory.
     pub fn read(alloc: Global, bytes: &[u8], registry: &Registry) -> Result<Book, BookFault>
         ensures given { Gives (λ b. Ok (book_view b)) offence_of result
             (book_in (modules_of registry.now) bytes.now) }
@@ -49,9 +46,6 @@ impl Book {
             }));
         }
         let value = read_json(alloc, bytes)?;
-        if holds::<ManyFilters>(&value) {
-            return Err(BookFault::NoMemory);
-        }
         Ok(Book::of_plays(read_plays(alloc, registry, &value)?))
     }
 }

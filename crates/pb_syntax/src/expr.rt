@@ -63,7 +63,6 @@ pub enum Status {
 }
 
 /// An expression, a template, or a list or record of these.
-#[derive(Drop)]
 pub enum Expr {
     /// A value that is known before the run; copies of it share what lies inside.
     Literal(Value),
@@ -102,4 +101,35 @@ pub enum Expr {
     List(Vec<Expr>),
     /// A JSON object in an argument, with a template somewhere in it.
     Record(BTreeMap<String, Expr>),
+}
+
+// A chain of filters is dropped by a loop: it may be as long as the text that it was read from, and
+// nothing else nests without a bound.
+impl Drop for Expr {
+    fn drop(mut self) {
+        loop {
+            match self {
+                Expr::ValueOr(value, _other) => self = Box::into_inner(value),
+                Expr::Length(value) => self = Box::into_inner(value),
+                Expr::Join(value, _between) => self = Box::into_inner(value),
+                Expr::Literal(_value) => return,
+                Expr::Path(_path) => return,
+                Expr::Hostvars(_host) => return,
+                Expr::Not(_operand) => return,
+                Expr::And(_operands) => return,
+                Expr::Or(_operands) => return,
+                Expr::Compare(_comparison, _left, _right) => return,
+                Expr::In(_part, _whole) => return,
+                Expr::InBatch(_host) => return,
+                Expr::Defined(_path) => return,
+                Expr::Undefinable(_value) => return,
+                Expr::PathStatus(_status, _path) => return,
+                Expr::Status(_status, _value) => return,
+                Expr::PathOr(_path, _other) => return,
+                Expr::Concat(_parts) => return,
+                Expr::List(_items) => return,
+                Expr::Record(_fields) => return,
+            }
+        }
+    }
 }

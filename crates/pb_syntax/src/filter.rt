@@ -63,7 +63,7 @@ pub fn filtered_with(
         ≡ grammar.filter_with (filter_name filter) (expr_view value) (expr_view given)) }
 {
     match filter {
-        Filter::Default => Ok(Some(value_or(alloc, value, given)?)),
+        Filter::Default => Ok(Some(value.or(alloc, given)?)),
         Filter::Length => Ok(None),
         Filter::Join => {
             let between = Box::new(alloc, given)?;
@@ -72,15 +72,17 @@ pub fn filtered_with(
     }
 }
 
-// A value, or the other one where it is missing.
-fn value_or(alloc: Global, value: Expr, other: Expr) -> Result<Expr, AllocError>
-    ensures { IfOk result (λ e.
-        expr_view e ≡ grammar.default_of (expr_view value) (expr_view other)) }
-{
-    let other = Box::new(alloc, other)?;
-    match value {
-        Expr::Path(path) => Ok(Expr::PathOr(path, other)),
-        Expr::Hostvars(_) => Ok(Expr::ValueOr(Box::new(alloc, Expr::Hostvars(None))?, other)),
-        value => Ok(Expr::ValueOr(Box::new(alloc, value)?, other)),
+impl Expr {
+    // A value, or the other one where it is missing.
+    fn or(self, alloc: Global, other: Expr) -> Result<Expr, AllocError>
+        ensures { IfOk result (λ e.
+            expr_view e ≡ grammar.default_of (expr_view self) (expr_view other)) }
+    {
+        let other = Box::new(alloc, other)?;
+        match self {
+            Expr::Path(path) => Ok(Expr::PathOr(path, other)),
+            Expr::Hostvars(_) => Ok(Expr::ValueOr(Box::new(alloc, Expr::Hostvars(None))?, other)),
+            value => Ok(Expr::ValueOr(Box::new(alloc, value)?, other)),
+        }
     }
 }

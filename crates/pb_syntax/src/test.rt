@@ -97,12 +97,12 @@ fn with_test(alloc: Global, test: Test, value: Expr) -> Result<Expr, AllocError>
         Some (expr_view e) ≡ grammar.test_named (test_name test) (expr_view value)) }
 {
     match test {
-        Test::Defined => defined(alloc, value),
-        Test::Undefined => negated(alloc, defined(alloc, value)?),
-        Test::Failed => with_status(alloc, Status::Failed, value),
-        Test::Succeeded => negated(alloc, with_status(alloc, Status::Failed, value)?),
-        Test::Changed => with_status(alloc, Status::Changed, value),
-        Test::Skipped => with_status(alloc, Status::Skipped, value),
+        Test::Defined => value.defined(alloc),
+        Test::Undefined => negated(alloc, value.defined(alloc)?),
+        Test::Failed => value.with_status(alloc, Status::Failed),
+        Test::Succeeded => negated(alloc, value.with_status(alloc, Status::Failed)?),
+        Test::Changed => value.with_status(alloc, Status::Changed),
+        Test::Skipped => value.with_status(alloc, Status::Skipped),
     }
 }
 
@@ -112,22 +112,24 @@ fn negated(alloc: Global, expr: Expr) -> Result<Expr, AllocError>
     Ok(Expr::Not(Box::new(alloc, expr)?))
 }
 
-fn defined(alloc: Global, value: Expr) -> Result<Expr, AllocError>
-    ensures { IfOk result (λ e. expr_view e ≡ grammar.defined_of (expr_view value)) }
-{
-    match value {
-        Expr::Path(path) => Ok(Expr::Defined(path)),
-        Expr::Hostvars(_) => Ok(Expr::Undefinable(Box::new(alloc, Expr::Hostvars(None))?)),
-        value => Ok(Expr::Undefinable(Box::new(alloc, value)?)),
+impl Expr {
+    fn defined(self, alloc: Global) -> Result<Expr, AllocError>
+        ensures { IfOk result (λ e. expr_view e ≡ grammar.defined_of (expr_view self)) }
+    {
+        match self {
+            Expr::Path(path) => Ok(Expr::Defined(path)),
+            Expr::Hostvars(_) => Ok(Expr::Undefinable(Box::new(alloc, Expr::Hostvars(None))?)),
+            value => Ok(Expr::Undefinable(Box::new(alloc, value)?)),
+        }
     }
-}
 
-fn with_status(alloc: Global, status: Status, value: Expr) -> Result<Expr, AllocError>
-    ensures { IfOk result (λ e.
-        expr_view e ≡ grammar.status_of (status_view status) (expr_view value)) }
-{
-    match value {
-        Expr::Path(path) => Ok(Expr::PathStatus(status, path)),
-        value => Ok(Expr::Status(status, Box::new(alloc, value)?)),
+    fn with_status(self, alloc: Global, status: Status) -> Result<Expr, AllocError>
+        ensures { IfOk result (λ e.
+            expr_view e ≡ grammar.status_of (status_view status) (expr_view self)) }
+    {
+        match self {
+            Expr::Path(path) => Ok(Expr::PathStatus(status, path)),
+            value => Ok(Expr::Status(status, Box::new(alloc, value)?)),
+        }
     }
 }

@@ -1,6 +1,11 @@
 // The tree of an expression or a template.
+ghost use Rattle.std.specs.Prelude.{◌≡◌, IfOk};
+ghost use Rattle.pb_language.specs.Grammar.{default_of, defined_of, status_of};
+ghost use Rattle.pb_syntax.specs.ExprView.{expr_view, status_view};
+
 use pb_value::Value;
 use smallvec::SmallVec;
+use std::alloc::{AllocError, Global};
 use std::collections::BTreeMap;
 
 /// A list of names, most often one.
@@ -101,6 +106,43 @@ pub enum Expr {
     List(Vec<Expr>),
     /// A JSON object in an argument, with a template somewhere in it.
     Record(BTreeMap<String, Expr>),
+}
+
+impl Expr {
+    // Whether it is defined.
+    pub(crate) fn defined(self, alloc: Global) -> Result<Expr, AllocError>
+        ensures { IfOk result (λ e. expr_view e ≡ defined_of (expr_view self)) }
+    {
+        match self {
+            Expr::Path(path) => Ok(Expr::Defined(path)),
+            Expr::Hostvars(_) => Ok(Expr::Undefinable(Box::new(alloc, Expr::Hostvars(None))?)),
+            value => Ok(Expr::Undefinable(Box::new(alloc, value)?)),
+        }
+    }
+
+    // Whether it has the status.
+    pub(crate) fn with_status(self, alloc: Global, status: Status) -> Result<Expr, AllocError>
+        ensures { IfOk result (λ e.
+            expr_view e ≡ status_of (status_view status) (expr_view self)) }
+    {
+        match self {
+            Expr::Path(path) => Ok(Expr::PathStatus(status, path)),
+            value => Ok(Expr::Status(status, Box::new(alloc, value)?)),
+        }
+    }
+
+    // Its value, or the other one where it is missing.
+    pub(crate) fn or(self, alloc: Global, other: Expr) -> Result<Expr, AllocError>
+        ensures { IfOk result (λ e.
+            expr_view e ≡ default_of (expr_view self) (expr_view other)) }
+    {
+        let other = Box::new(alloc, other)?;
+        match self {
+            Expr::Path(path) => Ok(Expr::PathOr(path, other)),
+            Expr::Hostvars(_) => Ok(Expr::ValueOr(Box::new(alloc, Expr::Hostvars(None))?, other)),
+            value => Ok(Expr::ValueOr(Box::new(alloc, value)?, other)),
+        }
+    }
 }
 
 // A chain of filters is dropped by a loop: it may be as long as the text that it was read from, and

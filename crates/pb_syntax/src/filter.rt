@@ -71,18 +71,3 @@ pub fn filtered_with(
         }
     }
 }
-
-impl Expr {
-    // A value, or the other one where it is missing.
-    fn or(self, alloc: Global, other: Expr) -> Result<Expr, AllocError>
-        ensures { IfOk result (λ e.
-            expr_view e ≡ grammar.default_of (expr_view self) (expr_view other)) }
-    {
-        let other = Box::new(alloc, other)?;
-        match self {
-            Expr::Path(path) => Ok(Expr::PathOr(path, other)),
-            Expr::Hostvars(_) => Ok(Expr::ValueOr(Box::new(alloc, Expr::Hostvars(None))?, other)),
-            value => Ok(Expr::ValueOr(Box::new(alloc, value)?, other)),
-        }
-    }
-}

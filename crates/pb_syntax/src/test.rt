@@ -3,7 +3,7 @@ ghost use Rattle.std.specs.Prelude.{◌≡◌, IfErr, IfNone, IfOk, IfSome, None
 ghost use Rattle.pb_language.specs.Words.{tokens_of};
 ghost use Rattle.pb_language.specs.Expression.{Expression, negation};
 ghost use Rattle.pb_language.specs.Grammar as grammar;
-ghost use Rattle.pb_syntax.specs.ExprView.{expr_view, status_view};
+ghost use Rattle.pb_syntax.specs.ExprView.{expr_view};
 ghost use Rattle.pb_syntax.specs.Forms.{test_name};
 ghost use Rattle.pb_syntax.specs.Letters.{tokens_at};
 ghost use Rattle.pb_syntax.specs.Lexed.{IsToken};
@@ -110,26 +110,4 @@ fn negated(alloc: Global, expr: Expr) -> Result<Expr, AllocError>
     ensures { IfOk result (λ e. expr_view e ≡ negation (expr_view expr)) }
 {
     Ok(Expr::Not(Box::new(alloc, expr)?))
-}
-
-impl Expr {
-    fn defined(self, alloc: Global) -> Result<Expr, AllocError>
-        ensures { IfOk result (λ e. expr_view e ≡ grammar.defined_of (expr_view self)) }
-    {
-        match self {
-            Expr::Path(path) => Ok(Expr::Defined(path)),
-            Expr::Hostvars(_) => Ok(Expr::Undefinable(Box::new(alloc, Expr::Hostvars(None))?)),
-            value => Ok(Expr::Undefinable(Box::new(alloc, value)?)),
-        }
-    }
-
-    fn with_status(self, alloc: Global, status: Status) -> Result<Expr, AllocError>
-        ensures { IfOk result (λ e.
-            expr_view e ≡ grammar.status_of (status_view status) (expr_view self)) }
-    {
-        match self {
-            Expr::Path(path) => Ok(Expr::PathStatus(status, path)),
-            value => Ok(Expr::Status(status, Box::new(alloc, value)?)),
-        }
-    }
 }

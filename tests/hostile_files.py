@@ -3,7 +3,7 @@ import json
 from dataclasses import dataclass
 
 from check import Check, bytes_of, exactly, short
-from program_checks import CHECK, ONE_HOST, SIGNED, broken_texts, module_of, no_memory
+from program_checks import CHECK, ONE_HOST, SIGNED, broken_texts, module_of
 from program_checks import refused as refused_somehow
 
 SOUND = {"book": "[]", "inventory": ONE_HOST}
@@ -17,7 +17,6 @@ MOST_HANDLERS = 256
 MOST_BLOCKS = 16  # inside one another
 MOST_TEXT = 65_536  # bytes
 MOST_EXPRESSION = 4_096  # bytes
-MOST_FILTERS = 8_192  # of a text, past which it is want of memory
 MOST_ITEMS = 1_024  # of a loop that is a list
 MOST_LEVELS = 32  # lists and records inside one another in one value
 MOST_JSON_LEVELS = 127
@@ -246,11 +245,11 @@ def books_of_one_expression():
         ("brackets", *in_task(when, "[", '"'), unreadable),
         ("negations", *in_task(when, "not ", 'x"'), unreadable),
         ("steps of a path", *in_task(when + "a", ".a", '"'), unreadable),
-        ("filters in one another", *in_task(when + "a", "|default(a", '"'), no_memory),
-        ("lengths behind one another", *in_task(when + "a", "|length", '"'), no_memory),
-        ("joins behind one another", *in_task(when + "a", "|join", '"'), no_memory),
-        ("joins with a text behind one another", *in_task(when + "a", "|join('')", '"'), no_memory),
-        ("filters behind one another", *in_task(when + "a", "|default(a)", '"'), no_memory),
+        ("filters in one another", *in_task(when + "a", "|default(a", '"'), unreadable),
+        ("lengths behind one another", *in_task(when + "a", "|length", '"'), too_long),
+        ("joins behind one another", *in_task(when + "a", "|join", '"'), too_long),
+        ("joins with a text behind one another", *in_task(when + "a", "|join('')", '"'), too_long),
+        ("filters behind one another", *in_task(when + "a", "|default(a)", '"'), too_long),
         ("quotes", *in_task(when, "'", '"'), unreadable),
     ]
 
@@ -581,8 +580,8 @@ def texts():
     when, line, _ = CONDITION_PLACES["when"]
     undefined = NotBuilt(line, refused_on_host("V01", line))
     too_long = refused("P08", line)
-    rows = [(MOST_EXPRESSION // len("|join"), undefined), (MOST_FILTERS, too_long), (MOST_FILTERS + 1, no_memory)]
-    for filters, judge in rows:
+    most = MOST_EXPRESSION // len("|join")
+    for filters, judge in [(most, undefined), (most + 1, too_long)]:
         yield hostile(f"{filters} filters behind one another", judge, book=put("a" + "|join" * filters, when))
 
 

@@ -2,7 +2,7 @@
 // by hand.
 ghost use Rattle.pb_value.specs.Words.{fields_view};
 ghost use Rattle.pb_expr.specs.Words.{no_trees};
-ghost use Rattle.pb_tests.specs.TwoHosts.{two_hosts};
+ghost use Rattle.pb_expression_tests.specs.TwoHosts.{two_hosts};
 
 use pb_expr::eval::eval;
 use pb_expr::{Expr, Member, Names, Path, Root, Status, Term, Vars, values_of};

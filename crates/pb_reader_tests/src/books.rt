@@ -1,8 +1,8 @@
 // Texts that are a book, texts that aren't, and books of forms that aren't built yet.
 use pb_book::{BOOK_LIMIT, Book, BookFault};
-use pb_expr::Expr;
 use pb_plain::{PlainBook, PlainFault, Play, Task, Work};
 use pb_sig::Registry;
+use pb_syntax::Expr;
 use pb_task::Code;
 use pb_value::Value;
 use std::alloc::Global;
@@ -218,16 +218,26 @@ fn is_text(value: &Expr, expected: &str) -> bool {
     matches!(value, Expr::Literal(Value::Text(text)) if text.as_str() == expected)
 }
 
+fn is_one(value: &Expr) -> bool {
+    matches!(value, Expr::Literal(Value::Int(1)))
+}
+
+fn is_path(value: &Expr) -> bool {
+    matches!(value, Expr::Path(_))
+}
+
+fn is_list_of_a_path(value: &Expr) -> bool {
+    match value {
+        Expr::List(items) => matches!(items.as_slice(), [item] if is_path(item)),
+        _ => false,
+    }
+}
+
 // Whether the value is a record of the number 1 as `a` and a list of one path as `b`.
 fn is_record_of_a_path(value: &Expr) -> bool {
     match value {
         Expr::Record(parts) => {
-            let is_one = matches!(parts.get("a"), Some(Expr::Literal(Value::Int(1))));
-            let is_path = match parts.get("b") {
-                Some(Expr::List(items)) => matches!(items.as_slice(), [Expr::Path(_)]),
-                _ => false,
-            };
-            is_one && is_path
+            parts.get("a").is_some_and(is_one) && parts.get("b").is_some_and(is_list_of_a_path)
         }
         _ => false,
     }

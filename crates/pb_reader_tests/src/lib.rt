@@ -1,0 +1,12 @@
+// Tests of the public calls that read inventories, tasks, plays and books. They stand here, so that
+// no crate with code is proved twice.
+#![tactic(auto)]
+
+#[cfg(test)]
+mod books;
+#[cfg(test)]
+mod inventories;
+#[cfg(test)]
+mod plays;
+#[cfg(test)]
+mod tasks;

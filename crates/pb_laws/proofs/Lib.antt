@@ -1,3 +1,5 @@
 mod Entries
 mod Expressions
+mod Keys
+mod Tasks
 mod Witness

@@ -2,4 +2,5 @@ mod Entries
 mod Expressions
 mod Keys
 mod Tasks
+mod TasksRead
 mod Witness

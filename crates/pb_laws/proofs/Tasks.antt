@@ -66,7 +66,7 @@ boolean_form None = refl
 boolean_form (Some b) = refl
 
 -- the conditions of a task that is repeated
-until_read : (w : Writing) (t : TaskData) (o : Option Attempts) → Where (AreAttempts w t) o → Where (AreConditions w) (option_map (λ a. a.until) o)
+pub until_read : (w : Writing) (t : TaskData) (o : Option Attempts) → Where (AreAttempts w t) o → Where (AreConditions w) (option_map (λ a. a.until) o)
 until_read w t None h = tt
 until_read w t (Some a) h = h.until
 

@@ -3,4 +3,5 @@ mod Expressions
 mod Keys
 mod Tasks
 mod TasksRead
+mod Steps
 mod Witness

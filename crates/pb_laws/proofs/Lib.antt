@@ -4,4 +4,7 @@ mod Keys
 mod Tasks
 mod TasksRead
 mod Steps
+mod Handlers
+mod Patterns
+mod Plays
 mod Witness

@@ -48,7 +48,7 @@ says_block w k l b xs ys zs body rescue always h =
       ignore_errors = value_written (codes "ignore_errors") es no_fields;
     }
 
-some_is_list : (ds : Items) → is_list (some_list ds) ≡ true
+pub some_is_list : (ds : Items) → is_list (some_list ds) ≡ true
 some_is_list no_items = refl
 some_is_list (item d ds) = refl
 

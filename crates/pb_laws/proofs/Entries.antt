@@ -1,15 +1,15 @@
 -- What is read of keys that are written, each where the book has something to say.
-use Rattle.std.proofs.Common.{◌≡◌, ℕ, List, [], ◌∷◌, Bool, true, false, not, ◌&&◌, ◌||◌, cond, Option, Some, None, bytes_eq, refl, sym, ap, ◌∙◌}
+use Rattle.std.proofs.Common.{◌≡◌, List, [], ◌∷◌, Bool, true, false, not, ◌||◌, cond, Option, Some, None, bytes_eq, refl, sym, ap, ◌∙◌}
 use Rattle.std.specs.List.{list_all, list_any}
 use Rattle.pb_semantics.specs.Data.{Data, Fields, no_fields, field, field_value}
 use Rattle.pb_semantics.specs.Keeps.{is_among}
-use Rattle.pb_semantics.proofs.Bools.{untrue, and-left, and-right, and-both, neither-left, neither-right, neither-both, true-false}
-use Rattle.pb_semantics.proofs.Names.{same_name, own_name}
-use Rattle.pb_language.specs.BookForm.{fits, has_other_key, own_fields}
+use Rattle.pb_semantics.proofs.Bools.{and-left, and-right, and-both, neither-left, neither-right, neither-both, true-false}
+use Rattle.pb_semantics.proofs.Names.{same_name}
+use Rattle.pb_language.specs.BookForm.{fits, own_fields}
 use Rattle.pb_language.specs.Expression.{Name}
 use Rattle.pb_language.specs.Keywords.{Standing, is_left_out, keywords_of}
 use Rattle.pb_language.specs.Nesting.{holds, some_field_holds}
-use Rattle.pb_language.specs.TaskForm.{fit_keywords, fits_keyword, has_key, has_left_out, holds_where, is_missing, keys_of, without_prefix, works_in}
+use Rattle.pb_language.specs.TaskForm.{fit_keywords, fits_keyword, has_key, holds_where, is_missing, keys_of, without_prefix, works_in}
 use Rattle.pb_laws.specs.PrintedBook.{Entries, written}
 
 -- the first of two that is there

@@ -1,20 +1,19 @@
 -- Conditions, values, texts and works, as they are written, are read as themselves.
-use Rattle.std.proofs.Common.{◌≡◌, ℕ, List, [], ◌∷◌, Bool, true, false, not, ◌&&◌, ◌||◌, ◌==◌, cond, Option, Some, None, option_map, bytes_eq, codes, refl, sym, ap, ◌∙◌}
+use Rattle.std.proofs.Common.{◌≡◌, List, [], ◌∷◌, Bool, true, false, not, ◌||◌, ◌==◌, cond, Option, Some, None, option_map, bytes_eq, codes, refl, sym, ap, ◌∙◌}
 use Rattle.std.specs.List.{list_all, list_any, starts_with}
-use Rattle.pb_semantics.specs.Data.{Data, Items, Fields, null, boolean, int, text, list, rec, no_items, item, no_fields, field, field_value, opaque}
+use Rattle.pb_semantics.specs.Data.{Data, null, boolean, int, text, list, rec, field, field_value, opaque}
 use Rattle.pb_semantics.specs.Keeps.{is_among}
-use Rattle.pb_semantics.proofs.Bools.{untrue, and-left, and-right, and-both, neither-left, neither-right, neither-both}
-use Rattle.pb_semantics.proofs.Names.{own_name}
+use Rattle.pb_semantics.proofs.Bools.{untrue, and-both, neither-left, neither-right, neither-both}
 use Rattle.pb_language.specs.Book.{Asserted, not_given, not_well_formed, conditions_are, Registry, Work, module_work, debug_work, set_fact_work, assert_work, fail_work}
-use Rattle.pb_language.specs.Expression.{Name, Expression, Expressions, Parts, no_expressions, expression, no_parts, part}
+use Rattle.pb_language.specs.Expression.{Name, Expressions, Parts, no_expressions, expression, no_parts, part}
 use Rattle.pb_language.specs.Inventories.{has_opening}
 use Rattle.pb_language.specs.Keywords.{as_handler, is_left_out, keywords_of}
 use Rattle.pb_language.specs.Nesting.{holds, some_field_holds, some_item_holds}
 use Rattle.pb_language.specs.Rules.{is_variable_name, part_names}
-use Rattle.pb_language.specs.TaskForm.{are_plain_texts, arguments_in, asserted_in, assertion, asserts, builtin_prefix, conditions_found, conditions_given, free_form, is_action, is_missing, is_vars, keys_of, module_at, names_in, topics_in, vars_found, without_field, without_prefix, work_of}
-use Rattle.pb_language.specs.Texts.{are_conditions, condition_in, conditions_in, each_condition, has_conditions, is_condition, is_opaque, parts_of, value_of, with_item, with_part}
-use Rattle.pb_laws.specs.PrintedBook.{Writing, arguments, asserted, conditions, given_conditions, some_list, some_record, texts, values, work_key, written}
-use Rattle.pb_laws.specs.PrintableBook.{AreConditions, AreValues, AreVars, IsAsserted, IsModule, IsVariable, IsWork, Where, is_taken}
+use Rattle.pb_language.specs.TaskForm.{are_plain_texts, arguments_in, asserted_in, assertion, asserts, builtin_prefix, conditions_found, conditions_given, free_form, is_action, is_missing, is_vars, keys_of, module_at, names_in, topics_in, vars_found, without_field, work_of}
+use Rattle.pb_language.specs.Texts.{are_conditions, each_condition, is_condition, is_opaque, parts_of, value_of, with_item, with_part}
+use Rattle.pb_laws.specs.PrintedBook.{Writing, arguments, conditions, given_conditions, some_list, some_record, texts, values, work_key}
+use Rattle.pb_laws.specs.PrintableBook.{AreConditions, AreValues, AreVars, IsAsserted, IsWork, Where, is_taken}
 
 -- conditions
 

@@ -1,16 +1,15 @@
 -- Handlers, printed, are read as themselves, one line each.
-use Rattle.std.proofs.Common.{◌≡◌, ℕ, suc, List, [], ◌∷◌, Bool, true, false, not, ◌&&◌, ◌||◌, nat_le, Option, Some, None, option_map, Ok, bytes_eq, codes, refl, sym, ap, ◌∙◌}
-use Rattle.std.specs.List.{list_all, list_any}
-use Rattle.pb_semantics.specs.Data.{Data, Items, Fields, text, rec, no_items, item, field_value}
-use Rattle.pb_language.specs.Book.{HandlerData, Registry, TaskData}
-use Rattle.pb_language.specs.BookForm.{changed, fits, handler_before, handler_offence, handlers_in, is_second, most_handlers, named_too, or_code, unless}
+use Rattle.std.proofs.Common.{◌≡◌, ℕ, suc, List, [], ◌∷◌, true, false, not, ◌&&◌, ◌||◌, Option, Some, None, option_map, Ok, codes, refl, ap, ◌∙◌}
+use Rattle.std.specs.List.{list_any}
+use Rattle.pb_semantics.specs.Data.{Items, Fields, text, rec, item, field_value}
+use Rattle.pb_language.specs.Book.{HandlerData, Registry}
+use Rattle.pb_language.specs.BookForm.{changed, fits, handler_before, handlers_in, is_second, named_too, or_code, unless}
 use Rattle.pb_language.specs.Expression.{Name}
 use Rattle.pb_language.specs.Inventories.{has_opening}
 use Rattle.pb_language.specs.Keywords.{as_handler, is_left_out}
-use Rattle.pb_language.specs.Nesting.{holds}
-use Rattle.pb_language.specs.TaskForm.{code_where, holds_where, is_plain_text, task_of, text_in, topics_in}
+use Rattle.pb_language.specs.TaskForm.{code_where, is_plain_text, text_in, topics_in}
 use Rattle.pb_language.specs.Texts.{is_opaque}
-use Rattle.pb_laws.specs.PrintedBook.{Writing, handler_entries, printed_handler, printed_handlers, printed_task, some_list, texts, work_key, written}
+use Rattle.pb_laws.specs.PrintedBook.{Writing, handler_entries, printed_handler, printed_handlers, printed_task, texts, work_key, written}
 use Rattle.pb_laws.specs.PrintableBook.{AreHandlers, IsHandler, IsPlain, Where, behind_handlers}
 use Rattle.pb_laws.proofs.Entries.{entry, first_of, fit_written, no_key_written, none_holds_written, second, value_written, works_written}
 use Rattle.pb_laws.proofs.Expressions.{texts_clear, texts_read}
@@ -58,14 +57,14 @@ handler_read ms w l i ns h ds g =
     let own = own_key ms w t.work g.task.work in
     let f = handler_says w (printed_task w t) h g.name g.topics (task_says ms w as_handler t g.task) in
     let name : text_in (field_value (codes "name") fs) ≡ h.name =
-        ap text_in (own_value w h (codes "name") (task_value w t (codes "name") (other_word (codes "name") (work_key t.work) own refl))) ∙ text_read h.name in
+    ap text_in (own_value w h (codes "name") (task_value w t (codes "name") (other_word (codes "name") (work_key t.work) own refl))) ∙ text_read h.name in
     let topics : topics_in (field_value (codes "listen") fs) ≡ h.topics =
-        ap topics_in (own_value w h (codes "listen") (task_value w t (codes "listen") (other_word (codes "listen") (work_key t.work) own refl))) ∙ texts_read h.topics in
+    ap topics_in (own_value w h (codes "listen") (task_value w t (codes "listen") (other_word (codes "listen") (work_key t.work) own refl))) ∙ texts_read h.topics in
     let offence = no_offence ms w as_handler fs t g.task f g.within in
     let task = task_read ms w as_handler fs l t g.task f g.line.number in
     let second : is_second ns (text_in (field_value (codes "name") fs)) ≡ false = ap (is_second ns) name ∙ g.first in
     (λ j. unless l (or_code (or_code (offence j) (code_where (g.line.few j) 8 None)) (code_where (g.few j) 8 (code_where (second j) 9 None)))
-      (changed (handler_before fs (task j)) (handlers_in ms (suc l) (suc i) (named_too ns (name j)) ds)))
+    (changed (handler_before fs (task j)) (handlers_in ms (suc l) (suc i) (named_too ns (name j)) ds)))
     ∙ (λ j. changed (λ hs. record { work = t; name = name j; topics = topics j } ∷ hs) (handlers_in ms (suc l) (suc i) (named_too ns h.name) ds))
 
 pub handlers_read : (ms : Registry) (w : Writing) (l i : ℕ) (ns : List Name) (hs : List HandlerData) → AreHandlers ms w l i ns hs → handlers_in ms l i ns (printed_handlers w hs) ≡ Ok (hs, behind_handlers l hs)

@@ -1,17 +1,17 @@
 -- The key of what a task does is no keyword and no word that is left out, wherever the task stands.
-use Rattle.std.proofs.Common.{◌≡◌, ℕ, List, [], ◌∷◌, ◌++◌, length, drop, Bool, true, false, not, ◌&&◌, ◌||◌, ◌==◌, cond, bytes_eq, codes, refl, sym, ap, ◌∙◌}
+use Rattle.std.proofs.Common.{◌≡◌, List, [], ◌∷◌, ◌++◌, length, drop, Bool, true, false, not, ◌||◌, ◌==◌, cond, bytes_eq, codes, refl, sym, ap, ◌∙◌}
 use Rattle.std.specs.List.{list_all, starts_with}
-use Rattle.pb_semantics.specs.Data.{Data, Fields, rec}
+use Rattle.pb_semantics.specs.Data.{Fields, rec}
 use Rattle.pb_semantics.specs.Keeps.{is_among}
-use Rattle.pb_semantics.proofs.Bools.{and-left, and-right, or-left, or-right, neither-left, neither-right, neither-both, true-false}
+use Rattle.pb_semantics.proofs.Bools.{and-left, and-right, or-right, neither-left, neither-right, neither-both, true-false}
 use Rattle.pb_semantics.proofs.Names.{same_name}
 use Rattle.pb_language.specs.Book.{Registry, Work, module_work, debug_work, set_fact_work, assert_work, fail_work}
 use Rattle.pb_language.specs.Expression.{Name}
 use Rattle.pb_language.specs.Keywords.{Standing, as_handler, at_top, in_block, is_left_out, keywords_of, left_out_words, misplaced_words, part_keywords, task_keywords}
-use Rattle.pb_language.specs.TaskForm.{builtin_prefix, fits_work, free_form, is_action, is_arguments, is_known_work, is_meta, is_missing, module_at, without_prefix}
+use Rattle.pb_language.specs.TaskForm.{builtin_prefix, fits_work, is_action, is_known_work, is_meta, is_missing, module_at, without_prefix}
 use Rattle.pb_laws.specs.PrintedBook.{Writing, arguments, work_key}
 use Rattle.pb_laws.specs.PrintableBook.{IsWork}
-use Rattle.pb_laws.proofs.Expressions.{MeansModule, means_module}
+use Rattle.pb_laws.proofs.Expressions.{means_module}
 
 -- a name in neither of two rows differs from each that is in one
 differs : (n m : Name) (xs ys : List Name) → is_among n xs ≡ false → is_among n ys ≡ false → is_among m xs || is_among m ys ≡ true → bytes_eq n m ≡ false

@@ -3,10 +3,10 @@ use Rattle.std.proofs.Common.{◌≡◌, ℕ, zero, suc, List, [], ◌∷◌, �
 use Rattle.std.specs.List.{list_all, list_any}
 use Rattle.std.specs.Fmt.{decimal, digits}
 use Rattle.std.proofs.lemmas.Bool.Decides.{nat_tests}
-use Rattle.pb_semantics.specs.Data.{Data, Items, text, no_items, item}
+use Rattle.pb_semantics.specs.Data.{text}
 use Rattle.pb_semantics.proofs.Bools.{untrue, and-left, and-right, and-both, neither-left, neither-right, not-true}
 use Rattle.pb_language.specs.Book.{Cut, host_count, percentage}
-use Rattle.pb_language.specs.BookForm.{are_filled_texts, cut_before, cut_in, cuts_in, fits, is_blank, is_filled_text, is_serial, percentage_in, serial_given, serial_in, turned, without_blanks, word_met, words_from, words_of_each}
+use Rattle.pb_language.specs.BookForm.{are_filled_texts, cut_before, cut_in, cuts_in, fits, is_blank, is_filled_text, is_serial, percentage_in, serial_given, turned, without_blanks, word_met, words_from, words_of_each}
 use Rattle.pb_language.specs.Expression.{Name}
 use Rattle.pb_language.specs.Nesting.{holds, some_item_holds}
 use Rattle.pb_language.specs.TaskForm.{is_missing}
@@ -102,8 +102,8 @@ percentage_read n h =
     let few : nat_le n 100 ≡ true = and-right (nat_le 1 n) (nat_le n 100) h in
     let some : is_printed n ≡ true = below 101 n is_printed each_is_printed (within n few) in
     number_is n (percentage_in (decimal n ++ codes "%")) (sym (ap (λ q. cond q (is_number n (percentage_in (decimal n ++ codes "%"))) true) h) ∙ some) where
-  within : (n : ℕ) → nat_le n 100 ≡ true → n < 101
-  within n h = grind (arith, nat_tests, h)
+      within : (n : ℕ) → nat_le n 100 ≡ true → n < 101
+      within n h = grind (arith, nat_tests, h)
 
 cut_read : (c : Cut) → is_cut c ≡ true → cut_in (printed_cut c) ≡ Some c
 cut_read (host_count n) h = ap (λ q. cond q (Some (host_count n)) None) h

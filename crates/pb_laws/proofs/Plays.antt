@@ -1,16 +1,16 @@
 -- Plays, printed, are read as themselves, and so are books.
-use Rattle.std.proofs.Common.{◌≡◌, ℕ, suc, List, [], ◌∷◌, Bool, true, false, not, ◌&&◌, ◌||◌, cond, Option, Some, None, option_map, unwrap_or, Ok, codes, refl, sym, ap, ◌∙◌}
+use Rattle.std.proofs.Common.{◌≡◌, ℕ, suc, [], ◌∷◌, Bool, true, false, not, ◌&&◌, ◌||◌, cond, Option, Some, None, option_map, unwrap_or, Ok, codes, refl, sym, ap, ◌∙◌}
 use Rattle.std.specs.List.{list_all, list_any}
-use Rattle.pb_semantics.specs.Data.{Data, Items, Fields, boolean, text, list, rec, no_items, item, no_fields, field_value}
+use Rattle.pb_semantics.specs.Data.{Items, Fields, boolean, list, rec, no_items, item, no_fields, field_value}
 use Rattle.pb_semantics.specs.Keeps.{is_among}
-use Rattle.pb_language.specs.Book.{Book, PlayData, Registry, Steps}
+use Rattle.pb_language.specs.Book.{Book, PlayData, Registry}
 use Rattle.pb_language.specs.BookForm.{and_then, book_read, changed, fits, gathering_in, handlers_in, handlers_of, has_other_key, has_wrong_play_value, is_free, is_large_play, is_list, is_pattern, is_serial, is_set, is_strategy, line_offence, other_lines, own_fields, pattern_in, play_in, play_of, play_offence, plays_in, section_of, serial_given, steps_in, unless}
-use Rattle.pb_language.specs.Expression.{Name, no_parts}
+use Rattle.pb_language.specs.Expression.{no_parts}
 use Rattle.pb_language.specs.Keywords.{play_keywords}
 use Rattle.pb_language.specs.Nesting.{holds, some_field_holds}
 use Rattle.pb_language.specs.TaskForm.{boolean_in, code_where, has_key, holds_where, is_boolean, is_missing, is_text, is_vars, text_in, vars_found}
 use Rattle.pb_language.specs.Texts.{is_opaque}
-use Rattle.pb_laws.specs.PrintedBook.{Writing, play_entries, printed_cuts, printed_handlers, printed_play, printed_plays, printed_steps, some_list, some_record, strategy_name, texts, true_where, values, written}
+use Rattle.pb_laws.specs.PrintedBook.{Writing, play_entries, printed_cuts, printed_handlers, printed_play, printed_plays, printed_steps, some_list, some_record, strategy_name, texts, true_where, values}
 use Rattle.pb_laws.specs.PrintableBook.{ArePlays, BooksAreReadBack, IsLine, IsPlay, Where, behind_gathering, behind_play, behind_post_tasks, behind_pre_tasks, behind_tasks}
 use Rattle.pb_laws.proofs.Entries.{key_value, no_key_written, none_of_own_written, own_entry, value_written}
 use Rattle.pb_laws.proofs.Expressions.{texts_clear, values_clear, vars_read}
@@ -98,8 +98,8 @@ play_unrefused : (ms : Registry) (w : Writing) (i l : ℕ) (p : PlayData) (fs : 
 play_unrefused ms w i l p fs h f large =
     let hosts : has_key (codes "hosts") fs ≡ true = key_value (codes "hosts") fs ∙ ap (λ x. not (is_missing x)) f.hosts in
     let lists : list_all (λ n. is_list (field_value n fs)) other_lines ≡ true =
-        (λ j. is_list (f.handlers j) && (is_list (f.pre_tasks j) && (is_list (f.tasks j) && (is_list (f.post_tasks j) && true))))
-        ∙ (λ j. some_is_list (printed_handlers w p.handlers) j && (some_is_list (printed_steps w p.pre_tasks) j && (some_is_list (printed_steps w p.tasks) j && (some_is_list (printed_steps w p.post_tasks) j && true)))) in
+    (λ j. is_list (f.handlers j) && (is_list (f.pre_tasks j) && (is_list (f.tasks j) && (is_list (f.post_tasks j) && true))))
+    ∙ (λ j. some_is_list (printed_handlers w p.handlers) j && (some_is_list (printed_steps w p.pre_tasks) j && (some_is_list (printed_steps w p.tasks) j && (some_is_list (printed_steps w p.post_tasks) j && true)))) in
     let pattern : fits is_pattern (field_value (codes "hosts") fs) ≡ true = ap (fits is_pattern) f.hosts ∙ words_filled p.pattern h.pattern in
     let name : fits is_text (field_value (codes "name") fs) ≡ true = ap (fits is_text) f.name in
     let gathering = ap (fits is_boolean) f.gather_facts ∙ gathering_form p.gathering in
@@ -157,15 +157,15 @@ play_read ms w i l p h =
     let d = behind_post_tasks l p in
     let offence = play_unrefused ms w i l p fs h f h.within in
     let gathering : gathering_in (suc l) fs ≡ Ok (p.gathering, a) =
-        ap (λ x. cond (is_set (boolean_in x)) (unless (suc l) (line_offence (suc l) None) (Ok (Some (suc l), suc (suc l)))) (Ok (None, suc l))) f.gather_facts ∙ gathering_given l p.gathering h.gathering in
+    ap (λ x. cond (is_set (boolean_in x)) (unless (suc l) (line_offence (suc l) None) (Ok (Some (suc l), suc (suc l)))) (Ok (None, suc l))) f.gather_facts ∙ gathering_given l p.gathering h.gathering in
     let pre : section_of ms a (field_value (codes "pre_tasks") fs) ≡ Ok (p.pre_tasks, b) = ap (section_of ms a) f.pre_tasks ∙ some_section ms a (printed_steps w p.pre_tasks) ∙ steps_read ms w 0 a p.pre_tasks h.pre_tasks in
     let tasks : section_of ms b (field_value (codes "tasks") fs) ≡ Ok (p.tasks, c) = ap (section_of ms b) f.tasks ∙ some_section ms b (printed_steps w p.tasks) ∙ steps_read ms w 0 b p.tasks h.tasks in
     let post : section_of ms c (field_value (codes "post_tasks") fs) ≡ Ok (p.post_tasks, d) = ap (section_of ms c) f.post_tasks ∙ some_section ms c (printed_steps w p.post_tasks) ∙ steps_read ms w 0 c p.post_tasks h.post_tasks in
     let handlers : handlers_of ms d (field_value (codes "handlers") fs) ≡ Ok (p.handlers, behind_play l p) = ap (handlers_of ms d) f.handlers ∙ some_handlers ms d (printed_handlers w p.handlers) ∙ handlers_read ms w d 0 [] p.handlers h.handlers in
     (λ j. unless l (offence j) (and_then (gathering j) (λ g a. and_then (section_of ms a (field_value (codes "pre_tasks") fs)) (λ pre b. and_then (section_of ms b (field_value (codes "tasks") fs)) (λ tasks c.
-      and_then (section_of ms c (field_value (codes "post_tasks") fs)) (λ post d. changed (play_of l g fs pre tasks post) (handlers_of ms d (field_value (codes "handlers") fs))))))))
+    and_then (section_of ms c (field_value (codes "post_tasks") fs)) (λ post d. changed (play_of l g fs pre tasks post) (handlers_of ms d (field_value (codes "handlers") fs))))))))
     ∙ (λ j. and_then (pre j) (λ pre b. and_then (section_of ms b (field_value (codes "tasks") fs)) (λ tasks c.
-      and_then (section_of ms c (field_value (codes "post_tasks") fs)) (λ post d. changed (play_of l p.gathering fs pre tasks post) (handlers_of ms d (field_value (codes "handlers") fs))))))
+    and_then (section_of ms c (field_value (codes "post_tasks") fs)) (λ post d. changed (play_of l p.gathering fs pre tasks post) (handlers_of ms d (field_value (codes "handlers") fs))))))
     ∙ (λ j. and_then (tasks j) (λ tasks c. and_then (section_of ms c (field_value (codes "post_tasks") fs)) (λ post d. changed (play_of l p.gathering fs p.pre_tasks tasks post) (handlers_of ms d (field_value (codes "handlers") fs)))))
     ∙ (λ j. and_then (post j) (λ post d. changed (play_of l p.gathering fs p.pre_tasks p.tasks post) (handlers_of ms d (field_value (codes "handlers") fs))))
     ∙ (λ j. changed (play_of l p.gathering fs p.pre_tasks p.tasks p.post_tasks) (handlers j))

@@ -1,18 +1,18 @@
 -- Blocks and lists of steps, printed, are read as themselves, line by line.
-use Rattle.std.proofs.Common.{◌≡◌, ℕ, suc, List, [], ◌∷◌, Bool, true, false, not, ◌&&◌, ◌||◌, cond, nat_lt, Option, Some, None, option_map, unwrap_or, Ok, bytes_eq, codes, refl, sym, ap, ◌∙◌}
+use Rattle.std.proofs.Common.{◌≡◌, ℕ, suc, [], ◌∷◌, Bool, true, false, not, ◌&&◌, ◌||◌, cond, Option, Some, None, option_map, unwrap_or, Ok, bytes_eq, codes, refl, sym, ap, ◌∙◌}
 use Rattle.std.specs.List.{list_all, list_any}
 use Rattle.pb_semantics.specs.Data.{Data, Items, Fields, boolean, list, rec, no_items, item, no_fields, field, field_value}
 use Rattle.pb_semantics.specs.Keeps.{is_among}
 use Rattle.pb_language.specs.Book.{BlockData, Registry, Steps, block_step, flush_step, no_steps, task_step}
-use Rattle.pb_language.specs.BookForm.{Reading, and_then, block_of, block_offence, changed, fits, has_other_key, has_wrong_block_value, is_large_block, is_list, is_unreadable_block, most_lines, own_fields, part_in, part_of, step_in, steps_in, task_in, unless}
+use Rattle.pb_language.specs.BookForm.{Reading, and_then, block_of, block_offence, changed, fits, has_other_key, has_wrong_block_value, is_large_block, is_list, is_unreadable_block, own_fields, part_in, part_of, step_in, steps_in, unless}
 use Rattle.pb_language.specs.Expression.{Name, no_expressions, no_parts}
 use Rattle.pb_language.specs.Keywords.{block_keywords, in_block, part_keywords}
 use Rattle.pb_language.specs.Nesting.{some_field_holds}
 use Rattle.pb_language.specs.TaskForm.{boolean_in, code_where, conditions_found, fits_keyword, has_key, is_boolean, is_missing, is_vars, vars_found}
 use Rattle.pb_language.specs.Texts.{has_conditions, is_opaque}
-use Rattle.pb_laws.specs.PrintedBook.{Writing, block_entries, conditions, printed_block, printed_flush, printed_steps, some_list, some_record, values, written}
+use Rattle.pb_laws.specs.PrintedBook.{Writing, block_entries, conditions, printed_block, printed_flush, printed_steps, some_list, some_record, values}
 use Rattle.pb_laws.specs.PrintableBook.{AreSteps, IsBlock, behind}
-use Rattle.pb_laws.proofs.Entries.{entry, no_key_written, none_of_own_written, own_entry, value_written}
+use Rattle.pb_laws.proofs.Entries.{no_key_written, none_of_own_written, own_entry, value_written}
 use Rattle.pb_laws.proofs.Expressions.{conditions_clear, found_read, values_clear, vars_read}
 use Rattle.pb_laws.proofs.Tasks.{boolean_clear, boolean_form, conditions_form, list_clear, record_clear, vars_form}
 use Rattle.pb_laws.proofs.TasksRead.{boolean_read, flush_read, task_in_read}
@@ -55,10 +55,10 @@ some_is_list (item d ds) = refl
 block_unrefused : (w : Writing) (k l : ℕ) (b : BlockData) (xs ys zs : Steps) (fs : Fields) (body rescue always : Items) → IsBlock w k l b xs ys zs → SaysBlock w fs b body rescue always → is_large_block k fs ≡ false → block_offence k l fs ≡ None
 block_unrefused w k l b xs ys zs fs body rescue always h f large =
     let lists : list_all (λ n. is_list (field_value n fs)) part_keywords ≡ true =
-        (λ i. is_list (f.body i) && (is_list (f.rescue i) && (is_list (f.always i) && true))) ∙ (λ i. some_is_list rescue i && (some_is_list always i && true)) in
+    (λ i. is_list (f.body i) && (is_list (f.rescue i) && (is_list (f.always i) && true))) ∙ (λ i. some_is_list rescue i && (some_is_list always i && true)) in
     let forms : list_all (λ n. fits (fits_keyword in_block n) (field_value n fs)) (codes "name" ∷ codes "when" ∷ codes "vars" ∷ codes "ignore_errors" ∷ []) ≡ true =
-        (λ i. fits (fits_keyword in_block (codes "name")) (f.name i) && (fits has_conditions (f.condition i) && (fits is_vars (f.vars i) && (fits is_boolean (f.ignore_errors i) && true))))
-        ∙ (λ i. conditions_form w b.condition h.condition i && (vars_form w b.vars h.vars i && (boolean_form b.ignore_errors i && true))) in
+    (λ i. fits (fits_keyword in_block (codes "name")) (f.name i) && (fits has_conditions (f.condition i) && (fits is_vars (f.vars i) && (fits is_boolean (f.ignore_errors i) && true))))
+    ∙ (λ i. conditions_form w b.condition h.condition i && (vars_form w b.vars h.vars i && (boolean_form b.ignore_errors i && true))) in
     let wrong : has_wrong_block_value fs ≡ false = λ i. f.clear i || (not (lists i) || not (forms i)) in
     let condition = ap conditions_found f.condition ∙ found_read w b.condition h.condition in
     let vars = ap vars_found f.vars ∙ vars_read w b.vars h.vars in
@@ -91,7 +91,7 @@ some_part ms k l (item d ds) = refl
 
 block_key : (ms : Registry) (k l : ℕ) (fs : Fields) → has_key (codes "block") fs ≡ true
     → step_in ms k l (rec fs) ≡ unless l (block_offence k l fs) (and_then (part_in (codes "block") ms (suc k) (suc l) fs) (λ body next. and_then (part_in (codes "rescue") ms (suc k) next fs)
-      (λ rescue then. changed (λ always ss. block_step (block_of l fs) body rescue always ss) (part_in (codes "always") ms (suc k) then fs))))
+    (λ rescue then. changed (λ always ss. block_step (block_of l fs) body rescue always ss) (part_in (codes "always") ms (suc k) then fs))))
 block_key ms k l fs h = rw h refl
 
 block_read : (ms : Registry) (w : Writing) (k l : ℕ) (b : BlockData) (body rescue always : Steps) → IsBlock w k l b body rescue always
@@ -115,7 +115,7 @@ block_read ms w k l b body rescue always h first then last =
     let unrefused = block_unrefused w k l b body rescue always fs xs ys zs h f h.within in
     block_key ms k l fs refl
     ∙ (λ i. unless l (unrefused i) (and_then (read_body i) (λ body next. and_then (part_in (codes "rescue") ms (suc k) next fs)
-      (λ rescue then. changed (λ always ss. block_step (said i) body rescue always ss) (part_in (codes "always") ms (suc k) then fs)))))
+    (λ rescue then. changed (λ always ss. block_step (said i) body rescue always ss) (part_in (codes "always") ms (suc k) then fs)))))
     ∙ (λ i. and_then (read_rescue i) (λ rescue then. changed (λ always ss. block_step b body rescue always ss) (part_in (codes "always") ms (suc k) then fs)))
     ∙ (λ i. changed (λ always ss. block_step b body rescue always ss) (read_always i))
 

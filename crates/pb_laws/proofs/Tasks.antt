@@ -1,22 +1,21 @@
 -- A task, printed, is refused nowhere and read as that task, wherever it stands.
-use Rattle.std.proofs.Common.{◌≡◌, ℕ, pos, List, [], ◌∷◌, Bool, true, false, not, ◌&&◌, ◌||◌, cond, nat_le, nat_lt, Option, Some, None, option_map, unwrap_or, bytes_eq, codes, refl, sym, ap, ◌∙◌}
+use Rattle.std.proofs.Common.{◌≡◌, pos, List, [], ◌∷◌, Bool, true, false, ◌&&◌, ◌||◌, cond, Option, Some, None, option_map, bytes_eq, codes, refl, ap, ◌∙◌}
 use Rattle.std.specs.List.{list_all, list_any}
-use Rattle.pb_semantics.specs.Data.{Data, Items, Fields, boolean, int, text, list, rec, no_items, item, no_fields, field, field_value}
-use Rattle.pb_semantics.proofs.Bools.{and-both, neither-both}
-use Rattle.pb_language.specs.Book.{Registry, TaskData, Work}
-use Rattle.pb_language.specs.BookForm.{fits, line_offence, most_lines}
+use Rattle.pb_semantics.specs.Data.{Data, Items, Fields, boolean, int, text, rec, no_items, item, no_fields, field, field_value}
+use Rattle.pb_language.specs.Book.{Registry, TaskData}
+use Rattle.pb_language.specs.BookForm.{fits}
 use Rattle.pb_language.specs.Expression.{Name, Expression, Expressions, Parts, no_expressions, expression, no_parts, part}
 use Rattle.pb_language.specs.Inventories.{has_opening}
-use Rattle.pb_language.specs.Keywords.{Standing, as_handler, at_top, in_block, is_left_out, keywords_of}
+use Rattle.pb_language.specs.Keywords.{Standing, as_handler, at_top, in_block, is_left_out}
 use Rattle.pb_language.specs.Nesting.{holds, some_field_holds, some_item_holds}
 use Rattle.pb_language.specs.Task.{Attempts}
-use Rattle.pb_language.specs.TaskForm.{attempts_in, boolean_in, code_where, conditions_found, conditions_given, fit_keywords, fit_works, fits_keyword, fits_until, fits_work, has_key, has_left_out, has_wrong_value, holds_where, is_action, is_boolean, is_known_work, is_loop, is_missing, is_name_of_variable, is_past_limits, is_retries, is_topics, is_vars, keys_of, lone, loop_in, loop_reads, most_retries, reads_all, retries_in, task_of, task_offence, text_in, topics_in, vars_found, work_found, work_of, works_in}
-use Rattle.pb_language.specs.Texts.{has_conditions, is_opaque, value_of}
-use Rattle.pb_laws.specs.PrintedBook.{Writing, arguments, conditions, given_conditions, printed_task, some_list, some_record, task_entries, texts, values, work_key, written}
-use Rattle.pb_laws.specs.PrintableBook.{AreAttempts, AreConditions, AreVars, IsLoop, IsTask, IsVariable, IsWork, Where}
-use Rattle.pb_laws.proofs.Entries.{entry, first_of, fit_written, fits_entry, is_keyword, key_value, no_key_written, none_holds_written, value_written, works_written}
-use Rattle.pb_laws.proofs.Expressions.{conditions_clear, conditions_fit, conditions_read, found_read, given_found, given_read, texts_clear, texts_plain, texts_read, values_clear, vars_fit, vars_read, work_clear, work_read}
-use Rattle.pb_laws.proofs.Keys.{OwnKey, known_key, no_left_out, no_prefix, no_word, other_word, own_key, work_fits}
+use Rattle.pb_language.specs.TaskForm.{fit_keywords, fits_keyword, has_left_out, holds_where, is_boolean, is_loop, is_name_of_variable, is_retries, is_topics, is_vars, works_in}
+use Rattle.pb_language.specs.Texts.{has_conditions, is_opaque}
+use Rattle.pb_laws.specs.PrintedBook.{Writing, arguments, conditions, given_conditions, printed_task, some_list, some_record, task_entries, texts, values, work_key}
+use Rattle.pb_laws.specs.PrintableBook.{AreAttempts, AreConditions, AreVars, IsLoop, IsTask, IsVariable, Where}
+use Rattle.pb_laws.proofs.Entries.{entry, first_of, fit_written, fits_entry, is_keyword, no_key_written, none_holds_written, value_written, works_written}
+use Rattle.pb_laws.proofs.Expressions.{conditions_clear, conditions_fit, texts_clear, texts_plain, values_clear, vars_fit, work_clear}
+use Rattle.pb_laws.proofs.Keys.{no_left_out, no_prefix, no_word, other_word, own_key}
 
 -- what fields say of a task
 pub record Says (w : Writing) (s : Standing) (fs : Fields) (t : TaskData) : Type 0 where

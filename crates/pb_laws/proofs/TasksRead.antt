@@ -1,16 +1,16 @@
 -- Fields that say a task are refused nowhere, and are read as that task.
-use Rattle.std.proofs.Common.{◌≡◌, ℕ, suc, pos, List, [], ◌∷◌, Bool, true, false, not, ◌&&◌, ◌||◌, cond, nat_le, nat_lt, Option, Some, None, option_map, unwrap_or, Ok, bytes_eq, codes, refl, sym, ap, ◌∙◌}
-use Rattle.std.specs.List.{list_all, list_any}
-use Rattle.pb_semantics.specs.Data.{Data, Items, Fields, boolean, int, text, list, rec, no_items, item, no_fields, field, field_value}
-use Rattle.pb_language.specs.Book.{Registry, Steps, TaskData, Work, flush_step, task_step}
-use Rattle.pb_language.specs.BookForm.{is_flush, line_offence, most_lines, or_code, standing, step_in, task_before, task_in, unless}
-use Rattle.pb_language.specs.Expression.{Name, Expression, Expressions, Parts, no_expressions, no_parts}
-use Rattle.pb_language.specs.Keywords.{Standing, as_handler, at_top, in_block}
+use Rattle.std.proofs.Common.{◌≡◌, ℕ, suc, pos, Bool, true, false, not, ◌&&◌, ◌||◌, cond, Option, Some, None, option_map, unwrap_or, Ok, codes, refl, sym, ap, ◌∙◌}
+use Rattle.std.specs.List.{list_any}
+use Rattle.pb_semantics.specs.Data.{Data, Fields, boolean, int, text, rec}
+use Rattle.pb_language.specs.Book.{Registry, TaskData, flush_step, task_step}
+use Rattle.pb_language.specs.BookForm.{is_flush, or_code, standing, step_in, task_before, task_in, unless}
+use Rattle.pb_language.specs.Expression.{Name, Expression, no_expressions, no_parts}
+use Rattle.pb_language.specs.Keywords.{Standing, at_top}
 use Rattle.pb_language.specs.Task.{Attempts}
 use Rattle.pb_language.specs.TaskForm.{arguments_in, attempts_in, boolean_in, code_where, conditions_found, conditions_given, fit_works, fits_until, free_form, has_key, has_no_lone_work, has_unreadable, has_wrong_value, is_action, is_missing, is_past_limits, is_unknown, keys_of, lone, loop_in, loop_reads, module_at, reads_all, retries_in, task_of, task_offence, text_in, topics_in, vars_found, work_found, works_in}
 use Rattle.pb_language.specs.Book.{module_work}
-use Rattle.pb_laws.specs.PrintedBook.{Writing, arguments, conditions, given_conditions, printed_flush, printed_task, some_list, some_record, texts, values, work_key}
-use Rattle.pb_laws.specs.PrintableBook.{AreAttempts, AreConditions, IsLine, IsLoop, IsTask, IsTaskStep, Where}
+use Rattle.pb_laws.specs.PrintedBook.{Writing, given_conditions, printed_flush, printed_task, work_key}
+use Rattle.pb_laws.specs.PrintableBook.{AreAttempts, IsLine, IsLoop, IsTask, IsTaskStep, Where}
 use Rattle.pb_laws.proofs.Entries.{key_value}
 use Rattle.pb_laws.proofs.Expressions.{conditions_read, found_read, given_found, given_read, texts_read, vars_read, work_read}
 use Rattle.pb_laws.proofs.Keys.{known_key, other_word, own_key, work_fits}
@@ -46,7 +46,7 @@ attempts_read w t (Some a) h = λ i. option_map {U = Attempts} (λ es. record { 
 
 until_fits : (w : Writing) (t : TaskData) (o : Option Attempts) → Where (AreAttempts w t) o
     → cond (not (is_missing (given_conditions w (option_map (λ a. a.until) o)))) (not (not (is_missing (option_map w.value t.loop))) && not (is_action (work_key t.work) || false))
-      (not (not (is_missing (option_map {U = Data} (λ a. int (pos a.retries)) o)))) ≡ true
+    (not (not (is_missing (option_map {U = Data} (λ a. int (pos a.retries)) o)))) ≡ true
 until_fits w t None h = refl
 until_fits w t (Some a) h = λ i. not (not ((still_missing w.value t.loop ∙ h.once) i)) && not (h.calls i || false)
 
@@ -97,7 +97,7 @@ task_read ms w s fs l t h f at =
     let changed = ap conditions_given f.changed_when ∙ given_read w t.changed_when h.changed_when in
     let failed = ap conditions_given f.failed_when ∙ given_read w t.failed_when h.failed_when in
     let attempts : attempts_in fs ≡ t.attempts =
-        (λ i. option_map {U = Attempts} (λ es. record { until = es; retries = retries_in (f.retries i) }) (conditions_given (f.until i))) ∙ attempts_read w t t.attempts h.attempts in
+    (λ i. option_map {U = Attempts} (λ es. record { until = es; retries = retries_in (f.retries i) }) (conditions_given (f.until i))) ∙ attempts_read w t t.attempts h.attempts in
     let ignores = ap boolean_in f.ignore_errors ∙ boolean_read t.ignore_errors in
     λ i. option_map {U = TaskData} (λ x. record {
       line = sym at i;

@@ -1,14 +1,13 @@
 -- A book that has every keyword is printed and read back: the law is not about nothing.
-use Rattle.std.specs.Prelude.{◌≡◌, refl, pos, [], ◌∷◌, ◌++◌, true, false, Some, None, Ok, codes}
+use Rattle.std.specs.Prelude.{◌≡◌, refl, [], ◌∷◌, ◌++◌, true, false, Some, None, Ok, codes}
 use Rattle.std.specs.Fmt.{digits}
-use Rattle.pb_semantics.specs.Data.{Data, null, boolean, int, text, list, item, no_items}
+use Rattle.pb_semantics.specs.Data.{Data, null, text}
 use Rattle.pb_language.specs.Book.{BlockData, Book, PlayData, TaskData, HandlerData, Work, Steps, block_step, flush_step, host_count, no_steps, percentage, task_step}
 use Rattle.pb_language.specs.Book.{module_work, debug_work, set_fact_work, assert_work, fail_work, conditions_are, not_given, not_well_formed}
 use Rattle.pb_language.specs.BookForm.{book_from}
 use Rattle.pb_language.specs.Builtins.{builtins}
 use Rattle.pb_language.specs.Expression.{Name, Expression, Expressions, Parts, literal, path, variable, no_expressions, expression, no_parts, part}
 use Rattle.pb_laws.specs.PrintedBook.{Writing, printed}
-use Rattle.pb_laws.specs.PrintableBook.{IsPrintable}
 
 -- literals and variables, as they are written
 abbrev pub condition_text : Expression → Data

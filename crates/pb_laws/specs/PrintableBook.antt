@@ -4,7 +4,6 @@ use Rattle.std.specs.Prelude.{◌≡◌, ℕ, suc, List, [], ◌∷◌, Bool, tr
 use Rattle.std.specs.Prelude.{nat_le, nat_lt, Option, Some, None, Ok, codes}
 use Rattle.std.specs.List.{list_all, list_any, starts_with}
 use Rattle.std.specs.Str.{bytes_eq}
-use Rattle.pb_semantics.specs.Data.{Fields}
 use Rattle.pb_semantics.specs.Keeps.{is_among}
 use Rattle.pb_language.specs.Book.{Asserted, not_given, not_well_formed, conditions_are, Work}
 use Rattle.pb_language.specs.Book.{module_work, debug_work, set_fact_work, assert_work, fail_work}
@@ -16,7 +15,7 @@ use Rattle.pb_language.specs.BookForm.{is_second, most_handlers, most_lines, nam
 use Rattle.pb_language.specs.Expression.{Name, Expression, Expressions, no_expressions, expression}
 use Rattle.pb_language.specs.Expression.{Parts, no_parts, part}
 use Rattle.pb_language.specs.Inventories.{has_opening}
-use Rattle.pb_language.specs.Keywords.{Standing, as_handler, is_left_out, keywords_of}
+use Rattle.pb_language.specs.Keywords.{as_handler, is_left_out, keywords_of}
 use Rattle.pb_language.specs.Nesting.{holds}
 use Rattle.pb_language.specs.Rules.{is_variable_name, part_names}
 use Rattle.pb_language.specs.Task.{Attempts}

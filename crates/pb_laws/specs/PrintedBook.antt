@@ -1,5 +1,5 @@
 -- A book printed in the plainest form: a key stands only where the book has something to say.
-use Rattle.std.specs.Prelude.{ℕ, pos, List, [], ◌∷◌, ◌++◌, Bool, true, false, not}
+use Rattle.std.specs.Prelude.{pos, List, [], ◌∷◌, ◌++◌, Bool, true, false}
 use Rattle.std.specs.Prelude.{Option, Some, None, option_map, codes}
 use Rattle.std.specs.Fmt.{decimal}
 use Rattle.pb_semantics.specs.Data.{Data, Items, Fields, null, boolean, int, text, list, rec}
@@ -111,7 +111,7 @@ printed_steps w no_steps = no_items
 printed_steps w (task_step t ss) = item (rec (printed_task w t)) (printed_steps w ss)
 printed_steps w (block_step b body rescue always ss) = item
     (rec (printed_block w b (printed_steps w body) (printed_steps w rescue)
-      (printed_steps w always)))
+    (printed_steps w always)))
     (printed_steps w ss)
 printed_steps w (flush_step l ss) = item (rec printed_flush) (printed_steps w ss)
 

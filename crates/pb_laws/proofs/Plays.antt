@@ -161,7 +161,7 @@ play_read ms w i l p h =
     let pre : section_of ms a (field_value (codes "pre_tasks") fs) ≡ Ok (p.pre_tasks, b) = ap (section_of ms a) f.pre_tasks ∙ some_section ms a (printed_steps w p.pre_tasks) ∙ steps_read ms w 0 a p.pre_tasks h.pre_tasks in
     let tasks : section_of ms b (field_value (codes "tasks") fs) ≡ Ok (p.tasks, c) = ap (section_of ms b) f.tasks ∙ some_section ms b (printed_steps w p.tasks) ∙ steps_read ms w 0 b p.tasks h.tasks in
     let post : section_of ms c (field_value (codes "post_tasks") fs) ≡ Ok (p.post_tasks, d) = ap (section_of ms c) f.post_tasks ∙ some_section ms c (printed_steps w p.post_tasks) ∙ steps_read ms w 0 c p.post_tasks h.post_tasks in
-    let handlers : handlers_of ms d (field_value (codes "handlers") fs) ≡ Ok (p.handlers, behind_play l p) = ap (handlers_of ms d) f.handlers ∙ some_handlers ms d (printed_handlers w p.handlers) ∙ handlers_read ms w d 0 [] p.handlers h.handlers in
+    let handlers : handlers_of ms d (field_value (codes "handlers") fs) ≡ Ok (p.handlers, behind_play l p) = ap (handlers_of ms d) f.handlers ∙ some_handlers ms d (printed_handlers w p.handlers) ∙ handlers_read ms w d p.handlers h.handlers h.few_handlers h.own_names in
     (λ j. unless l (offence j) (and_then (gathering j) (λ g a. and_then (section_of ms a (field_value (codes "pre_tasks") fs)) (λ pre b. and_then (section_of ms b (field_value (codes "tasks") fs)) (λ tasks c.
     and_then (section_of ms c (field_value (codes "post_tasks") fs)) (λ post d. changed (play_of l g fs pre tasks post) (handlers_of ms d (field_value (codes "handlers") fs))))))))
     ∙ (λ j. and_then (pre j) (λ pre b. and_then (section_of ms b (field_value (codes "tasks") fs)) (λ tasks c.

@@ -1,7 +1,7 @@
 -- The books that have a print: their lines are counted in the order in which they run, their names
 -- can be used, their expressions are written as they are read, and the limits are kept.
-use Rattle.std.specs.Prelude.{◌≡◌, ℕ, suc, List, [], ◌∷◌, Bool, true, false, not, ◌&&◌, ◌||◌, ◌==◌}
-use Rattle.std.specs.Prelude.{nat_le, nat_lt, Option, Some, None, Ok, codes}
+use Rattle.std.specs.Prelude.{◌≡◌, ℕ, suc, List, [], ◌∷◌, ◌++◌, length, Bool, true, false, not}
+use Rattle.std.specs.Prelude.{◌&&◌, ◌||◌, ◌==◌, nat_le, nat_lt, Option, Some, None, Ok, codes}
 use Rattle.std.specs.List.{list_all, list_any, starts_with}
 use Rattle.std.specs.Str.{bytes_eq}
 use Rattle.pb_semantics.specs.Keeps.{is_among}
@@ -11,17 +11,18 @@ use Rattle.pb_language.specs.Book.{BlockData, Book, Cut, HandlerData, PlayData, 
 use Rattle.pb_language.specs.Book.{TaskData, block_step, flush_step, host_count, no_steps}
 use Rattle.pb_language.specs.Book.{percentage, task_step}
 use Rattle.pb_language.specs.BookForm.{book_from, is_blank, is_large_block, is_large_play}
-use Rattle.pb_language.specs.BookForm.{is_second, most_handlers, most_lines, named_too, standing}
+use Rattle.pb_language.specs.BookForm.{most_handlers, most_lines, standing}
 use Rattle.pb_language.specs.Expression.{Name, Expression, Expressions, no_expressions, expression}
 use Rattle.pb_language.specs.Expression.{Parts, no_parts, part}
 use Rattle.pb_language.specs.Inventories.{has_opening}
 use Rattle.pb_language.specs.Keywords.{as_handler, is_left_out, keywords_of}
 use Rattle.pb_language.specs.Nesting.{holds}
-use Rattle.pb_language.specs.Rules.{is_variable_name, part_names}
+use Rattle.pb_language.specs.Rules.{is_variable_name, option_names, part_names}
 use Rattle.pb_language.specs.Task.{Attempts}
 use Rattle.pb_language.specs.TaskForm.{builtin_prefix, is_action, is_loop, is_missing}
 use Rattle.pb_language.specs.TaskForm.{is_past_limits, module_at, most_retries}
 use Rattle.pb_language.specs.Texts.{condition_in, is_condition, is_opaque, value_of}
+use Rattle.pb_language.specs.Theorem.{are_distinct}
 use Rattle.pb_laws.specs.PrintedBook.{Writing, printed, printed_block, printed_handler}
 use Rattle.pb_laws.specs.PrintedBook.{printed_play, printed_steps, printed_task, work_key}
 
@@ -113,7 +114,8 @@ pub record IsTaskStep (ms : Registry) (w : Writing) (k l : ℕ) (t : TaskData) :
   pub within : is_past_limits (standing k) (printed_task w t) ≡ false
 
 -- the block stands in so many others
-pub record IsBlock (w : Writing) (k l : ℕ) (b : BlockData) (body rescue always : Steps) : Type 0 where
+pub record IsBlock (w : Writing) (k l : ℕ) (b : BlockData) (body rescue always : Steps)
+    : Type 0 where
   pub condition : AreConditions w b.condition
   pub vars : AreVars w b.vars
   pub line : IsLine l b.line
@@ -139,21 +141,21 @@ AreSteps ms w k l (block_step b body rescue always ss) = IsBlock w k l b body re
     × AreSteps ms w k (behind (behind (behind (suc l) body) rescue) always) ss
 AreSteps ms w k l (flush_step m ss) = (k ≡ 0) × IsLine l m × AreSteps ms w k (suc l) ss
 
--- the handler behind so many of the play with these names
-pub record IsHandler (ms : Registry) (w : Writing) (l i : ℕ) (ns : List Name) (h : HandlerData)
-    : Type 0 where
+pub record IsHandler (ms : Registry) (w : Writing) (l : ℕ) (h : HandlerData) : Type 0 where
   pub task : IsTask ms w h.work
   pub line : IsLine l h.work.line
   pub name : Where IsPlain h.name
   pub topics : list_any has_opening h.topics ≡ false
   pub within : is_past_limits as_handler (printed_handler w h) ≡ false
-  pub few : nat_le most_handlers i ≡ false
-  pub first : is_second ns h.name ≡ false
 
-abbrev pub AreHandlers : Registry → Writing → ℕ → ℕ → List Name → List HandlerData → Type 0
-AreHandlers ms w l i ns [] = Unit {0}
-AreHandlers ms w l i ns (h ∷ hs) = IsHandler ms w l i ns h
-    × AreHandlers ms w (suc l) (suc i) (named_too ns h.name) hs
+-- handlers from that line on
+abbrev pub AreHandlers : Registry → Writing → ℕ → List HandlerData → Type 0
+AreHandlers ms w l [] = Unit {0}
+AreHandlers ms w l (h ∷ hs) = IsHandler ms w l h × AreHandlers ms w (suc l) hs
+
+abbrev pub handler_names : List HandlerData → List Name
+handler_names [] = []
+handler_names (h ∷ hs) = option_names h.name ++ handler_names hs
 
 abbrev pub behind_handlers : ℕ → List HandlerData → ℕ
 behind_handlers l [] = l
@@ -204,7 +206,9 @@ pub record IsPlay (ms : Registry) (w : Writing) (i l : ℕ) (p : PlayData) : Typ
   pub pre_tasks : AreSteps ms w 0 (behind_gathering l p.gathering) p.pre_tasks
   pub tasks : AreSteps ms w 0 (behind_pre_tasks l p) p.tasks
   pub post_tasks : AreSteps ms w 0 (behind_tasks l p) p.post_tasks
-  pub handlers : AreHandlers ms w (behind_post_tasks l p) 0 [] p.handlers
+  pub handlers : AreHandlers ms w (behind_post_tasks l p) p.handlers
+  pub few_handlers : nat_le (length p.handlers) most_handlers ≡ true
+  pub own_names : are_distinct (handler_names p.handlers) ≡ true
   pub within : is_large_play i (printed_play w p) ≡ false
 
 abbrev pub ArePlays : Registry → Writing → ℕ → ℕ → Book → Type 0

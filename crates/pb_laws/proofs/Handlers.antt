@@ -117,8 +117,8 @@ handlers_from ms w l i ns [] g few new = refl
 handlers_from ms w l i ns (h ∷ hs) g few new =
     handler_read ms w l i ns h (printed_handlers w hs) g.0 (room i (length hs) few) (name_new ns h.name (handler_names hs) new)
     ∙ (λ j. changed (λ hs. h ∷ hs) (handlers_from ms w (suc l) (suc i) (named_too ns h.name) hs g.1 (omega (arith, few)) (rest_new ns h.name (handler_names hs) new) j)) where
-  room : (i n : ℕ) → i + suc n ≤ most_handlers → nat_le most_handlers i ≡ false
-  room i n h = grind (arith, nat_tests, h)
+      room : (i n : ℕ) → i + suc n ≤ most_handlers → nat_le most_handlers i ≡ false
+      room i n h = grind (arith, nat_tests, h)
 
 pub handlers_read : (ms : Registry) (w : Writing) (l : ℕ) (hs : List HandlerData) → AreHandlers ms w l hs → nat_le (length hs) most_handlers ≡ true → are_distinct (handler_names hs) ≡ true
     → handlers_in ms l 0 [] (printed_handlers w hs) ≡ Ok (hs, behind_handlers l hs)

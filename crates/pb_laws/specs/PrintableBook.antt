@@ -36,6 +36,7 @@ pub record IsCondition (w : Writing) (e : Expression) : Type 0 where
   pub form : is_condition (w.condition e) ≡ true
   pub read : condition_in (w.condition e) ≡ Some e
 
+-- and no number in a value is other than a whole number of 64 bits
 pub record IsValue (w : Writing) (e : Expression) : Type 0 where
   pub numbers : holds is_opaque (w.value e) ≡ false
   pub read : value_of (w.value e) ≡ Some e
@@ -103,11 +104,12 @@ pub record IsTask (ms : Registry) (w : Writing) (t : TaskData) : Type 0 where
   pub failed_when : Where (AreConditions w) t.failed_when
   pub attempts : Where (AreAttempts w t) t.attempts
 
--- the number of a line is the one that is due
+-- the number of a line is the one that is due, and there are no more lines than may be
 pub record IsLine (due line : ℕ) : Type 0 where
   pub number : line ≡ due
   pub few : nat_lt most_lines due ≡ false
 
+-- the task stands in so many blocks, and nothing in it is past its limit
 pub record IsTaskStep (ms : Registry) (w : Writing) (k l : ℕ) (t : TaskData) : Type 0 where
   pub task : IsTask ms w t
   pub line : IsLine l t.line

@@ -1,0 +1,10 @@
+mod Entries
+mod Expressions
+mod Keys
+mod Tasks
+mod TasksRead
+mod Steps
+mod Handlers
+mod Patterns
+mod Plays
+mod Witness

@@ -1,0 +1,2 @@
+pub mod PrintedBook
+pub mod PrintableBook

@@ -1,0 +1,11 @@
+// The laws of reading: what a book says is read back from the plainest form in which it is printed.
+#![tactic(auto)]
+
+ghost use Rattle.pb_laws.specs.PrintableBook.{BooksAreReadBack};
+
+/// A book, with every keyword of its plays, blocks, tasks and handlers, is read back from the
+/// plainest form in which it is printed, however its expressions are written, as long as each of
+/// them is read as itself.
+pub fn books_are_read_back()
+    ensures { BooksAreReadBack }
+{}

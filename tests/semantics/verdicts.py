@@ -1,7 +1,7 @@
 """What becomes of the files of the cases, from their bytes, as rows.
 
-What is wanted is the line that the case prints; nothing else of the case is read here. Left out are cases with signatures, cases of
-long files, and those that print what a run comes to.
+What is wanted is the line that the case prints; nothing else of the case is read here. Left out are cases of long files, and
+those that print what a run comes to.
 """
 
 import re
@@ -12,13 +12,15 @@ sys.path.insert(0, str(Path(__file__).resolve().parent.parent))
 
 from check import bytes_of
 
+FILES = ("signatures", "inventory", "book")
 PER_FILE = 120
 MOST_BYTES = 2000
 ESCAPES = {"\\": "\\\\", '"': '\\"', "\n": "\\n", "\t": "\\t", "\r": "\\r"}
+WHOLE_FILES = {"S": "wrong_signatures", "I": "wrong_inventory"}
 IMPORTS = {
     "Rattle.std.specs.Prelude": ["◌≡◌", "refl", "[]", "◌∷◌", "Some", "None", "codes"],
     "Rattle.pb_language.specs.Verdict": ["accepted", "refused"],
-    "Rattle.pb_byte_rows.specs.Found": ["wrong_inventory", "wrong_book", "verdict", "found"],
+    "Rattle.pb_byte_rows.specs.Found": ["wrong_signatures", "wrong_inventory", "wrong_book", "verdict", "found", "found_with"],
     "Rattle.pb_byte_rows.proofs.Computing": ["reading"],
 }
 
@@ -35,12 +37,12 @@ def wanted(line):
     accepted = re.fullmatch(r"accepted budget (\d+)\n", line)
     if accepted:
         return f"verdict (accepted {accepted[1]})"
-    refused = re.fullmatch(r"refused ([IPV])(\d\d) line (\d+) host (\S+)\n", line)
+    refused = re.fullmatch(r"refused ([SIPV])(\d\d) line (\d+) host (\S+)\n", line)
     if not refused:
         return None
     letter, code, number, host = refused[1], int(refused[2]), refused[3], refused[4]
-    if letter == "I":
-        return f"wrong_inventory {code}"
+    if letter in WHOLE_FILES:
+        return f"{WHOLE_FILES[letter]} {code}"
     if letter == "P":
         return f"wrong_book (record {{ line = {number}; code = {code} }})"
     named = "None" if host == "-" else f"Some {bytes_term(host.encode())}"
@@ -48,14 +50,15 @@ def wanted(line):
 
 
 def row(case):
-    """The row of a case; none where it has signatures, its files are long, or it prints what a run comes to."""
-    given = [bytes_of(case[name]) for name in ("inventory", "book")]
+    """The row of a case; none where its files are long, or it prints what a run comes to."""
+    given = [bytes_of(case[name]) for name in FILES if case[name] is not None]
     term = wanted(case["expected_stdout"])
-    if case["signatures"] is not None or term is None or sum(map(len, given)) > MOST_BYTES:
+    if term is None or sum(map(len, given)) > MOST_BYTES:
         return None
     name = case["id"].replace("-", "_")
-    note = " ".join((case.get("note") or "").split())
-    return f"-- {name}: {note}".rstrip(": ") + f"\n{name} : found {' '.join(map(bytes_term, given))} ≡ {term}\nunfolding reading\n{name} = refl\n"
+    note = f"-- {' '.join(case['note'].split())}\n" if case.get("note") else ""
+    call = f"{'found_with' if len(given) == len(FILES) else 'found'} {' '.join(map(bytes_term, given))}"
+    return f"{note}{name} : {call} ≡ {term}\nunfolding reading\n{name} = refl\n"
 
 
 def header(family, rows):

@@ -11,8 +11,10 @@ pub mod Pattern01
 pub mod Random01
 pub mod Random02
 pub mod Random03
+pub mod Random04
 pub mod Row01
 pub mod Rules01
+pub mod Signatures01
 pub mod Steps01
 pub mod Template01
 pub mod Thin01

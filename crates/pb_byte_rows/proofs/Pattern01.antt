@@ -4,102 +4,102 @@ use Rattle.pb_language.specs.Verdict.{accepted, refused}
 use Rattle.pb_byte_rows.specs.Found.{verdict, found}
 use Rattle.pb_byte_rows.proofs.Computing.{reading}
 
--- pattern_009: pattern "db,web"
+-- pattern "db,web"
 pattern_009 : found (codes "{\"web\": [\"h1\", \"h2\"], \"db\": [\"h3\", \"h1\"], \"h2\": [\"h3\"]}") (codes "[{\"hosts\": \"db,web\", \"tasks\": [{\"ping\": null}]}]") ≡ verdict (accepted 3)
 unfolding reading
 pattern_009 = refl
 
--- pattern_011: pattern " web , db "
+-- pattern " web , db "
 pattern_011 : found (codes "{\"web\": [\"h1\", \"h2\"], \"db\": [\"h3\", \"h1\"], \"h2\": [\"h3\"]}") (codes "[{\"hosts\": \" web , db \", \"tasks\": [{\"ping\": null}]}]") ≡ verdict (accepted 3)
 unfolding reading
 pattern_011 = refl
 
--- pattern_013: pattern "web:db,h1"
+-- pattern "web:db,h1"
 pattern_013 : found (codes "{\"web\": [\"h1\", \"h2\"], \"db\": [\"h3\", \"h1\"], \"h2\": [\"h3\"]}") (codes "[{\"hosts\": \"web:db,h1\", \"tasks\": [{\"ping\": null}]}]") ≡ verdict (accepted 3)
 unfolding reading
 pattern_013 = refl
 
--- pattern_015: pattern "web::db"
+-- pattern "web::db"
 pattern_015 : found (codes "{\"web\": [\"h1\", \"h2\"], \"db\": [\"h3\", \"h1\"], \"h2\": [\"h3\"]}") (codes "[{\"hosts\": \"web::db\", \"tasks\": [{\"ping\": null}]}]") ≡ verdict (refused (record { code = 6; line = 1; host = None }))
 unfolding reading
 pattern_015 = refl
 
--- pattern_016: pattern "web::db", all break
+-- pattern "web::db", all break
 pattern_016 : found (codes "{\"web\": [\"h1\", \"h2\"], \"db\": [\"h3\", \"h1\"], \"h2\": [\"h3\"]}") (codes "[{\"hosts\": \"web::db\", \"tasks\": [{\"ping\": null}]}]") ≡ verdict (refused (record { code = 6; line = 1; host = None }))
 unfolding reading
 pattern_016 = refl
 
--- pattern_020: pattern ":", all break
+-- pattern ":", all break
 pattern_020 : found (codes "{\"web\": [\"h1\", \"h2\"], \"db\": [\"h3\", \"h1\"], \"h2\": [\"h3\"]}") (codes "[{\"hosts\": \":\", \"tasks\": [{\"ping\": null}]}]") ≡ verdict (refused (record { code = 6; line = 1; host = None }))
 unfolding reading
 pattern_020 = refl
 
--- pattern_021: pattern ","
+-- pattern ","
 pattern_021 : found (codes "{\"web\": [\"h1\", \"h2\"], \"db\": [\"h3\", \"h1\"], \"h2\": [\"h3\"]}") (codes "[{\"hosts\": \",\", \"tasks\": [{\"ping\": null}]}]") ≡ verdict (refused (record { code = 6; line = 1; host = None }))
 unfolding reading
 pattern_021 = refl
 
--- pattern_023: pattern "zz"
+-- pattern "zz"
 pattern_023 : found (codes "{\"web\": [\"h1\", \"h2\"], \"db\": [\"h3\", \"h1\"], \"h2\": [\"h3\"]}") (codes "[{\"hosts\": \"zz\", \"tasks\": [{\"ping\": null}]}]") ≡ verdict (refused (record { code = 6; line = 1; host = None }))
 unfolding reading
 pattern_023 = refl
 
--- pattern_025: pattern "web,zz"
+-- pattern "web,zz"
 pattern_025 : found (codes "{\"web\": [\"h1\", \"h2\"], \"db\": [\"h3\", \"h1\"], \"h2\": [\"h3\"]}") (codes "[{\"hosts\": \"web,zz\", \"tasks\": [{\"ping\": null}]}]") ≡ verdict (refused (record { code = 6; line = 1; host = None }))
 unfolding reading
 pattern_025 = refl
 
--- pattern_027: pattern "h2"
+-- pattern "h2"
 pattern_027 : found (codes "{\"web\": [\"h1\", \"h2\"], \"db\": [\"h3\", \"h1\"], \"h2\": [\"h3\"]}") (codes "[{\"hosts\": \"h2\", \"tasks\": [{\"ping\": null}]}]") ≡ verdict (accepted 1)
 unfolding reading
 pattern_027 = refl
 
--- pattern_032: pattern "web ", all break
+-- pattern "web ", all break
 pattern_032 : found (codes "{\"web\": [\"h1\", \"h2\"], \"db\": [\"h3\", \"h1\"], \"h2\": [\"h3\"]}") (91 ∷ 123 ∷ 34 ∷ 104 ∷ 111 ∷ 115 ∷ 116 ∷ 115 ∷ 34 ∷ 58 ∷ 32 ∷ 34 ∷ 119 ∷ 101 ∷ 98 ∷ 194 ∷ 160 ∷ 34 ∷ 44 ∷ 32 ∷ 34 ∷ 116 ∷ 97 ∷ 115 ∷ 107 ∷ 115 ∷ 34 ∷ 58 ∷ 32 ∷ 91 ∷ 123 ∷ 34 ∷ 112 ∷ 105 ∷ 110 ∷ 103 ∷ 34 ∷ 58 ∷ 32 ∷ 110 ∷ 117 ∷ 108 ∷ 108 ∷ 125 ∷ 93 ∷ 125 ∷ 93 ∷ []) ≡ verdict (refused (record { code = 6; line = 1; host = None }))
 unfolding reading
 pattern_032 = refl
 
--- pattern_035: pattern "WEB"
+-- pattern "WEB"
 pattern_035 : found (codes "{\"web\": [\"h1\", \"h2\"], \"db\": [\"h3\", \"h1\"], \"h2\": [\"h3\"]}") (codes "[{\"hosts\": \"WEB\", \"tasks\": [{\"ping\": null}]}]") ≡ verdict (refused (record { code = 6; line = 1; host = None }))
 unfolding reading
 pattern_035 = refl
 
--- pattern_038: pattern "web db", all break
+-- pattern "web db", all break
 pattern_038 : found (codes "{\"web\": [\"h1\", \"h2\"], \"db\": [\"h3\", \"h1\"], \"h2\": [\"h3\"]}") (codes "[{\"hosts\": \"web db\", \"tasks\": [{\"ping\": null}]}]") ≡ verdict (refused (record { code = 6; line = 1; host = None }))
 unfolding reading
 pattern_038 = refl
 
--- pattern_039: pattern "!web"
+-- pattern "!web"
 pattern_039 : found (codes "{\"web\": [\"h1\", \"h2\"], \"db\": [\"h3\", \"h1\"], \"h2\": [\"h3\"]}") (codes "[{\"hosts\": \"!web\", \"tasks\": [{\"ping\": null}]}]") ≡ verdict (refused (record { code = 6; line = 1; host = None }))
 unfolding reading
 pattern_039 = refl
 
--- pattern_043: pattern "*"
+-- pattern "*"
 pattern_043 : found (codes "{\"web\": [\"h1\", \"h2\"], \"db\": [\"h3\", \"h1\"], \"h2\": [\"h3\"]}") (codes "[{\"hosts\": \"*\", \"tasks\": [{\"ping\": null}]}]") ≡ verdict (refused (record { code = 6; line = 1; host = None }))
 unfolding reading
 pattern_043 = refl
 
--- pattern_045: pattern "~h"
+-- pattern "~h"
 pattern_045 : found (codes "{\"web\": [\"h1\", \"h2\"], \"db\": [\"h3\", \"h1\"], \"h2\": [\"h3\"]}") (codes "[{\"hosts\": \"~h\", \"tasks\": [{\"ping\": null}]}]") ≡ verdict (refused (record { code = 6; line = 1; host = None }))
 unfolding reading
 pattern_045 = refl
 
--- pattern_046: pattern "~h", all break
+-- pattern "~h", all break
 pattern_046 : found (codes "{\"web\": [\"h1\", \"h2\"], \"db\": [\"h3\", \"h1\"], \"h2\": [\"h3\"]}") (codes "[{\"hosts\": \"~h\", \"tasks\": [{\"ping\": null}]}]") ≡ verdict (refused (record { code = 6; line = 1; host = None }))
 unfolding reading
 pattern_046 = refl
 
--- pattern_052: pattern ["web", "zz"], all break
+-- pattern ["web", "zz"], all break
 pattern_052 : found (codes "{\"web\": [\"h1\", \"h2\"], \"db\": [\"h3\", \"h1\"], \"h2\": [\"h3\"]}") (codes "[{\"hosts\": [\"web\", \"zz\"], \"tasks\": [{\"ping\": null}]}]") ≡ verdict (refused (record { code = 6; line = 1; host = None }))
 unfolding reading
 pattern_052 = refl
 
--- pattern_053: pattern ["all:h1"]
+-- pattern ["all:h1"]
 pattern_053 : found (codes "{\"web\": [\"h1\", \"h2\"], \"db\": [\"h3\", \"h1\"], \"h2\": [\"h3\"]}") (codes "[{\"hosts\": [\"all:h1\"], \"tasks\": [{\"ping\": null}]}]") ≡ verdict (accepted 3)
 unfolding reading
 pattern_053 = refl
 
--- pattern_055: pattern []
+-- pattern []
 pattern_055 : found (codes "{\"web\": [\"h1\", \"h2\"], \"db\": [\"h3\", \"h1\"], \"h2\": [\"h3\"]}") (codes "[{\"hosts\": [], \"tasks\": [{\"ping\": null}]}]") ≡ verdict (accepted 0)
 unfolding reading
 pattern_055 = refl

@@ -1,8 +1,8 @@
 #!/usr/bin/env python3
-"""Writes the rows of crates/pb_rows: cases as closed terms that the definitions compute.
+"""Writes the rows of crates/pb_rows and pb_byte_rows: cases as closed terms that the definitions compute.
 
 Usage: make_rows.py, which writes the rows anew (then `rt fmt` lays them out), or make_rows.py --check.
-The cases are those of tests/cases that cases.txt lists, and all of rows.jsonl.
+The cases are those of tests/cases that cases.txt lists, and all of rows.jsonl. Those of pb_byte_rows are made by verdicts.py.
 
 A case says what is printed for a book; its row says that `judged`, or the run of an accepted book, gives just that. The
 expressions of all cases have rows too: the tree that the grammar gives each text, or that it has none; and so have their
@@ -18,13 +18,16 @@ import inventories
 import outcomes
 import readings
 import trees
+import verdicts
 from books import answers_term, book_term, inventory_term, read_json, registry_term
 from expressions import codes
 
 PER_FILE = 12
 HERE = Path(__file__).resolve().parent
 HEADER = HERE / "imports.txt"
-ROWS = HERE.parent.parent / "crates" / "pb_rows" / "proofs"
+CRATES = HERE.parent.parent / "crates"
+ROWS = CRATES / "pb_rows" / "proofs"
+BYTE_ROWS = CRATES / "pb_byte_rows" / "proofs"
 
 
 def read_text(source):
@@ -75,8 +78,8 @@ def cases_in(folder):
             yield json.loads(line)
 
 
-def files():
-    """The text of each file of rows, by its name."""
+def value_files():
+    """The text of each file of rows of pb_rows, by its name."""
     found = {case["id"]: case for case in cases_in(HERE.parent / "cases")}
     chosen = [found[name] for name in (HERE / "cases.txt").read_text().split()]
     chosen += [json.loads(line) for line in (HERE / "rows.jsonl").read_text().splitlines()]
@@ -93,6 +96,13 @@ def files():
     return {**texts, **trees.files(cases_in(HERE.parent / "cases")), **outcomes.files(HEADER.read_text(), verdict_term)}
 
 
+def files():
+    """The text of each file of rows, by its path."""
+    of_values = {ROWS / f"{name}.antt": text for name, text in value_files().items()}
+    of_bytes = verdicts.files(cases_in(HERE.parent / "cases"))
+    return of_values | {BYTE_ROWS / f"{name}.antt": text for name, text in of_bytes.items()}
+
+
 def bare(text):
     """A text without its layout: what stands in it, and which names it brings in."""
     brought = sorted(name for line in re.findall(r"^use .*", text, re.M) for name in re.findall(r"[^\s{},]+", line))
@@ -100,10 +110,17 @@ def bare(text):
     return brought, re.sub(r"[\s;,()]", "", rest)
 
 
+def is_as_made(path, text):
+    """Whether the committed file is that text; the layout may differ where no row quotes a file."""
+    if not path.is_file():
+        return False
+    return path.read_text() == text if path.parent == BYTE_ROWS else bare(path.read_text())[1] == bare(text)[1]
+
+
 def check():
-    """Whether the committed rows are those that the cases give; the layout may differ."""
+    """Whether the committed rows are those that the cases give."""
     texts = files()
-    good = sum((ROWS / f"{name}.antt").is_file() and bare((ROWS / f"{name}.antt").read_text())[1] == bare(text)[1] for name, text in texts.items())
+    good = sum(is_as_made(path, text) for path, text in texts.items())
     print(f"{good} passed, {len(texts) - good} failed")
     return 0 if good == len(texts) else 1
 
@@ -111,10 +128,10 @@ def check():
 def main():
     if sys.argv[1:] == ["--check"]:
         return check()
-    for old in ROWS.glob("*[0-9][0-9].antt"):
+    for old in [*ROWS.glob("*[0-9][0-9].antt"), *BYTE_ROWS.glob("*[0-9][0-9].antt")]:
         old.unlink()
-    for name, text in files().items():
-        (ROWS / f"{name}.antt").write_text(text)
+    for path, text in files().items():
+        path.write_text(text)
     return 0
 
 

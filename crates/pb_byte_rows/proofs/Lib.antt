@@ -1,0 +1,23 @@
+mod Computing
+pub mod Book01
+pub mod Book02
+pub mod Expr01
+pub mod Expr02
+pub mod Flow01
+pub mod Inventory01
+pub mod Json01
+pub mod Limit01
+pub mod Pattern01
+pub mod Random01
+pub mod Random02
+pub mod Random03
+pub mod Random04
+pub mod Row01
+pub mod Rules01
+pub mod Signatures01
+pub mod Steps01
+pub mod Template01
+pub mod Thin01
+pub mod Thin02
+pub mod Thin03
+pub mod Thin04

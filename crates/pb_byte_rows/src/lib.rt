@@ -1,0 +1,2 @@
+// Files whose verdicts the definitions compute from their bytes.
+#![tactic(auto)]

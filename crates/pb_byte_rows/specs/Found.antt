@@ -1,19 +1,17 @@
 -- What becomes of the files of a run, from their bytes: the code of the first that is wrong, or the
 -- verdict.
-use Rattle.std.specs.Prelude.{ℕ, List, length, nat_lt, cond, Option, Some, None, Result, Ok, Err}
-use Rattle.pb_semantics.specs.Data.{Data}
-use Rattle.pb_semantics.specs.Limits.{most_book_bytes}
+use Rattle.std.specs.Prelude.{ℕ, List, Result, Ok, Err}
 use Rattle.pb_language.specs.Book.{Book, Registry}
-use Rattle.pb_language.specs.BookForm.{Offence, book_from}
+use Rattle.pb_language.specs.BookForm.{Offence}
 use Rattle.pb_language.specs.Builtins.{builtins}
 use Rattle.pb_language.specs.Inventories as inventory
 use Rattle.pb_language.specs.Judged.{judged}
 use Rattle.pb_language.specs.Program.{Inventory}
 use Rattle.pb_language.specs.Verdict.{Verdict}
-use Rattle.pb_value.specs.FromJson.{json_data}
 use Rattle.pb_sig.specs.Registered.{registry_of}
 use Rattle.pb_sig.specs.Signatures as signatures
 use Rattle.pb_inventory.specs.Offences.{FileOffence, not_json, refused, inventory_in}
+use Rattle.pb_book.specs.Reading.{book_in}
 
 pub data Found : Type 0 where
   wrong_signatures : ℕ → Found
@@ -35,19 +33,6 @@ inventory_code (refused inventory.wrong_form) = 2
 inventory_code (refused inventory.wrong_host_name) = 3
 inventory_code (refused inventory.cyclic) = 4
 inventory_code (refused inventory.over_limit) = 5
-
--- what is wrong with a whole book stands at no line
-abbrev pub whole_book : ℕ → Offence
-whole_book n = record { line = 0; code = n }
-
-abbrev pub book_of : Registry → Option Data → Result Book Offence
-book_of ms None = Err (whole_book 1)
-book_of ms (Some d) = book_from ms d
-
--- the book that a text is, as pb_book says it too; one that is too long isn't looked into
-abbrev pub book_in : Registry → List ℕ → Result Book Offence
-book_in ms bs = cond (nat_lt most_book_bytes (length bs)) (Err (whole_book 8))
-    (book_of ms (json_data bs))
 
 abbrev pub book_found : Registry → Inventory → Result Book Offence → Found
 book_found ms i (Err o) = wrong_book o

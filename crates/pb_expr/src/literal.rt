@@ -4,7 +4,8 @@ ghost use Rattle.pb_semantics.specs.Words.{count_of, lists, put_slot, recs};
 ghost use Rattle.pb_language.specs.Words.{known_items, known_kind, known_slots};
 ghost use Rattle.pb_value.specs.Words.{fields_view, items_view, kind_view, slots_view, view};
 
-use pb_value::{Fields, Kind, Slot, Slots, Value, join_all, put_slot};
+use pb_value::grow::{Growing, close, grow};
+use pb_value::{Fields, Kind, Slot, Slots, Value, put_slot};
 use std::alloc::{AllocError, Global};
 use std::collections::BTreeMap;
 
@@ -30,12 +31,13 @@ fn literal_items(alloc: Global, items: &[Value]) -> Result<Kind, AllocError>
         ≡ lists (known_items (items_view items.now))
         (count_of (items_view items.now))) }
 {
-    let mut kinds = Vec::new(alloc);
-    for item in items {
-        let kind = literal_kind(alloc, item)?;
-        kinds.push(kind)?;
+    // from the last to the first, so that the kinds of no two items are held at once
+    let mut joined = Growing::Whole(Kind::Never, 0);
+    for index in (0..items.len()).rev() {
+        let kind = literal_kind(alloc, &items[index])?;
+        joined = grow(alloc, &kind, true, joined)?;
     }
-    let joined = join_all(alloc, &kinds)?;
+    let joined = close(alloc, &joined)?;
     Kind::of_item(alloc, joined, items.len())
 }
 

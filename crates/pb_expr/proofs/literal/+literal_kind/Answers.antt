@@ -1,4 +1,4 @@
-use Rattle.std.proofs.Common.{◌≡◌, ◌+◌, length, [], ◌∷◌, ◌++◌, drop, String, Global, sym, ap, ◌∙◌, subst, append_assoc, arith}
+use Rattle.std.proofs.Common.{rules, ◌≡◌, ◌+◌, length, [], ◌∷◌, ◌++◌, drop, String, Global, sym, ap, ◌∙◌, subst, append_assoc, arith}
 use Rattle.std.proofs.lemmas.Result.{IfOk-weaker}
 use Rattle.std.proofs.lemmas.List.{append-nil, drop_all}
 use Rattle.pb_semantics.specs.Data.{count_of}
@@ -38,31 +38,16 @@ literal_fields-returns t c =
     IfOk-weaker c.of_slots.result _ _ (λ k h. h
     ∙ ap recs (inv.2 ∙ ap (slots_from (λ v. known_kind (view v))) (sym whole) ∙ sym (known_slots-ascending c.args.fields.now.entries c.iter-name-items.ensures.ordered))) c.of_slots.ensures
 
-pub literal_items-loop-item-preserved : goal.literal_items-loop-item-preserved
-literal_items-loop-item-preserved t c =
-    let items = c.args.items.now in
-    let i = c.loop-item.item-index in
-    let e = c.item-item.result in
-    let rest = known_items (items_view (drop (i + 1) items)) in
-    let kinds = c.loop-item.kinds.items in
-    let next : drop i items ≡ e ∷ drop (i + 1) items = drop-at items i e c.loop-item-test.true c.item-item.is in
-    c.loop-item.invariant ∙ ap (λ es. joined_onto kinds (known_items (items_view es))) next
-    ∙ ap (λ k. joined_onto kinds (join k rest)) (sym c.in_ok-kind.ensures) ∙ sym (onto-last kinds c.in_ok-kind.kind rest)
-    ∙ ap (λ ks. joined_onto ks rest) (sym c.in_ok-push.ensures.items)
-
-pub literal_items-returns : goal.literal_items-returns
-literal_items-returns t c =
-    let items = c.args.items.now in
-    let kinds = c.loop-item.kinds.items in
-    let size : length items ≡ count_of (items_view items) = omega (arith, count_of-items_view items) in
-    let past = drop_all c.loop-item.item-index items c.loop-item-test.false in
-    let joined : known_items (items_view items) ≡ kind_view c.in_ok-joined.joined =
-    c.loop-item.invariant ∙ ap (λ xs. joined_onto kinds (known_items (items_view xs))) past ∙ ap (λ ks. joined_onto ks never) (sym c.deref.ensures.value) ∙ sym c.in_ok-joined.ensures in
-    IfOk-weaker c.of_item.result _ _ (λ k h. h
-    ∙ ap (λ k. lists k (length items)) (sym joined) ∙ ap (lists (known_items (items_view items))) size) c.of_item.ensures
-
 pub literal_kind-returns-in-Rec : goal.literal_kind-returns-in-Rec
 literal_kind-returns-in-Rec t c = rw (c.in-Rec.is, view-Rec c.in-Rec.fields, sym c.deref-in-Rec.ensures, sym c.deref-in-Rec-2.ensures) c.literal_fields.ensures
 
 pub literal_kind-returns-in-List : goal.literal_kind-returns-in-List
 literal_kind-returns-in-List t c = rw (c.in-List.is, view-List c.in-List.items, sym c.deref.ensures, sym c.deref-in-List.ensures, sym c.deref-in-List-2.ensures.value) c.literal_items.ensures
+
+pub literal_items-returns : goal.literal_items-returns
+literal_items-returns t c =
+    let items = c.args.items.now in
+    let size : length items ≡ count_of (items_view items) = omega (arith, count_of-items_view items) in
+    let joined : kind_view c.in_ok-joined-2.joined ≡ known_items (items_view items) = search rules in
+    IfOk-weaker c.of_item.result _ _ (λ k h. h
+    ∙ ap (λ k. lists k (length items)) joined ∙ ap (lists (known_items (items_view items))) size) c.of_item.ensures

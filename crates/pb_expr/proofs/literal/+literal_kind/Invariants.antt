@@ -2,13 +2,13 @@ use Rattle.std.proofs.Common.{◌≡◌, ◌++◌, List, drop, String, Global}
 use Rattle.pb_language.specs.Kinds.{known_kind, known_items}
 use Rattle.pb_value.specs.View.{view, items_view}
 use Rattle.pb_value.specs.KindView.{slots_view}
-use Rattle.pb_value.specs.Growing.{joined_onto}
+use Rattle.pb_value.specs.Growing.{growing_view}
 use Rattle.pb_value.specs.declared.value.Value.{Value}
 use Rattle.pb_expr.proofs.Records.{slots_from}
 use Rattle.pb_expr.proofs.literal.+literal_kind.Given as goal
 
-abbrev pub invariant-literal_items-loop-item : goal.invariant-literal_items-loop-item
-invariant-literal_items-loop-item l = known_items (items_view l.items) ≡ joined_onto l.kinds.items (known_items (items_view (drop l.item-index l.items)))
+abbrev pub invariant-literal_items-loop-index : goal.invariant-literal_items-loop-index
+invariant-literal_items-loop-index l = growing_view l.joined ≡ known_items (items_view (drop l.index l.items))
 
 abbrev pub invariant-literal_fields-loop-name : goal.invariant-literal_fields-loop-name
 invariant-literal_fields-loop-name l =

@@ -1,6 +1,7 @@
 # Hostile files: each has to get a named answer, in bounded time and memory: python3 tests/hostile_checks.py [PROGRAM]
 #
-# Every change of one byte in four files, every beginning of a large book, and the named files of hostile_files.py.
+# Every change of one byte in four files, every beginning of a large book, and the named files of hostile_files.py. A file for
+# which the memory is too little, and which is told so by name, has to get its answer with more.
 import json
 import math
 import os
@@ -15,7 +16,7 @@ from pathlib import Path
 
 sys.dont_write_bytecode = True
 
-from check import TIMES, bytes_of, outcome_of, short
+from check import TIMES, Outcome, bytes_of, outcome_of, short
 from hostile_files import NO_JSON, NotBuilt, accepted, hostile, hostile_files, refused, silent
 
 TESTS = Path(__file__).resolve().parent
@@ -25,6 +26,8 @@ WORKERS = 2
 MOST_SECONDS = 2  # of the processor's time, since other work may take its turns
 PATIENCE = 6  # seconds after which a run is ended
 MOST_MEMORY = 512 * 1024 * 1024  # of address space
+AMPLE_MEMORY = 2 * 1024 * 1024 * 1024
+WANT_OF_MEMORY = (3, b"", b"playcheck: want of memory\n")
 MOST_OUTPUT = 16 * 1024 * 1024
 MOST_FAILURES = 20  # of a worker, which then tries no more
 SHOWN = 700  # bytes of a file
@@ -160,12 +163,13 @@ class Found:
     tried: int = 0
     untried: int = 0
     not_built: int = 0
+    large: int = 0  # that want more than the memory
     failures: list = field(default_factory=list)
 
 
 def limit_worker():
     """Limits what a worker, and so each program that it runs, may take."""
-    resource.setrlimit(resource.RLIMIT_AS, (MOST_MEMORY, MOST_MEMORY))
+    resource.setrlimit(resource.RLIMIT_AS, (MOST_MEMORY, AMPLE_MEMORY))
     resource.setrlimit(resource.RLIMIT_FSIZE, (MOST_OUTPUT, MOST_OUTPUT))
 
 
@@ -178,11 +182,26 @@ def found_by(worker, program):
             continue
         found.tried += 1
         outcome, wanted = tried(program, check)
+        if wanted and wants_memory(outcome):
+            found.large += 1
+            outcome, wanted = tried_with_more(program, check)
         if wanted:
             found.failures.append(f"{check.id}\n  wanted: {wanted}\n  got: {outcome}\n  of: {files_of(check)}")
         elif isinstance(check.judge, NotBuilt) and check.judge.verdict(outcome):
             found.not_built += 1
     return found
+
+
+def wants_memory(outcome):
+    return isinstance(outcome, Outcome) and (outcome.status, outcome.stdout, outcome.stderr) == WANT_OF_MEMORY
+
+
+def tried_with_more(program, check):
+    resource.setrlimit(resource.RLIMIT_AS, (AMPLE_MEMORY, AMPLE_MEMORY))
+    try:
+        return tried(program, check)
+    finally:
+        resource.setrlimit(resource.RLIMIT_AS, (MOST_MEMORY, AMPLE_MEMORY))
 
 
 def tried(program, check):
@@ -215,6 +234,7 @@ def main():
     if untried:
         print(f"FAILED: hostile, {untried} more aren't tried")
     print(f"told to be not built yet, as wanted: {sum(share.not_built for share in found)}")
+    print(f"told to want more memory, and answered with more: {sum(share.large for share in found)}")
     failed = len(failures) + untried
     print(f"{sum(share.tried for share in found) - len(failures)} passed, {failed} failed")
     return 1 if failed else 0

@@ -8,3 +8,5 @@ mod Handlers
 mod Patterns
 mod Plays
 mod Witness
+mod Signatures
+mod SignatureWitness

@@ -1,2 +1,3 @@
 pub mod PrintedBook
 pub mod PrintableBook
+pub mod PrintedSignatures

@@ -1,7 +1,10 @@
 // The laws of reading: what a book says is read back from the plainest form in which it is printed.
 #![tactic(auto)]
 
+use pb_sig::read_back::modules_are_read_back;
+
 ghost use Rattle.pb_laws.specs.PrintableBook.{BooksAreReadBack};
+ghost use Rattle.pb_laws.specs.PrintedSignatures.{SignaturesAreReadBack};
 
 /// A book, with every keyword of its plays, blocks, tasks and handlers, is read back from the
 /// plainest form in which it is printed, however its expressions are written, as long as each of
@@ -9,3 +12,11 @@ ghost use Rattle.pb_laws.specs.PrintableBook.{BooksAreReadBack};
 pub fn books_are_read_back()
     ensures { BooksAreReadBack }
 {}
+
+/// A file of signatures, with all its modules, is read back from the plainest form in which it is
+/// printed.
+pub fn signatures_are_read_back()
+    ensures { SignaturesAreReadBack }
+{
+    modules_are_read_back();
+}

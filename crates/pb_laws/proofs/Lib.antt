@@ -10,3 +10,9 @@ mod Plays
 mod Witness
 mod Signatures
 mod SignatureWitness
+mod DistinctNames
+mod OrderedNames
+mod Variables
+mod FlatGroups
+mod Inventories
+mod InventoryWitness

@@ -1,32 +1,15 @@
 -- A file of signatures, printed, is read back module by module.
-use Rattle.std.proofs.Common.{◌≡◌, ℕ, suc, List, [], ◌∷◌, ◌++◌, ◌+◌, ◌≤◌, length, Bool, true, false, not, ◌&&◌, ◌||◌, nat_le, nat_lt, cond, Ok, Err, bytes_eq, refl, sym, ap, ◌∙◌, subst, arith}
+use Rattle.std.proofs.Common.{◌≡◌, ℕ, suc, List, [], ◌∷◌, ◌++◌, ◌+◌, ◌≤◌, length, true, false, not, ◌&&◌, ◌||◌, nat_le, nat_lt, cond, Ok, Err, sym, ap, ◌∙◌, subst, arith}
 use Rattle.std.proofs.lemmas.Bool.Decides.{nat_tests}
 use Rattle.std.proofs.lemmas.List.{append-nil, append_assoc, length-append, map-append}
 use Rattle.pb_semantics.specs.Keeps.{is_among}
 use Rattle.pb_semantics.specs.Signature.{ModuleData}
-use Rattle.pb_semantics.proofs.Bools.{and-left, and-right, neither-both, not-true, or-left, or-right, true-false}
-use Rattle.pb_semantics.proofs.Names.{own_name, same_name}
-use Rattle.pb_language.specs.Expression.{Name}
+use Rattle.pb_semantics.proofs.Bools.{neither-both}
 use Rattle.pb_language.specs.Theorem.{are_distinct}
 use Rattle.pb_sig.specs.Printed.{ModulesAreReadBack, printed_module}
 use Rattle.pb_sig.specs.Signatures.{broken_law, has_taken_prefix, judged_module, module_in, modules_after, most_modules, names_of, over_limit, taken_name, taken_names, then_more}
+use Rattle.pb_laws.proofs.DistinctNames.{none_before}
 use Rattle.pb_laws.specs.PrintedSignatures.{AreSignatures, IsSignature, SignaturesAreReadBack, printed_modules}
-
--- a name behind others that are distinct is none of them
-
-in_middle : (n : Name) (ks ns : List Name) → is_among n (ks ++ n ∷ ns) ≡ true
-in_middle n [] ns = or-left (bytes_eq n n) (is_among n ns) (own_name n)
-in_middle n (k ∷ ks) ns = or-right (bytes_eq n k) (is_among n (ks ++ n ∷ ns)) (in_middle n ks ns)
-
-none_before : (n : Name) (ks ns : List Name) → are_distinct (ks ++ n ∷ ns) ≡ true → is_among n ks ≡ false
-none_before n [] ns h = refl
-none_before n (k ∷ ks) ns h =
-    let later = ks ++ n ∷ ns in
-    let first = not-true (is_among k later) (and-left (not (is_among k later)) (are_distinct later) h) in
-    neither-both (bytes_eq n k) (is_among n ks) (other (bytes_eq n k) refl first) (none_before n ks ns (and-right (not (is_among k later)) (are_distinct later) h)) where
-      other : (q : Bool) → bytes_eq n k ≡ q → is_among k (ks ++ n ∷ ns) ≡ false → q ≡ false
-      other true e i = true-false (is_among n (ks ++ n ∷ ns)) (in_middle n ks ns) (ap (λ x. is_among x (ks ++ n ∷ ns)) (same_name n k e) ∙ i)
-      other false e i = refl
 
 module_read : ModulesAreReadBack → (earlier : List ModuleData) (m : ModuleData) → IsSignature m → is_among m.name (names_of earlier) ≡ false → nat_lt (length earlier) most_modules ≡ true
     → judged_module earlier (module_in (printed_module m)) ≡ Ok m

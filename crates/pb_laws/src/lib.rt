@@ -1,4 +1,5 @@
-// The laws of reading: what a book says is read back from the plainest form in which it is printed.
+// The laws of reading: what a book, an inventory and a file of signatures say is read back from the
+// plainest form in which it is printed.
 #![tactic(auto)]
 
 ghost use Rattle.pb_laws.specs.PrintableBook.{BooksAreReadBack};
@@ -15,18 +16,18 @@ pub fn books_are_read_back()
     ensures { BooksAreReadBack }
 {}
 
-/// A file of signatures, with all its modules, is read back from the plainest form in which it is
-/// printed.
-pub fn signatures_are_read_back()
-    ensures { SignaturesAreReadBack }
-{
-    modules_are_read_back();
-}
-
 /// An inventory, with the variables of its hosts, is read back from the plainest form in which it
 /// is printed, as long as its hosts stand in the order in which its groups list them.
 pub fn inventories_are_read_back()
     ensures { InventoriesAreReadBack }
 {
     documents_are_read_back();
+}
+
+/// A file of signatures, with all its modules, is read back from the plainest form in which it is
+/// printed.
+pub fn signatures_are_read_back()
+    ensures { SignaturesAreReadBack }
+{
+    modules_are_read_back();
 }

@@ -1,5 +1,5 @@
 -- Handlers, printed, are read as themselves, one line each.
-use Rattle.std.proofs.Common.{◌≡◌, ℕ, suc, List, [], ◌∷◌, ◌++◌, ◌+◌, ◌≤◌, length, Bool, true, false, not, ◌&&◌, ◌||◌, nat_le, Option, Some, None, option_map, Ok, bytes_eq, codes, refl, sym, ap, ◌∙◌, arith}
+use Rattle.std.proofs.Common.{◌≡◌, ℕ, suc, List, [], ◌∷◌, ◌++◌, ◌+◌, ◌≤◌, length, true, false, not, ◌&&◌, ◌||◌, nat_le, Option, Some, None, option_map, Ok, bytes_eq, codes, refl, ap, ◌∙◌, arith}
 use Rattle.std.specs.List.{list_any}
 use Rattle.pb_semantics.specs.Data.{Items, Fields, text, rec, item, field_value}
 use Rattle.pb_language.specs.Book.{HandlerData, Registry}
@@ -13,10 +13,10 @@ use Rattle.pb_laws.specs.PrintedBook.{Writing, handler_entries, printed_handler,
 use Rattle.pb_language.specs.Rules.{option_names}
 use Rattle.pb_language.specs.Theorem.{are_distinct}
 use Rattle.pb_laws.specs.PrintableBook.{AreHandlers, IsHandler, IsPlain, Where, behind_handlers, handler_names}
-use Rattle.pb_semantics.proofs.Bools.{and-left, and-right, neither-both, neither-left, neither-right, not-true, true-false}
-use Rattle.pb_semantics.proofs.Names.{own_name, same_name}
+use Rattle.pb_semantics.proofs.Bools.{and-left, and-right, neither-both, neither-left, neither-right, not-true}
 use Rattle.pb_semantics.specs.Keeps.{is_among}
 use Rattle.std.proofs.lemmas.Bool.Decides.{nat_tests}
+use Rattle.pb_laws.proofs.DistinctNames.{turned}
 use Rattle.pb_laws.proofs.Entries.{entry, first_of, fit_written, no_key_written, none_holds_written, second, value_written, works_written}
 use Rattle.pb_laws.proofs.Expressions.{texts_clear, texts_read}
 use Rattle.pb_laws.proofs.Keys.{other_word, own_key}
@@ -57,17 +57,11 @@ own_value w h n e = value_written n (handler_entries h) (printed_task w h.work) 
 
 -- the names of handlers are none of these, and no two of them are one
 
-flipped : (n m : Name) → bytes_eq n m ≡ false → bytes_eq m n ≡ false
-flipped n m h = apart (bytes_eq m n) refl where
-  apart : (q : Bool) → bytes_eq m n ≡ q → q ≡ false
-  apart true e = true-false (bytes_eq n m) (ap (λ x. bytes_eq x m) (sym (same_name m n e)) ∙ own_name m) h
-  apart false e = refl
-
 still_new : (n : Name) (ns ms : List Name) → list_any (λ m. is_among m ns) ms ≡ false → is_among n ms ≡ false → list_any (λ m. is_among m (n ∷ ns)) ms ≡ false
 still_new n ns [] h i = refl
 still_new n ns (m ∷ ms) h i =
     let rest = list_any (λ m. is_among m ns) ms in
-    let other = flipped n m (neither-left (bytes_eq n m) (is_among n ms) i) in
+    let other = turned n m (neither-left (bytes_eq n m) (is_among n ms) i) in
     let more = still_new n ns ms (neither-right (is_among m ns) rest h) (neither-right (bytes_eq n m) (is_among n ms) i) in
     neither-both (bytes_eq m n || is_among m ns) (list_any (λ m. is_among m (n ∷ ns)) ms) (neither-both (bytes_eq m n) (is_among m ns) other (neither-left (is_among m ns) rest h)) more
 

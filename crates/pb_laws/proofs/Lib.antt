@@ -8,3 +8,11 @@ mod Handlers
 mod Patterns
 mod Plays
 mod Witness
+mod Signatures
+mod SignatureWitness
+mod DistinctNames
+mod OrderedNames
+mod Variables
+mod FlatGroups
+mod Inventories
+mod InventoryWitness

@@ -1,2 +1,5 @@
 pub mod PrintedBook
 pub mod PrintableBook
+pub mod PrintedSignatures
+pub mod PrintedInventory
+pub mod PrintableInventory

@@ -3,18 +3,15 @@
 #     python3 tests/wrong_programs.py --beside LOG, while rt ci runs and writes to LOG
 #
 # An edit says which function it makes wrong, and how (`function:`, then `file:`, `old:` and `new:`). A function is proved
-# against the contracts of what it calls and not against their bodies. So many edits are tried at once, none of them in a
-# function that leads to another's, each has to be refused at its own function, and in the place of the proofs of the other
-# functions of the crate stand holes, which say nothing against theirs. Before the edits the same functions have to be proved
-# as they are: by rt ci, beside it, else by a check of their own. It stands on the libraries that were built last, or, beside
-# rt ci, on copies of those that it builds.
+# against the contracts of what it calls and not against their bodies, so many edits are tried at once, none of them in a
+# function that leads to another's, and each has to be refused at its own function. Before the edits the same functions have
+# to be proved as they are. It stands on the libraries that were built last, or, beside rt ci, on copies of those that it builds.
 import importlib.machinery
 import importlib.util
 import os
 import re
 import shutil
 import signal
-import subprocess
 import sys
 import tempfile
 import threading
@@ -26,14 +23,8 @@ from pathlib import Path
 sys.dont_write_bytecode = True
 TOP = Path(__file__).resolve().parent.parent
 FUNCTION = re.compile(r"^( *)(?:pub(?:\(crate\))? )?fn (\w+)", re.M)
-BLOCK = re.compile(r"^impl(?:<[^>]*>)? (\w+)(?:<[^{]*>)? \{$|^(?:impl|trait|pub trait)\b|^\}", re.M)
-CYCLE = re.compile(r"#\[cycle\((\w+)\)\]\n(?:[#/][^\n]*\n)*$")
-# A file of a proof that can't stand where it does.
-MISPLACED = re.compile(r"^\./(proofs/\S+/Proof\.antt): error\[reserved-name\]", re.M)
 # What a line of a function says where its proof waits for that of another.
 WAITS = re.compile(r"it calls|it waits for|it passes the block")
-# What it says where a goal of its own isn't proved, whatever else it waits for.
-UNPROVED = "`search` did not prove"
 # What is said of a stored answer that names what an edit took away, which says little of the contract.
 NAMES = re.compile(r"has no field|is not in scope|has no `|was not admitted")
 # A check that is killed, most likely for memory, is tried again.
@@ -118,64 +109,23 @@ class Calls:
         return found
 
 
-class Holes:
-    """For the functions of a crate a proof that is a hole, by where it stands. Where it stands is a guess by the texts: a
-    function that isn't found is proved, and so is one whose hole is told to be misplaced."""
-
-    def __init__(self, name, folder):
-        self.name, self.places, self.misplaced = name, {}, set()
-        for file in sorted(folder.glob("src/**/*.rt")):
-            module = file.relative_to(folder / "src").with_suffix("").parts
-            self.read([] if module in (("lib",), ("main",)) else list(module), file.read_text(encoding="utf-8"))
-
-    def read(self, module, text):
-        blocks = [(it.start(), it[1]) for it in BLOCK.finditer(text)]
-        starts = list(FUNCTION.finditer(text))
-        for start, end in zip(starts, [*[it.start() for it in starts[1:]], len(text)]):
-            around = next((it for it in reversed(blocks) if it[0] < start.start()), (0, None))
-            is_of_type = text[around[0] : around[0] + 4] == "impl"
-            if len(start[1]) != 4 * is_of_type or is_of_type and not around[1]:
-                continue
-            above, name = module + [around[1]] * is_of_type, start[2]
-            cycle = CYCLE.search(text[: start.start()])
-            calls_itself = re.search(rf"(?:self\.|Self::)\b{name}\(" if is_of_type else rf"(?<![.:\w]){name}\(", text[start.end() : end])
-            if cycle or calls_itself:
-                place = (module if cycle else above) + ["+" + (cycle[1] if cycle else name)]
-            else:
-                place = [*above, name]
-            self.places["::".join([*above, name])] = tuple(place)
-
-    def but_of(self, functions):
-        """The files of all but those in whose proofs these functions stand, with their texts."""
-        proved = {self.places.get(it) for it in functions}
-        files = {}
-        for place in sorted(set(self.places.values()) - proved):
-            path = ".".join(["Rattle", self.name, "proofs", *place])
-            name, statement = place[-1], path if place[-1].startswith("+") else path + ".Statement"
-            file = "/".join(["proofs", *place, "Proof.antt"])
-            if file not in self.misplaced:
-                files[file] = f"use {statement}.{{statement}}\n\npub {name}_spec : {{M : Type 1}} → statement M\n{name}_spec = ?\n"
-        return files
-
-
 class Trial:
     """The edits of one crate."""
 
-    def __init__(self, rt, crate, edits, kept, is_proved):
-        self.rt, self.crate, self.edits, self.kept, self.is_proved = rt, crate, edits, kept, is_proved
+    def __init__(self, rt, crate, edits, kept):
+        self.rt, self.crate, self.edits, self.kept = rt, crate, edits, kept
         self.folder = Path(crate.folder)
-        self.holes = Holes(crate.name, self.folder)
         calls = Calls(self.folder)
         self.leads = {edit: calls.from_function(edit.last_name()) for edit in edits}
 
     def run(self):
         """For each edit whether it is refused, and what to say."""
         told, left = {}, []
-        proved = "" if self.is_proved else self.check({}, self.edits)
+        proved = self.check({}, self.edits)
         for edit in self.edits:
             if edit.applied(self.folder, {}) is None:
                 told[edit] = False, "BAD EDIT: an old text doesn't stand in its file once"
-            elif not self.is_proved and not is_good(line_of(proved, edit)):
+            elif line_of(proved, edit) != "proved":
                 told[edit] = False, f"BAD EDIT: {edit.function} isn't proved as it is: {last_line(proved)}"
             else:
                 left.append(edit)
@@ -185,34 +135,15 @@ class Trial:
             left = [edit for edit in left if edit not in decided]
         return [(edit, *told[edit]) for edit in self.edits]
 
-    def check(self, texts, edits, with_holes=True):
+    def check(self, texts, edits):
         """What the prover says of the edits' functions, with these texts in place of the crate's own."""
+        only = [word for edit in edits for word in ("--only", edit.function)]
         for _ in range(TRIES):
-            holes = self.holes.but_of({it.function for it in edits}) if with_holes else {}
-            ran = self.checked(texts, holes, [word for it in edits for word in ("--only", it.function)])
-            misplaced = set(MISPLACED.findall(ran.stdout))
-            self.holes.misplaced |= misplaced
-            if ran.returncode not in KILLED and not misplaced:
+            ran = self.rt.checked(self.crate, texts, ["--jobs", "1", *only], self.kept)
+            if ran.returncode not in KILLED:
                 break
-            time.sleep(0 if misplaced else 60)
+            time.sleep(60)
         return ran.stdout
-
-    def checked(self, texts, holes, only):
-        rtlib = self.rt.rtlib
-        with tempfile.TemporaryDirectory(prefix="wrong-") as room:
-            for part in rtlib.PARTS:
-                if (self.folder / part).is_dir():
-                    shutil.copytree(self.folder / part, f"{room}/{part}")
-            for file in holes:
-                folder = Path(room, file).parent
-                folder.mkdir(parents=True, exist_ok=True)
-                for proof in folder.glob("*.antt"):
-                    proof.unlink()
-            for file, text in {**holes, **texts}.items():
-                Path(room, file).write_text(text, encoding="utf-8")
-            words = [rtlib.RATTLE, "check", *self.crate.words(["--jobs", "1", "--allow-holes", *only], keeps=False), "--incremental", self.kept]
-            how = {"stdin": subprocess.DEVNULL, "stdout": subprocess.PIPE, "stderr": subprocess.STDOUT}
-            return subprocess.run([*rtlib.guarded(), *words], cwd=room, encoding="utf-8", errors="replace", **how)
 
     def round(self, left):
         """What is found of some of the edits, of one at least."""
@@ -232,7 +163,7 @@ class Trial:
         return are_of_code and edit.last_name() not in self.leads[other] and other.last_name() not in self.leads[edit]
 
     def judged_alone(self, edit):
-        output = self.check(edit.applied(self.folder, {}), [edit], with_holes=False)
+        output = self.check(edit.applied(self.folder, {}), [edit])
         return judged(output, edit) or (False, f"BAD EDIT: {last_line(output)}")
 
 
@@ -246,18 +177,14 @@ def line_of(output, edit):
     return next((line.removeprefix(start) for line in output.splitlines() if line.startswith(start)), "")
 
 
-def is_good(line):
-    """Whether a function is proved, given the holes of others: it has none of its own."""
-    return line == "proved" or line == "no holes" or line.startswith("depends on a hole in ")
-
-
 def judged(output, edit):
     """Whether the edit is refused, and what to say; none where its function waits for the proof of another, or wasn't reached."""
-    line, first = line_of(output, edit), first_of(output, edit)
-    if is_good(line):
+    line = line_of(output, edit)
+    if line == "proved":
         return False, "NOT REFUSED: the function is still proved with this edit"
-    if not line or WAITS.search(line) and not first and UNPROVED not in line:
+    if not line or WAITS.search(line):
         return None
+    first = first_of(output, edit)
     only = " (only since a stored answer names what the edit took away)" if NAMES.search(first) else ""
     return True, f"refused{only}: {(first or line)[:160]}"
 
@@ -274,10 +201,6 @@ def first_of(output, edit):
 class Built:
     """The libraries that are there, or are built where they aren't."""
 
-    def has_proved(self, crate):
-        """Whether the crate itself was proved as it is."""
-        return False
-
     def prepare(self, crate):
         """Why a library of the crate can't be had; nothing where all are there."""
         for library in crate.below():
@@ -291,9 +214,6 @@ class Followed:
 
     def __init__(self, log, room):
         self.log, self.room, self.copied, self.lock = Path(log), room, {}, threading.Lock()
-
-    def has_proved(self, crate):
-        return self.is_proved(crate)
 
     def prepare(self, crate):
         for library in crate.below():
@@ -322,8 +242,8 @@ def tried(rt, libraries, crate, edits):
     why = libraries.prepare(crate)
     if why:
         return [(edit, False, why) for edit in edits]
-    with tempfile.TemporaryDirectory(prefix="kept-") as kept:
-        return Trial(rt, crate, edits, kept, libraries.has_proved(crate)).run()
+    with tempfile.TemporaryDirectory(prefix="wrong-") as kept:
+        return Trial(rt, crate, edits, kept).run()
 
 
 def tell(rt, libraries, crates, workers):

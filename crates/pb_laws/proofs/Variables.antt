@@ -12,7 +12,8 @@ use Rattle.pb_language.specs.Expression.{Name}
 use Rattle.pb_language.specs.Inventories.{fields_of, items_of, overlaid, variable_of}
 use Rattle.pb_language.specs.Nesting.{holds, some_field_holds, some_item_holds}
 use Rattle.pb_language.specs.Rules.{reserved_names}
-use Rattle.pb_laws.specs.PrintableInventory.{are_ordered, field_names, is_before, is_template}
+use Rattle.pb_language.specs.TaskForm.{keys_of}
+use Rattle.pb_laws.specs.PrintableInventory.{are_ordered, is_before, is_template}
 use Rattle.pb_laws.proofs.OrderedNames.{back, less}
 
 mutual
@@ -47,7 +48,7 @@ joined_last : (vs : Fields) (n : Name) (d : Data) (fs : Fields) → joined (join
 joined_last no_fields n d fs = refl
 joined_last (field m e vs) n d fs = ap (field m e) (joined_last vs n d fs)
 
-names_joined : (vs : Fields) (n : Name) (d : Data) (ns : List Name) → field_names (joined vs (field n d no_fields)) ++ ns ≡ field_names vs ++ n ∷ ns
+names_joined : (vs : Fields) (n : Name) (d : Data) (ns : List Name) → keys_of (joined vs (field n d no_fields)) ++ ns ≡ keys_of vs ++ n ∷ ns
 names_joined no_fields n d ns = refl
 names_joined (field m e vs) n d ns = ap (◌∷◌ m) (names_joined vs n d ns)
 
@@ -61,10 +62,10 @@ put_step : (o : Ordering) (n m : Name) (d e : Data) (us vs : Fields) → slice_c
     → match_ordering o (field n d (field m e us)) (field m d us) (field m e vs) ≡ field m e vs
 put_step o n m d e us vs h k = ap (λ r. match_ordering r (field n d (field m e us)) (field m d us) (field m e vs)) (sym k ∙ h)
 
-put_last : (n : Name) (d : Data) (vs : Fields) → list_all (λ k. is_before k n) (field_names vs) ≡ true → put_field n d vs ≡ joined vs (field n d no_fields)
+put_last : (n : Name) (d : Data) (vs : Fields) → list_all (λ k. is_before k n) (keys_of vs) ≡ true → put_field n d vs ≡ joined vs (field n d no_fields)
 put_last n d no_fields h = refl
 put_last n d (field m e vs) h =
-    let rest = list_all (λ k. is_before k n) (field_names vs) in
+    let rest = list_all (λ k. is_before k n) (keys_of vs) in
     put_step (slice_cmp nat_cmp n m) n m d e vs (put_field n d vs) (back m n (less m n (and-left (is_before m n) rest h))) refl
     ∙ ap (field m e) (put_last n d vs (and-right (is_before m n) rest h))
 
@@ -79,19 +80,19 @@ all_before (k ∷ ks) n ns h =
     and-both (is_before k n) (list_all (λ k. is_before k n) ks) (in_middle (is_before k) ks n ns (and-left (list_all (is_before k) all) (are_ordered all) h))
     (all_before ks n ns (and-right (list_all (is_before k) all) (are_ordered all) h))
 
-behind_others : (vs fs : Fields) → are_ordered (field_names vs ++ field_names fs) ≡ true → list_any (λ n. is_among n reserved_names) (field_names fs) ≡ false
+behind_others : (vs fs : Fields) → are_ordered (keys_of vs ++ keys_of fs) ≡ true → list_any (λ n. is_among n reserved_names) (keys_of fs) ≡ false
     → some_field_holds is_template fs ≡ false → overlaid vs fs ≡ joined vs fs
 behind_others vs no_fields o r t = sym (joined_none vs)
 behind_others vs (field n d fs) o r t =
-    let own = neither-left (is_among n reserved_names) (list_any (λ n. is_among n reserved_names) (field_names fs)) r in
+    let own = neither-left (is_among n reserved_names) (list_any (λ n. is_among n reserved_names) (keys_of fs)) r in
     let kept = variable_kept d (neither-left (holds is_template d) (some_field_holds is_template fs) t) in
     let next = joined vs (field n d no_fields) in
     (λ i. overlaid (cond (own i) vs (put_field n (kept i) vs)) fs)
-    ∙ ap (λ us. overlaid us fs) (put_last n d vs (all_before (field_names vs) n (field_names fs) o))
-    ∙ behind_others next fs (subst (λ ns. are_ordered ns ≡ true) (sym (names_joined vs n d (field_names fs))) o) (neither-right (is_among n reserved_names) (list_any (λ n. is_among n reserved_names) (field_names fs)) r)
+    ∙ ap (λ us. overlaid us fs) (put_last n d vs (all_before (keys_of vs) n (keys_of fs) o))
+    ∙ behind_others next fs (subst (λ ns. are_ordered ns ≡ true) (sym (names_joined vs n d (keys_of fs))) o) (neither-right (is_among n reserved_names) (list_any (λ n. is_among n reserved_names) (keys_of fs)) r)
     (neither-right (holds is_template d) (some_field_holds is_template fs) t)
     ∙ joined_last vs n d fs
 
-pub variables_kept : (fs : Fields) → are_ordered (field_names fs) ≡ true → list_any (λ n. is_among n reserved_names) (field_names fs) ≡ false
+pub variables_kept : (fs : Fields) → are_ordered (keys_of fs) ≡ true → list_any (λ n. is_among n reserved_names) (keys_of fs) ≡ false
     → some_field_holds is_template fs ≡ false → overlaid no_fields fs ≡ fs
 variables_kept fs o r t = behind_others no_fields fs o r t

@@ -5,7 +5,7 @@ use Rattle.std.specs.List.{filter, flat_map, list_all, list_any}
 use Rattle.std.specs.Str.{bytes_eq}
 use Rattle.std.specs.Ordering.{is_lt, nat_cmp}
 use Rattle.std.specs.Cmp.Lexicographic.{slice_cmp}
-use Rattle.pb_semantics.specs.Data.{Data, Fields, text, no_fields, field}
+use Rattle.pb_semantics.specs.Data.{Data, text}
 use Rattle.pb_semantics.specs.Keeps.{is_among}
 use Rattle.pb_language.specs.Expression.{Name}
 use Rattle.pb_language.specs.Families.{once}
@@ -14,6 +14,7 @@ use Rattle.pb_language.specs.Nesting.{some_field_holds}
 use Rattle.pb_language.specs.Program.{Inventory}
 use Rattle.pb_language.specs.Rules.{reserved_names}
 use Rattle.pb_language.specs.Theorem.{host_names}
+use Rattle.pb_language.specs.TaskForm.{keys_of}
 use Rattle.pb_language.specs.World.{Group, HostVariables}
 use Rattle.pb_language.specs.Printed.{meta_key}
 use Rattle.pb_language.specs.Written.{all_group, is_group_name, is_host_name, ungrouped_group}
@@ -61,14 +62,10 @@ abbrev pub is_template : Data → Bool
 is_template (text s) = has_opening s
 is_template d = false
 
-abbrev pub field_names : Fields → List Name
-field_names no_fields = []
-field_names (field n d fs) = n ∷ field_names fs
-
 pub record IsHost (x : HostVariables) : Type 0 where
   pub name : is_host_name x.name ≡ true
-  pub ordered : are_ordered (field_names x.variables) ≡ true
-  pub own : list_any (λ n. is_among n reserved_names) (field_names x.variables) ≡ false
+  pub ordered : are_ordered (keys_of x.variables) ≡ true
+  pub own : list_any (λ n. is_among n reserved_names) (keys_of x.variables) ≡ false
   pub plain : some_field_holds is_template x.variables ≡ false
 
 abbrev pub AreHosts : List HostVariables → Type 0

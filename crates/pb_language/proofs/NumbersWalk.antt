@@ -1,5 +1,5 @@
 -- A least assignment of numbers that covers is the walk's.
-use Rattle.std.proofs.Common.{◌≡◌, ℕ, suc, ◌+◌, nat_lt, [], ◌∷◌, Bool, true, false, cond, sym, subst, arith}
+use Rattle.std.proofs.Common.{◌≡◌, ℕ, suc, ◌+◌, nat_lt, Some, None, Bool, true, false, cond, sym, subst, arith}
 use Rattle.pb_language.specs.Task.{Handlers, no_handlers, handler, Row, end, task, flush, section, block}
 use Rattle.pb_language.specs.Setting.{Setting}
 use Rattle.pb_language.specs.Judgement.{Exit}
@@ -73,8 +73,8 @@ module _ (v : ℕ → Exit) (a : (i : ℕ) → WellExit (v i)) where
     at_well row (o + size body + size rescued + size always + size always),
   )
 
-pub numbers_walk : (st : Setting) (row : Row) (e : Exit) (val : ℕ → Exit) (o : ℕ) → WellViews st.views → WellExit e → ((i : ℕ) → WellExit (val i)) → Into val (entry row o ((o + size row) ∷ [])) e → LinksHold st val (links row o ((o + size row) ∷ []) [])
-    → ((w : ℕ → Exit) → ((i : ℕ) → WellExit (w i)) → Into w (entry row o ((o + size row) ∷ [])) e → LinksHold st w (links row o ((o + size row) ∷ []) []) → (i : ℕ) → ExitLe (val i) (w i))
+pub numbers_walk : (st : Setting) (row : Row) (e : Exit) (val : ℕ → Exit) (o : ℕ) → WellViews st.views → WellExit e → ((i : ℕ) → WellExit (val i)) → Into val (entry row o (Some (o + size row))) e → LinksHold st val (links row o (Some (o + size row)) None)
+    → ((w : ℕ → Exit) → ((i : ℕ) → WellExit (w i)) → Into w (entry row o (Some (o + size row))) e → LinksHold st w (links row o (Some (o + size row)) None) → (i : ℕ) → ExitLe (val i) (w i))
     → ValuesLe row (values st row e) (values_at val row o) × ValuesLe row (values_at val row o) (values st row e) × ExitLe (walk st row e).well (val (o + size row)) × ExitLe (val (o + size row)) (walk st row e).well
 numbers_walk st row e val o a we wv x y f =
     let last = o + size row in

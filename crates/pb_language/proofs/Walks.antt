@@ -62,12 +62,9 @@ closed_below g u = record { none = tt; down = λ e f w v x y. exit_through e f g
 closed_all : Closed Leaves
 closed_all = record { none = tt; down = λ e f w v x y. tt; both = λ e f w v x y. tt }
 
-closed_and : (P Q : Exit → Type 0) → Closed P → Closed Q → Closed (λ e. P e × Q e)
-closed_and P Q p q = record { none = (p.none, q.none); down = λ e f w v x y. (p.down e f w v x y.0, q.down e f w v x y.1); both = λ e f w v x y. (p.both e f w v x.0 y.0, q.both e f w v x.1 y.1) }
-
 closed_flush : (hs : Handlers) (vs : FlushValues hs) (after : Exit → Type 0) → WellFlush hs vs → Closed after → Closed (FlushEnters hs vs after)
 closed_flush no_handlers vs after w c = c
-closed_flush (handler n t hs) vs after w c = closed_and (λ e. ExitLe e vs.0) (FlushEnters hs vs.1 after) (closed_below vs.0 w.0) (closed_flush hs vs.1 after w.1 c)
+closed_flush (handler n t hs) vs after w c = closed_below vs.0 w.0
 
 pub closed_enters : (row : Row) (vs : Values row) (after : Exit → Type 0) → WellValues row vs → Closed after → Closed (Enters row vs after)
 closed_enters end vs after w c = c
@@ -168,9 +165,10 @@ module _ (st : Setting) (a : WellViews st.views) where
       let m = meet e f in
       let P = FlushEnters hs vs.1 after in
       let c = closed_flush hs vs.1 after v.1 p in
-      let there : P f = c.down f (going_from st t vs.0) wf (goes_well t vs.0 v.0) (going_up t e vs.0 w v.0 x.0) y.0 in
-      let k = flush_least hs m vs.1 after (meet_well e f w wf) v.1 p (c.both e f w wf x.1 there) y.1 in
-      ((x.0, k.0), k.1)
+      let there : P f = c.down f (going_from st t vs.0) wf (goes_well t vs.0 v.0) (going_up t e vs.0 w v.0 x) y.1 in
+      let over : P e = c.down e vs.0 w v.0 x y.0 in
+      let k = flush_least hs m vs.1 after (meet_well e f w wf) v.1 p (c.both e f w wf over there) y.2 in
+      ((x, k.0), k.1)
 
   abbrev LeastAt : Row → Type 1
   LeastAt row = (e : Exit) (vs : Values row) (after hurt : Exit → Type 0) → WellExit e → WellValues row vs → Closed after → Closed hurt → Enters row vs after e → Inner st row vs after hurt
@@ -306,7 +304,7 @@ module _ (st : Setting) (a : WellViews st.views) where
       let r = flush_covers hs m after wm p x in
       let c = closed_flush hs (flush_values st hs m) after (flush_values_well hs m wm) p in
       let P = FlushEnters hs (flush_values st hs m) after in
-      ((exit_own e w, of_first P c e f w wf r.0), (of_second P c e f w wf r.0, r.1))
+      (exit_own e w, (of_first P c e f w wf r.0, of_second P c e f w wf r.0, r.1))
 
   abbrev CoversAt : Row → Type 1
   CoversAt row = (e : Exit) (after hurt : Exit → Type 0) → WellExit e → Closed after → Closed hurt → after (walk st row e).well → hurt (walk st row e).hurt

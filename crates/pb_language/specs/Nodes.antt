@@ -24,11 +24,10 @@ Values (section body hs row) = Values body × FlushValues hs × FlushValues hs �
 Values (block d body saves rescued always row) =
     Values body × Values rescued × Values always × Values always × Values row
 
--- the edges from what comes before a row: to its first task, to each handler that may be the first,
--- or to what follows it
+-- the edge from what comes before a row: to its first task or handler, or to what follows it
 abbrev pub FlushEnters : (hs : Handlers) → FlushValues hs → (Exit → Type 0) → Exit → Type 0
 FlushEnters no_handlers vs after e = after e
-FlushEnters (handler n t hs) vs after e = ExitLe e vs.0 × FlushEnters hs vs.1 after e
+FlushEnters (handler n t hs) vs after e = ExitLe e vs.0
 
 abbrev pub Enters : (row : Row) → Values row → (Exit → Type 0) → Exit → Type 0
 Enters end vs after e = after e
@@ -44,11 +43,12 @@ abbrev pub Saved : Bool → (Exit → Type 0) → (Exit → Type 0) → Exit →
 Saved true inside outside e = inside e
 Saved false inside outside e = outside e
 
--- the edges inside a row
+-- the edges inside a row; a handler that wasn't notified is passed over
 abbrev pub FlushInner : Setting → (hs : Handlers) → FlushValues hs → (Exit → Type 0) → Type 0
 FlushInner st no_handlers vs after = Unit {0}
 FlushInner st (handler n t hs) vs after =
-    FlushEnters hs vs.1 after (going_from st t vs.0) × FlushInner st hs vs.1 after
+    let next = FlushEnters hs vs.1 after in
+    next vs.0 × next (going_from st t vs.0) × FlushInner st hs vs.1 after
 
 -- a host that left is nowhere
 abbrev pub Leaves : Exit → Type 0

@@ -9,7 +9,7 @@ use Rattle.pb_value.specs.declared.kind.Case.{Case}
 use Rattle.pb_value.specs.declared.kind.Kind.{Kind}
 use Rattle.pb_value.proofs.JoinLemmas.{append_through, cases_view-append}
 use Rattle.pb_expr.proofs.Findings.{onto-last}
-use Rattle.pb_expr.proofs.Turns.{drop-at}
+use Rattle.pb_syntax.proofs.Left.{drop-at}
 
 pub kept-turn : (f : Shape → Bool → KindData → Bool) (kept more cases : List (Case Kind)) (i : ℕ) (c d : Case Kind) → i < length cases → d ≡ get_or cases i d
     → f (shape_view d.shape) d.failed (kind_view d.fields) ≡ true → cases_view (c ∷ []) ≡ cases_view (d ∷ []) → more ≡ kept ++ c ∷ []

@@ -12,7 +12,7 @@ use Rattle.std.specs.Str.{bytes_eq}
 use Rattle.std.proofs.lemmas.Map.Text.{is_eq-slice_cmp}
 use Rattle.pb_semantics.proofs.Names.{same_name}
 use Rattle.pb_language.specs.Scope.{Scope}
-use Rattle.pb_expr.specs.Aliases.{Trees}
+use Rattle.pb_syntax.specs.Aliases.{Trees}
 use Rattle.pb_expr.specs.Found.{AreRight, IsFoundOf}
 use Rattle.pb_expr.specs.declared.inferred.Inferred.{Inferred}
 

@@ -13,7 +13,7 @@ use Rattle.pb_syntax.specs.ExprView.{expr_view, exprs_view, names_of}
 use Rattle.pb_expr.specs.FitView.{LeadsTo, certain}
 use Rattle.pb_value.specs.Growing.{joined_onto}
 use Rattle.pb_syntax.specs.declared.expr.Expr.{Expr}
-use Rattle.pb_expr.proofs.Turns.{drop-at}
+use Rattle.pb_syntax.proofs.Left.{drop-at}
 
 first-first : (f g h : Option Fault) → first (first f g) h ≡ first f (first g h)
 first-first None g h = refl

@@ -6,7 +6,7 @@ use Rattle.pb_semantics.proofs.Bools.{untrue}
 use Rattle.pb_semantics.proofs.Names.{same_name}
 use Rattle.pb_language.specs.Expression.{Name, Expression, literal, path, hostvars_alone, negation, conjunction, disjunction, comparison, membership, in_batch, defined, undefinable, path_status, value_status, path_or, value_or, length_of, joined_by, concatenation, list_of, record_of, Root, variable, alias, other, member, Expressions, no_expressions, expression, Parts, no_parts, part}
 use Rattle.pb_language.specs.Expansion.{expanded, expanded_root, all_expanded, parts_expanded, root_named, part_named, tree_of, trees, depth_in, root_depth, depth_in_all, depth_in_parts, suc_depth, chain_length}
-use Rattle.pb_expr.specs.Aliases.{Trees, no_trees, with_tree, trees_after, trees_in, unknown_in, IsInOrder}
+use Rattle.pb_syntax.specs.Aliases.{Trees, no_trees, with_tree, trees_after, trees_in, unknown_in, IsInOrder}
 
 max-left : (m n b : ℕ) → max m n ≤ b → m ≤ b
 max-left m n b h = omega (arith, h)

@@ -13,7 +13,7 @@ use Rattle.pb_value.specs.KindView.{kind_view}
 use Rattle.pb_syntax.specs.ExprView.{root_view, term_view}
 use Rattle.pb_syntax.specs.declared.expr.Root.{Root as WrittenRoot}
 use Rattle.pb_syntax.specs.declared.expr.Root.TheVariants as roots
-use Rattle.pb_expr.specs.Aliases.{Trees}
+use Rattle.pb_syntax.specs.Aliases.{Trees}
 use Rattle.pb_expr.specs.Found.{alias_tree}
 use Rattle.pb_expr.specs.TaughtView.{with_learned, learned_view}
 use Rattle.pb_expr.specs.declared.scope.Learned.{Learned as MadeLearned}

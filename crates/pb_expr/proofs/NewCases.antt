@@ -9,7 +9,7 @@ use Rattle.pb_value.specs.KindView.{cases_view, kind_view, shape_view}
 use Rattle.pb_value.specs.declared.kind.Case.{Case}
 use Rattle.pb_value.specs.declared.kind.Kind.{Kind}
 use Rattle.pb_value.proofs.JoinLemmas.{append_through, cases_view-append}
-use Rattle.pb_expr.proofs.Turns.{drop-at}
+use Rattle.pb_syntax.proofs.Left.{drop-at}
 
 -- the case with that record
 abbrev pub case-of : Case Kind → KindData → Cases

@@ -7,14 +7,14 @@ use Rattle.std.specs.List.Sorted.{IsStrictlySortedBy}
 use Rattle.std.specs.Ordering.{is_eq, ordering_reverse}
 use Rattle.pb_semantics.specs.Kind.{KindData, Slots, no_slots, slot, put_slot}
 use Rattle.pb_language.specs.Expansion.{expanded, parts_expanded}
-use Rattle.pb_expr.specs.Aliases.{Trees}
+use Rattle.pb_syntax.specs.Aliases.{Trees}
 use Rattle.pb_language.specs.Scope.{Scope, without_slot, with_slot}
 use Rattle.pb_language.specs.Kinds.{known_kind, known_slots, kind_of, parts_slots}
 use Rattle.pb_value.specs.View.{view, fields_view}
 use Rattle.pb_value.specs.declared.value.Value.{Value}
 use Rattle.pb_syntax.specs.ExprView.{expr_view, parts_view}
 use Rattle.pb_syntax.specs.declared.expr.Expr.{Expr}
-use Rattle.pb_expr.proofs.Ascending.{Above, Ascending, above-middle}
+use Rattle.pb_syntax.proofs.Ascending.{Above, Ascending, above-middle}
 
 -- the slots of entries, each certain, of which the kind is known
 abbrev pub slots_from : {V : Type 0} → (V → KindData) → List (String Global × V) → Slots

@@ -1,7 +1,5 @@
-pub mod Aliases
 pub mod Before
 pub mod OwnScope
-pub mod OwnWorld
 pub mod SpotFound
 pub mod TaughtView
 pub mod ChangeView

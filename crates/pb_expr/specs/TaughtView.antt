@@ -14,7 +14,7 @@ use Rattle.pb_syntax.specs.ExprView.{names_of, root_view}
 use Rattle.pb_syntax.specs.declared.expr.Path.{Path}
 use Rattle.pb_expr.specs.declared.scope.Learned.{Learned as MadeLearned}
 use Rattle.pb_expr.specs.declared.scope.Taught.{Taught}
-use Rattle.pb_expr.specs.Aliases.{Trees}
+use Rattle.pb_syntax.specs.Aliases.{Trees}
 use Rattle.pb_expr.specs.Before.{Before}
 
 abbrev pub present_view : Trees → Path → Present

@@ -3,7 +3,7 @@
 ghost use Rattle.std.specs.Prelude.{◌≡◌, IfOk, IfSome, OnOk, Some, string_bytes, suc};
 ghost use Rattle.pb_language.specs.Expression.{Expression};
 ghost use Rattle.pb_language.specs.Scope.{Scope};
-ghost use Rattle.pb_expr.specs.Aliases.{Trees};
+ghost use Rattle.pb_syntax.specs.Aliases.{Trees};
 ghost use Rattle.pb_expr.specs.Before.{Before};
 ghost use Rattle.pb_expr.specs.Found.{AreRight, IsFound, IsFoundOf, IsRight};
 ghost use Rattle.pb_expr.specs.TaughtView.{scope_view};

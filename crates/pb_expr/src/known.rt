@@ -7,7 +7,7 @@ ghost use Rattle.pb_language.specs.World.{member_of};
 ghost use Rattle.pb_value.specs.Words.{slots_view, spot_view};
 ghost use Rattle.pb_syntax.specs.ExprView.{expr_view};
 ghost use Rattle.pb_syntax.specs.declared.expr.Expr.{size-Expr};
-ghost use Rattle.pb_expr.specs.Aliases.{no_trees};
+ghost use Rattle.pb_syntax.specs.Aliases.{no_trees};
 ghost use Rattle.pb_expr.specs.Before.{Before};
 ghost use Rattle.pb_expr.specs.OwnScope.{own_scope};
 

@@ -9,7 +9,7 @@ ghost use Rattle.pb_language.specs.Scope.{resolved, resolved_term};
 ghost use Rattle.pb_value.specs.Words.{kind_view};
 ghost use Rattle.pb_syntax.specs.ExprView.{expr_view, exprs_view, names_of, root_view};
 ghost use Rattle.pb_syntax.specs.ExprView.{status_view, term_view};
-ghost use Rattle.pb_expr.specs.Aliases.{Trees};
+ghost use Rattle.pb_syntax.specs.Aliases.{Trees};
 ghost use Rattle.pb_expr.specs.Before.{Before};
 ghost use Rattle.pb_expr.specs.Found.{alias_tree};
 ghost use Rattle.pb_expr.specs.TaughtView.{scope_view, scopes_view, taught_by};

@@ -14,7 +14,7 @@ ghost use Rattle.pb_language.specs.World.{member_of};
 ghost use Rattle.pb_value.specs.Words.{kind_view};
 ghost use Rattle.pb_syntax.specs.ExprView.{expr_view, root_view, term_view};
 ghost use Rattle.pb_syntax.specs.declared.expr.Expr.{size-Expr};
-ghost use Rattle.pb_expr.specs.Aliases.{Trees};
+ghost use Rattle.pb_syntax.specs.Aliases.{Trees};
 ghost use Rattle.pb_expr.specs.FitView.{fault_view};
 ghost use Rattle.pb_expr.specs.Found.{alias_tree, fault_in, part_fault};
 ghost use Rattle.pb_expr.specs.TaughtView.{learned_view, scope_view, slot_given};

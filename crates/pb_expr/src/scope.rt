@@ -14,7 +14,7 @@ ghost use Rattle.pb_language.specs.Scope.{both_scopes, is_present as is_shown, i
 ghost use Rattle.pb_language.specs.Scope.{learned_kind, own_spot, resolved, resolved_term};
 ghost use Rattle.pb_value.specs.Words.{is_always, kind_view, slots_view, spot_view};
 ghost use Rattle.pb_syntax.specs.ExprView.{names_of, root_view, term_view};
-ghost use Rattle.pb_expr.specs.Aliases.{Trees};
+ghost use Rattle.pb_syntax.specs.Aliases.{Trees};
 ghost use Rattle.pb_expr.specs.Before.{Before};
 ghost use Rattle.pb_expr.specs.TaughtView.{learned_view, presents_view, scope_view, untaught};
 

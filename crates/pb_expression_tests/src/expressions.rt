@@ -1,5 +1,5 @@
 // What texts are read as, and what they are worth.
-use pb_expr::eval::eval;
+use pb_eval::eval::eval;
 use pb_expr::{Expr, ExprFault, parse_expr, parse_template};
 use pb_value::{Fields, Value, read_json};
 use std::alloc::{AllocError, Global};

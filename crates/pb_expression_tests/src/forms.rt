@@ -1,6 +1,6 @@
 // What forms are worth that the reader of texts doesn't read yet: their trees are made by hand.
+use pb_eval::eval::eval;
 use pb_expr::defined::{can_have, defined_at};
-use pb_expr::eval::eval;
 use pb_expr::teach::{answered, answered_at};
 use pb_expr::{Comparison, Expr, KindFault, Names, Path, Root, Status, Taught, Unfit, kind_of};
 use pb_value::below::find;
@@ -51,7 +51,7 @@ pub(crate) fn is_worth(
     };
     let fields: &Fields = &variables;
     let found = eval(alloc, expr, fields)?;
-    if pb_expr::equal::equal(&found, &read_json(alloc, expected.as_bytes())?) {
+    if pb_eval::equal::equal(&found, &read_json(alloc, expected.as_bytes())?) {
         Ok(())
     } else {
         Err(expected)?

@@ -1,6 +1,6 @@
 // The faults of texts that read other hosts, groups and the batch.
 ghost use Rattle.pb_value.specs.Words.{slots_view};
-ghost use Rattle.pb_expr.specs.Words.{no_trees};
+ghost use Rattle.pb_syntax.specs.Words.{no_trees};
 ghost use Rattle.pb_expression_tests.specs.TwoKnown.{two_known};
 
 use pb_expr::{Expr, KindFault, Known, Taught, Unfit, kind_of, parse_expr};

@@ -1,11 +1,12 @@
 // What expressions are worth that read other hosts, the batch and the groups: their trees are made
 // by hand.
 ghost use Rattle.pb_value.specs.Words.{fields_view};
-ghost use Rattle.pb_expr.specs.Words.{no_trees};
+ghost use Rattle.pb_syntax.specs.Words.{no_trees};
 ghost use Rattle.pb_expression_tests.specs.TwoHosts.{two_hosts};
 
-use pb_expr::eval::eval;
-use pb_expr::{Expr, Member, Names, Path, Root, Status, Term, Vars, values_of};
+use pb_eval::eval::eval;
+use pb_eval::{Vars, values_of};
+use pb_expr::{Expr, Member, Names, Path, Root, Status, Term};
 use pb_value::{Fields, Value, field_of, read_json};
 use std::alloc::Global;
 use std::test::Fail;
@@ -97,7 +98,7 @@ fn is_found(alloc: Global, found: Value, expected: &str) -> Result<(), Fail> {
             _ => Err("a value")?,
         };
     }
-    if pb_expr::equal::equal(&found, &read_json(alloc, expected.as_bytes())?) {
+    if pb_eval::equal::equal(&found, &read_json(alloc, expected.as_bytes())?) {
         Ok(())
     } else {
         Err("another value")?

@@ -19,7 +19,7 @@ use crate::records::{put, put_record, said};
 use crate::repeat::repeat;
 use crate::scene::Scene;
 use crate::words::{fault_word, sort_word};
-use pb_expr::eval::eval;
+use pb_eval::eval::eval;
 use pb_expr::narrow::narrow;
 use pb_expr::{Expr, ExprFault, KindFault, Taught, kind_of, parse_expr, parse_template};
 use pb_value::{Fields, Kind, Value};

@@ -4,7 +4,7 @@ ghost use Rattle.std.specs.Prelude.{◌≤◌};
 use crate::answer::tree_of;
 use crate::question::{count_at, fields_at, flag_at};
 use crate::scene::Scene;
-use pb_expr::eval::eval;
+use pb_eval::eval::eval;
 use pb_expr::{Expr, ExprFault, KindFault, Taught, kind_of};
 use pb_value::Fields;
 use std::alloc::{AllocError, Global};

@@ -3,7 +3,7 @@ ghost use Rattle.std.specs.Prelude.{◌≡◌, IfOk, OnOk, false, string_bytes, 
 ghost use Rattle.pb_semantics.specs.Words.{put_field, put_slot};
 ghost use Rattle.pb_language.specs.Words.{known_kind};
 ghost use Rattle.pb_value.specs.Words.{fields_view, kind_view, slots_view, view};
-ghost use Rattle.pb_expr.specs.Words.{no_trees};
+ghost use Rattle.pb_syntax.specs.Words.{no_trees};
 ghost use Rattle.pb_sig.specs.Words.{known_view, result_kind};
 ghost use Rattle.pb_probe.specs.OneHost.{one_host_scope};
 ghost use Rattle.pb_probe.specs.Registered.{registered_kind};

@@ -19,7 +19,7 @@ use Rattle.pb_language.specs.plain.Machine.{PlainRun, inside, running_stage, pla
 use Rattle.pb_language.specs.plain.Pass.{plain_run, plain_action}
 use Rattle.pb_language.proofs.PlainEval.{plain_run_more, history_more}
 use Rattle.pb_value.specs.View.{view, fields_view}
-use Rattle.pb_expr.specs.OwnWorld.{own_world}
+use Rattle.pb_eval.specs.OwnWorld.{own_world}
 use Rattle.pb_sig.specs.Modules.{modules_of, module_at}
 use Rattle.pb_plain.specs.Books.{plays_of}
 use Rattle.pb_template.specs.Entries.{are_ascending, entry_names}

@@ -14,7 +14,7 @@ use Rattle.pb_language.specs.plain.Pass.{plain_run}
 use Rattle.pb_language.proofs.PlainEval.{SameMine, same_plan, lone_same}
 use Rattle.pb_language.proofs.PlainGives.{put_all_at}
 use Rattle.pb_value.specs.View.{view, fields_view}
-use Rattle.pb_expr.specs.OwnWorld.{own_world}
+use Rattle.pb_eval.specs.OwnWorld.{own_world}
 use Rattle.pb_plain.specs.Meaning.{plain_task, plain_tasks}
 use Rattle.pb_plain.specs.declared.book.Task.{Task}
 use Rattle.pb_strategy.specs.Endings.{came_of}

@@ -8,9 +8,9 @@ use Rattle.pb_language.specs.Evaluation.{Outcome, value, stuck, then_go, and_the
 use Rattle.pb_language.specs.Start.{skips, calls, Pass, Plan, planned, Made, made, made_with, on_condition, with_pass}
 use Rattle.pb_language.specs.plain.Gives.{a_pass}
 use Rattle.pb_syntax.specs.ExprView.{parts_view}
-use Rattle.pb_expr.specs.OwnWorld.{shown}
+use Rattle.pb_eval.specs.OwnWorld.{shown}
 use Rattle.pb_syntax.specs.declared.expr.Expr.{Expr}
-use Rattle.pb_expr.proofs.Ascending.{Above, Ascending}
+use Rattle.pb_syntax.proofs.Ascending.{Above, Ascending}
 use Rattle.pb_template.specs.Entries.{are_ascending, entry_names, is_below}
 use Rattle.pb_template.specs.Entries.{entries_view}
 use Rattle.pb_template.specs.declared.entry.Entry.{Entry}

@@ -5,7 +5,8 @@ ghost use Rattle.indexmap.specs.IndexMap.{spare};
 ghost use Rattle.pb_semantics.specs.Words.{list};
 ghost use Rattle.pb_language.specs.Words.{goes_on, names_list, put_all};
 ghost use Rattle.pb_value.specs.Words.{fields_view, view};
-ghost use Rattle.pb_expr.specs.Words.{no_trees, own_world};
+ghost use Rattle.pb_syntax.specs.Words.{no_trees};
+ghost use Rattle.pb_eval.specs.Words.{own_world};
 ghost use Rattle.pb_strategy.specs.Endings.{came_of};
 ghost use Rattle.pb_strategy.specs.Jobs.{is_ticket, ticket_in};
 ghost use Rattle.pb_strategy.specs.OwnNames.{AreSame, names_fields, own_fields};
@@ -14,7 +15,7 @@ ghost use Rattle.pb_strategy.specs.Room.{IsSameHost};
 
 use crate::recap::{Ending, Recap};
 use indexmap::IndexMap;
-use pb_expr::Vars;
+use pb_eval::Vars;
 use pb_value::{Fields, Value, Weighed};
 use std::alloc::{AllocError, Global};
 use std::sync::Arc;

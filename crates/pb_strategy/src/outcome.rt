@@ -9,7 +9,7 @@ ghost use Rattle.pb_language.specs.Words.{eval_parts, is_unreadable, object, pla
 ghost use Rattle.pb_language.specs.Words.{plain_run, plan_of, planned, result_writes, skip_fields};
 ghost use Rattle.pb_language.specs.Words.{unchanged, with_pass};
 ghost use Rattle.pb_value.specs.Words.{append_fields, fields_view, view};
-ghost use Rattle.pb_expr.specs.Words.{own_world, shown};
+ghost use Rattle.pb_eval.specs.Words.{own_world, shown};
 ghost use Rattle.pb_sig.specs.Words.{known_view, modules_of};
 ghost use Rattle.pb_template.specs.Words.{are_ascending, entries_view, entry_names};
 ghost use Rattle.pb_plain.specs.Words.{is_known};
@@ -22,7 +22,7 @@ ghost use Rattle.pb_strategy.specs.Passes.{IsPending};
 use crate::answer::{Answer, Call};
 use crate::host::{HostState, HostVars, Pending};
 use crate::recap::Ending;
-use pb_expr::eval::eval;
+use pb_eval::eval::eval;
 use pb_plain::{Task, Work};
 use pb_sig::{Admission, Known, Registry, admit};
 use pb_template::Entry;

@@ -8,7 +8,7 @@ ghost use Rattle.pb_language.specs.Words.{Registry as Modules, action_fields, en
 ghost use Rattle.pb_language.specs.Words.{plan_of, skip_fields, start, turn};
 ghost use Rattle.pb_language.specs.World.{HostVariables};
 ghost use Rattle.pb_value.specs.Words.{view};
-ghost use Rattle.pb_expr.specs.Words.{own_world};
+ghost use Rattle.pb_eval.specs.Words.{own_world};
 ghost use Rattle.pb_sig.specs.Words.{modules_of};
 ghost use Rattle.pb_inventory.specs.Words.{inventory_view};
 ghost use Rattle.pb_template.specs.Words.{are_ascending, entry_names};

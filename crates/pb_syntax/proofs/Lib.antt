@@ -13,3 +13,6 @@ pub mod Parts
 pub mod Hosts
 pub mod Named
 pub mod Exprs
+pub mod Left
+pub mod Ascending
+pub mod Aliases

@@ -6,4 +6,5 @@ pub mod Signs
 pub mod Forms
 pub mod Lexed
 pub mod Reads
+pub mod Aliases
 pub mod Words

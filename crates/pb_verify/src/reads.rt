@@ -3,7 +3,7 @@ ghost use Rattle.std.specs.Prelude.{◌≡◌, List};
 ghost use Rattle.pb_language.specs.Expression.{path};
 ghost use Rattle.pb_language.specs.Words.{Name};
 ghost use Rattle.pb_syntax.specs.Words.{root_view};
-ghost use Rattle.pb_expr.specs.Words.{expr_view, exprs_view, parts_view};
+ghost use Rattle.pb_syntax.specs.Words.{expr_view, exprs_view, parts_view};
 ghost use Rattle.pb_template.specs.Words.{entries_view};
 ghost use Rattle.pb_plain.specs.Words.{condition_view, plain_task, work_of};
 ghost use Rattle.pb_verify.specs.Avoids.{all_avoid, avoids as is_avoided, parts_avoid};

@@ -13,7 +13,8 @@ ghost use Rattle.pb_language.specs.Words.{no_expressions, no_parts, parameter_ki
 ghost use Rattle.pb_language.specs.Words.{parts_set, plain_flow, plain_rules, plain_writes};
 ghost use Rattle.pb_language.specs.Words.{set_spot, written_spot, wrong_kind};
 ghost use Rattle.pb_value.specs.Words.{is_always, kind_view, slots_view, spot_view};
-ghost use Rattle.pb_expr.specs.Words.{expr_view, fault_found, own_scope};
+ghost use Rattle.pb_syntax.specs.Words.{expr_view};
+ghost use Rattle.pb_expr.specs.Words.{fault_found, own_scope};
 ghost use Rattle.pb_sig.specs.Words.{module_at, modules_of, parameter_view};
 ghost use Rattle.pb_template.specs.Words.{entries_view};
 ghost use Rattle.pb_plain.specs.Words.{are_known, condition_view, finds_plain};

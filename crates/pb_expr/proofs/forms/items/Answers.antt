@@ -5,7 +5,7 @@ use Rattle.pb_value.specs.Growing.{joined_onto}
 use Rattle.pb_expr.specs.FitView.{fault_view}
 use Rattle.pb_expr.specs.Found.{joined_in, part_fault, part_faults_in}
 use Rattle.pb_expr.proofs.Findings.{fault-turn, onto-last}
-use Rattle.pb_expr.proofs.Turns.{drop-at}
+use Rattle.pb_syntax.proofs.Left.{drop-at}
 use Rattle.pb_expr.proofs.forms.items.Goals as goal
 
 pub loop-item-preserved : goal.loop-item-preserved

@@ -11,9 +11,9 @@ use Rattle.pb_value.proofs.Views.{view-List, view-Rec}
 use Rattle.pb_semantics.specs.Join.{join}
 use Rattle.pb_value.specs.Growing.{joined_onto}
 use Rattle.pb_value.specs.KindView.{kind_view}
-use Rattle.pb_expr.proofs.Ascending.{Ascending}
+use Rattle.pb_syntax.proofs.Ascending.{Ascending}
 use Rattle.pb_expr.proofs.Findings.{onto-last}
-use Rattle.pb_expr.proofs.Turns.{drop-at}
+use Rattle.pb_syntax.proofs.Left.{drop-at}
 use Rattle.pb_expr.proofs.Records.{slots_from, put_slot-last, known_slots-ascending}
 use Rattle.pb_expr.proofs.literal.+literal_kind.Goals as goal
 

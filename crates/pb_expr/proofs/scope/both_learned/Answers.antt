@@ -5,7 +5,7 @@ use Rattle.pb_value.specs.KindView.{kind_view}
 use Rattle.pb_expr.specs.TaughtView.{learned_view}
 use Rattle.pb_expr.specs.declared.scope.Learned.{Learned}
 use Rattle.pb_expr.proofs.NamedRoots.{FindsTaught, append_learned, append-nothing, both-found, both-unfound}
-use Rattle.pb_expr.proofs.Turns.{drop-at}
+use Rattle.pb_syntax.proofs.Left.{drop-at}
 use Rattle.pb_expr.proofs.scope.both_learned.Goals.{in-Some+in_ok-kind+in_ok-name+in_ok-push, in_default}
 use Rattle.pb_expr.proofs.scope.both_learned.Goals as goal
 

@@ -1,6 +1,6 @@
 use Rattle.std.proofs.Common.{◌≡◌, drop}
 use Rattle.pb_language.specs.Scope.{both_learned}
-use Rattle.pb_expr.specs.Aliases.{Trees}
+use Rattle.pb_syntax.specs.Aliases.{Trees}
 use Rattle.pb_expr.specs.TaughtView.{learned_view}
 use Rattle.pb_expr.proofs.NamedRoots.{append_learned}
 use Rattle.pb_expr.proofs.scope.both_learned.Given as goal

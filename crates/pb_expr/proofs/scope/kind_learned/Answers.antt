@@ -3,7 +3,7 @@ use Rattle.pb_language.specs.Scope.{learned_kind}
 use Rattle.pb_value.specs.KindView.{kind_view}
 use Rattle.pb_expr.specs.TaughtView.{learned_view}
 use Rattle.pb_expr.proofs.NamedRoots.{learned-at}
-use Rattle.pb_expr.proofs.Turns.{drop-at}
+use Rattle.pb_syntax.proofs.Left.{drop-at}
 use Rattle.pb_expr.proofs.scope.kind_learned.Goals as goal
 
 pub returns-then-eq : goal.returns-then-eq

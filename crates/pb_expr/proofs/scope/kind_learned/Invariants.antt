@@ -1,7 +1,7 @@
 use Rattle.std.proofs.Common.{◌≡◌, Some, drop}
 use Rattle.pb_language.specs.Expression.{Expression}
 use Rattle.pb_language.specs.Scope.{learned_kind}
-use Rattle.pb_expr.specs.Aliases.{Trees}
+use Rattle.pb_syntax.specs.Aliases.{Trees}
 use Rattle.pb_expr.specs.TaughtView.{learned_view}
 use Rattle.pb_expr.proofs.scope.kind_learned.Given as goal
 

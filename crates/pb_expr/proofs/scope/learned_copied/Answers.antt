@@ -3,7 +3,7 @@ use Rattle.std.proofs.lemmas.List.{drop_all}
 use Rattle.pb_expr.specs.TaughtView.{learned_view}
 use Rattle.pb_expr.specs.declared.scope.Learned.{Learned}
 use Rattle.pb_expr.proofs.NamedRoots.{append_learned, append-nothing, learned-copy, learned-turn}
-use Rattle.pb_expr.proofs.Turns.{drop-at}
+use Rattle.pb_syntax.proofs.Left.{drop-at}
 use Rattle.pb_expr.proofs.scope.learned_copied.Goals as goal
 
 pub loop-taught-preserved : goal.loop-taught-preserved

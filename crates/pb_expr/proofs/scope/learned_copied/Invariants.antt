@@ -1,5 +1,5 @@
 use Rattle.std.proofs.Common.{◌≡◌, drop}
-use Rattle.pb_expr.specs.Aliases.{Trees}
+use Rattle.pb_syntax.specs.Aliases.{Trees}
 use Rattle.pb_expr.specs.TaughtView.{learned_view}
 use Rattle.pb_expr.proofs.NamedRoots.{append_learned}
 use Rattle.pb_expr.proofs.scope.learned_copied.Given as goal

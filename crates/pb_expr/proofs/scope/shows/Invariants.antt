@@ -2,7 +2,7 @@ use Rattle.std.proofs.Common.{◌≡◌, drop}
 use Rattle.pb_language.specs.Expansion.{expanded_root}
 use Rattle.pb_language.specs.Scope.{is_present_path}
 use Rattle.pb_syntax.specs.ExprView.{names_of, root_view}
-use Rattle.pb_expr.specs.Aliases.{Trees}
+use Rattle.pb_syntax.specs.Aliases.{Trees}
 use Rattle.pb_expr.specs.TaughtView.{presents_view}
 use Rattle.pb_expr.proofs.scope.shows.Given as goal
 

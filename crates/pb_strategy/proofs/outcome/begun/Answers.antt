@@ -4,7 +4,7 @@ use Rattle.pb_language.specs.Plays.{module_named}
 use Rattle.pb_language.specs.Start.{eval_arguments}
 use Rattle.pb_language.proofs.PlainEval.{arguments_worth}
 use Rattle.pb_value.specs.View.{view}
-use Rattle.pb_expr.specs.OwnWorld.{own_world, shown}
+use Rattle.pb_eval.specs.OwnWorld.{own_world, shown}
 use Rattle.pb_template.specs.Entries.{entries_view}
 use Rattle.pb_template.specs.declared.entry.Entry.{Entry}
 use Rattle.pb_strategy.specs.OwnNames.{own_fields}

@@ -6,13 +6,14 @@ use Rattle.pb_value.specs.View.{view, fields_view, fields_of}
 use Rattle.pb_value.proofs.Fields.{put_last}
 use Rattle.pb_value.specs.Append.{append_fields}
 use Rattle.pb_syntax.specs.ExprView.{expr_view, parts_view}
-use Rattle.pb_expr.specs.OwnWorld.{own_world, shown}
+use Rattle.pb_eval.specs.OwnWorld.{own_world, shown}
 use Rattle.pb_syntax.specs.declared.expr.Expr.{Expr}
-use Rattle.pb_expr.proofs.Trees.{no-names-worth}
-use Rattle.pb_expr.proofs.Ascending.{Ascending}
-use Rattle.pb_expr.proofs.Outcomes.{after_fields, fields-end}
-use Rattle.pb_expr.proofs.Exprs.{view-Opaque}
-use Rattle.pb_expr.proofs.Turns.{drop-at, record-turn, record-spoilt, fields-last}
+use Rattle.pb_eval.proofs.Trees.{no-names-worth}
+use Rattle.pb_syntax.proofs.Ascending.{Ascending}
+use Rattle.pb_eval.proofs.Outcomes.{after_fields, fields-end}
+use Rattle.pb_syntax.proofs.Exprs.{view-Opaque}
+use Rattle.pb_syntax.proofs.Left.{drop-at}
+use Rattle.pb_eval.proofs.Turns.{record-turn, record-spoilt, fields-last}
 use Rattle.pb_strategy.specs.OwnNames.{own_fields}
 use Rattle.pb_strategy.proofs.Starts.{argument_entries, parts_of-arguments, ascending-arguments}
 use Rattle.pb_strategy.proofs.outcome.evaluated.Goals as goal

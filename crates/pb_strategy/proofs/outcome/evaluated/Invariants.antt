@@ -2,9 +2,9 @@ use Rattle.std.proofs.Common.{◌≡◌, ◌++◌, List, map, drop, String, Glob
 use Rattle.pb_language.specs.Evaluation.{eval, eval_parts}
 use Rattle.pb_value.specs.View.{fields_view, fields_of}
 use Rattle.pb_syntax.specs.ExprView.{expr_view, parts_view}
-use Rattle.pb_expr.specs.OwnWorld.{own_world, shown}
+use Rattle.pb_eval.specs.OwnWorld.{own_world, shown}
 use Rattle.pb_syntax.specs.declared.expr.Expr.{Expr}
-use Rattle.pb_expr.proofs.Outcomes.{after_fields}
+use Rattle.pb_eval.proofs.Outcomes.{after_fields}
 use Rattle.pb_strategy.specs.OwnNames.{own_fields}
 use Rattle.pb_strategy.proofs.Starts.{argument_entries}
 use Rattle.pb_strategy.proofs.outcome.evaluated.Given as goal

@@ -3,8 +3,8 @@ use Rattle.pb_language.specs.Evaluation.{eval}
 use Rattle.pb_language.specs.Start.{eval_action}
 use Rattle.pb_language.specs.plain.Pass.{plain_action}
 use Rattle.pb_syntax.specs.ExprView.{expr_view}
-use Rattle.pb_expr.specs.OwnWorld.{own_world, shown}
-use Rattle.pb_expr.proofs.Trees.{no-names-worth}
+use Rattle.pb_eval.specs.OwnWorld.{own_world, shown}
+use Rattle.pb_eval.proofs.Trees.{no-names-worth}
 use Rattle.pb_plain.specs.Meaning.{plain_task}
 use Rattle.pb_strategy.specs.OwnNames.{own_fields}
 use Rattle.pb_strategy.specs.Outcomes.{is_true}

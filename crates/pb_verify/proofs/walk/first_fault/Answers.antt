@@ -4,7 +4,7 @@ use Rattle.pb_semantics.specs.Gives.{FaultGives}
 use Rattle.pb_semantics.specs.Kind.{no_slots}
 use Rattle.pb_verify.specs.Environments.{environment_view}
 use Rattle.pb_expr.specs.FitView.{fault_found, fault_view}
-use Rattle.pb_expr.proofs.Turns.{drop-at}
+use Rattle.pb_syntax.proofs.Left.{drop-at}
 use Rattle.pb_sig.specs.Modules.{modules_of}
 use Rattle.pb_template.specs.Entries.{entries_view}
 use Rattle.pb_plain.specs.Meaning.{plain_task, plain_tasks}

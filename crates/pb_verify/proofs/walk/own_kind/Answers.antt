@@ -5,11 +5,11 @@ use Rattle.pb_language.specs.Fit.{fault}
 use Rattle.pb_language.specs.Kinds.{kind_of}
 use Rattle.pb_value.specs.KindView.{kind_view, slots_view}
 use Rattle.pb_syntax.specs.ExprView.{expr_view}
-use Rattle.pb_expr.specs.Aliases.{no_trees}
+use Rattle.pb_syntax.specs.Aliases.{no_trees}
 use Rattle.pb_expr.specs.Before.{Before}
 use Rattle.pb_expr.specs.FitView.{fault_found}
 use Rattle.pb_expr.specs.OwnScope.{own_scope}
-use Rattle.pb_expr.proofs.Trees.{no-names}
+use Rattle.pb_syntax.proofs.Aliases.{no-names}
 use Rattle.pb_verify.proofs.walk.own_kind.Goals as goal
 
 pub returns-clause-fault : goal.returns-clause-fault

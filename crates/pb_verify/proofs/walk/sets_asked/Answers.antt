@@ -4,7 +4,7 @@ use Rattle.pb_language.specs.Cases.{append_sets, sets, parts_set}
 use Rattle.pb_language.specs.Fit.{fields_fault, first}
 use Rattle.pb_value.specs.KindView.{kind_view, slots_view}
 use Rattle.pb_expr.specs.OwnScope.{own_scope}
-use Rattle.pb_expr.proofs.Turns.{drop-at}
+use Rattle.pb_syntax.proofs.Left.{drop-at}
 use Rattle.pb_template.specs.Entries.{entries_view}
 use Rattle.pb_verify.specs.Way.{sets_of}
 use Rattle.pb_verify.proofs.WalkSets.{append_sets-push, append_sets-none}

@@ -1,5 +1,5 @@
 use Rattle.pb_language.specs.Scope.{Scope}
-use Rattle.pb_expr.specs.Aliases.{Trees}
+use Rattle.pb_syntax.specs.Aliases.{Trees}
 use Rattle.pb_expr.specs.Found.{AreRight}
 use Rattle.pb_expr.proofs.asked.Asked.copy.Given as goal
 

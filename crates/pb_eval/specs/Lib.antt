@@ -1,0 +1,3 @@
+pub mod OwnWorld
+pub mod Worth
+pub mod Words

@@ -70,11 +70,11 @@ abbrev pub sites_of : Book → List Site
 sites_of [] = []
 sites_of (p ∷ ps) = play_sites p ++ sites_of ps
 
--- a task counts 2 to the number of `always` parts it stands in, a flush one for each handler
+-- a task counts 2 to the number of `always` parts it stands in, and so does each handler of a flush
 abbrev pub steps_in : ℕ → ℕ → Steps → ℕ
 steps_in hs n no_steps = 0
 steps_in hs n (task_step t ss) = 2 ^ n + steps_in hs n ss
-steps_in hs n (flush_step l ss) = hs + steps_in hs n ss
+steps_in hs n (flush_step l ss) = 2 ^ n * hs + steps_in hs n ss
 steps_in hs n (block_step b x y z ss) =
     steps_in hs n x + (steps_in hs n y + (steps_in hs (suc n) z + steps_in hs n ss))
 

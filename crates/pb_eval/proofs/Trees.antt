@@ -7,6 +7,7 @@ use Rattle.pb_language.specs.Expansion.{expanded, expanded_root, all_expanded, p
 use Rattle.pb_language.specs.World.{World}
 use Rattle.pb_language.specs.Evaluation.{Outcome, value, stuck, eval, look, found, readable}
 use Rattle.pb_language.proofs.GivenFields.{at_put_field}
+use Rattle.pb_syntax.proofs.Aliases.{no-names}
 use Rattle.pb_syntax.specs.ExprView.{expr_view, parts_view}
 use Rattle.pb_syntax.specs.declared.expr.Expr.{Expr}
 use Rattle.pb_syntax.specs.Aliases.{Trees, no_trees, with_tree, trees_after}

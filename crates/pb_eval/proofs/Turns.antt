@@ -1,6 +1,5 @@
 -- One turn of a loop over the parts of an expression, and its end.
-use Rattle.std.proofs.Common.{◌≡◌, ℕ, suc, ◌+◌, ◌<◌, ◌≤◌, List, [], ◌∷◌, ◌++◌, length, get_or, drop, map, Bool, true, false, Option, Some, None, String, Global, string_bytes, refl, sym, ap, ◌∙◌, add-one}
-use Rattle.std.proofs.Math.Seq.{drop-cons}
+use Rattle.std.proofs.Common.{◌≡◌, ℕ, suc, ◌+◌, ◌<◌, ◌≤◌, List, [], ◌∷◌, ◌++◌, length, get_or, drop, map, Bool, true, false, Option, Some, None, String, Global, string_bytes, refl, sym, ap, ◌∙◌}
 use Rattle.std.proofs.lemmas.List.{drop_all}
 use Rattle.pb_semantics.specs.Data.{Data, Fields, count_of, boolean, list, rec, opaque, no_fields, field}
 use Rattle.pb_language.specs.Evaluates.{is_unreadable}
@@ -15,6 +14,7 @@ use Rattle.pb_syntax.specs.ExprView.{expr_view, exprs_view, names_of}
 use Rattle.pb_syntax.specs.Aliases.{Trees}
 use Rattle.pb_eval.specs.OwnWorld.{end_of, field_in, shown, value_read}
 use Rattle.pb_syntax.specs.declared.expr.Expr.{Expr}
+use Rattle.pb_syntax.proofs.Left.{drop-at}
 use Rattle.pb_eval.proofs.Outcomes.{and-true, and-false, and-spoilt, or-true, or-false, or-spoilt, after_items, items-spoilt, items-step, items-end, after_fields, fields-spoilt, fields-step}
 
 pub all-turn : (w : World) (f : Trees) (es : List Expr) (i : ℕ) (e : Expr) (v : Value) (t : Option Bool) → i < length es → e ≡ get_or es i e → view v ≡ shown (eval w (expanded f (expr_view e)))

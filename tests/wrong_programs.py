@@ -4,8 +4,9 @@
 #
 # An edit says which function it makes wrong, and how (`function:`, then `file:`, `old:` and `new:`). A function is proved
 # against the contracts of what it calls and not against their bodies, so many edits are tried at once, none of them in a
-# function that leads to another's, and each has to be refused at its own function. Before the edits the same functions have
-# to be proved as they are. It stands on the libraries that were built last, or, beside rt ci, on copies of those that it builds.
+# function that leads to another's, and each has to be refused at its own function. That the same functions are proved as they
+# are is for rt ci to say, beside which it stands on copies of the libraries that that one builds; else it is tried before the
+# edits, over the libraries that were built last.
 import importlib.machinery
 import importlib.util
 import os
@@ -112,8 +113,8 @@ class Calls:
 class Trial:
     """The edits of one crate."""
 
-    def __init__(self, rt, crate, edits, kept):
-        self.rt, self.crate, self.edits, self.kept = rt, crate, edits, kept
+    def __init__(self, rt, crate, edits, kept, is_told):
+        self.rt, self.crate, self.edits, self.kept, self.is_told = rt, crate, edits, kept, is_told
         self.folder = Path(crate.folder)
         calls = Calls(self.folder)
         self.leads = {edit: calls.from_function(edit.last_name()) for edit in edits}
@@ -121,11 +122,11 @@ class Trial:
     def run(self):
         """For each edit whether it is refused, and what to say."""
         told, left = {}, []
-        proved = self.check({}, self.edits)
+        proved = "" if self.is_told else self.check({}, self.edits)
         for edit in self.edits:
             if edit.applied(self.folder, {}) is None:
                 told[edit] = False, "BAD EDIT: an old text doesn't stand in its file once"
-            elif line_of(proved, edit) != "proved":
+            elif not self.is_told and line_of(proved, edit) != "proved":
                 told[edit] = False, f"BAD EDIT: {edit.function} isn't proved as it is: {last_line(proved)}"
             else:
                 left.append(edit)
@@ -201,6 +202,9 @@ def first_of(output, edit):
 class Built:
     """The libraries that are there, or are built where they aren't."""
 
+    # whether it is told elsewhere that the crate itself is proved as it is
+    is_told = False
+
     def prepare(self, crate):
         """Why a library of the crate can't be had; nothing where all are there."""
         for library in crate.below():
@@ -211,6 +215,8 @@ class Built:
 
 class Followed:
     """The libraries that rt ci builds, by what it writes; each is copied, since it gives back at its end what was there before."""
+
+    is_told = True
 
     def __init__(self, log, room):
         self.log, self.room, self.copied, self.lock = Path(log), room, {}, threading.Lock()
@@ -243,7 +249,7 @@ def tried(rt, libraries, crate, edits):
     if why:
         return [(edit, False, why) for edit in edits]
     with tempfile.TemporaryDirectory(prefix="wrong-") as kept:
-        return Trial(rt, crate, edits, kept).run()
+        return Trial(rt, crate, edits, kept, libraries.is_told).run()
 
 
 def tell(rt, libraries, crates, workers):

@@ -1,9 +1,9 @@
 -- Names of `vars` beside what their trees are worth.
-use Rattle.std.proofs.Common.{◌≡◌, ℕ, ◌+◌, ◌<◌, List, [], ◌∷◌, ◌++◌, Bool, true, false, cond, Option, Some, None, String, Global, string_bytes, refl, sym, ap, ◌∙◌}
+use Rattle.std.proofs.Common.{◌≡◌, List, [], ◌∷◌, ◌++◌, Bool, true, false, cond, Option, Some, None, String, Global, string_bytes, refl, ap, ◌∙◌}
 use Rattle.std.specs.Str.{bytes_eq}
 use Rattle.pb_semantics.specs.Data.{Data, Fields, field_value, put_field}
-use Rattle.pb_language.specs.Expression.{Name, Expression, literal, path, hostvars_alone, negation, conjunction, disjunction, comparison, membership, in_batch, defined, undefinable, path_status, value_status, path_or, value_or, length_of, joined_by, concatenation, list_of, record_of, Root, variable, alias, other, member, Expressions, no_expressions, expression, Parts, no_parts, part}
-use Rattle.pb_language.specs.Expansion.{expanded, expanded_root, all_expanded, parts_expanded, root_named}
+use Rattle.pb_language.specs.Expression.{Name, Expression}
+use Rattle.pb_language.specs.Expansion.{expanded, root_named}
 use Rattle.pb_language.specs.World.{World}
 use Rattle.pb_language.specs.Evaluation.{Outcome, value, stuck, eval, look, found, readable}
 use Rattle.pb_language.proofs.GivenFields.{at_put_field}

@@ -1,2 +1,5 @@
+pub mod Graph
 pub mod KindOrder
+pub mod Solution
+pub mod Space
 pub mod Words

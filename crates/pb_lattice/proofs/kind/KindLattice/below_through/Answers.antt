@@ -1,6 +1,5 @@
 use Rattle.pb_semantics.proofs.Through.{through}
-use Rattle.pb_value.specs.Words.{kind_view}
 use Rattle.pb_lattice.proofs.kind.KindLattice.below_through.Goals as goal
 
 pub returns : goal.returns
-returns c = λ j k m w _ _ h i. through (kind_view j) (kind_view k) (kind_view m) w h i
+returns c = λ j k m w _ _ h i. through j k m w h i

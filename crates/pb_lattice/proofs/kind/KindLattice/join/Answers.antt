@@ -8,8 +8,8 @@ use Rattle.pb_semantics.proofs.JoinWell.{joins_well}
 use Rattle.pb_value.specs.Words.{kind_view}
 use Rattle.pb_lattice.proofs.kind.KindLattice.join.Goals as goal
 
-pub returns-clause-well : goal.returns-clause-well
-returns-clause-well c =
+pub returns-clause-stands : goal.returns-clause-stands
+returns-clause-stands c =
     let k = kind_view c.args.self.now in
     let m = kind_view c.args.other.now in
     IfOk-weaker c.join.result _ _
@@ -28,5 +28,5 @@ returns-clause-least c =
     let k = kind_view c.args.self.now in
     let m = kind_view c.args.other.now in
     IfOk-weaker c.join.result _ _
-    (λ j is v _ h i. subst (λ h. below h (kind_view v) ≡ true) (sym is)
-    (joins_least k m (kind_view v) c.requires.first c.requires.second h i)) c.join.ensures
+    (λ j is v _ h i. subst (λ h. below h v ≡ true) (sym is)
+    (joins_least k m v c.requires.first c.requires.second h i)) c.join.ensures

@@ -2,4 +2,8 @@ pub mod Graph
 pub mod KindOrder
 pub mod Solution
 pub mod Space
+pub mod Trees
+pub mod Arena
+pub mod Shared
+pub mod Environments
 pub mod Words

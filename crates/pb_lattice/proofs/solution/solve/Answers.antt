@@ -1,7 +1,7 @@
 use Rattle.std.proofs.Common.{rules, ◌<◌, ℕ, length, subst, sym, arith}
 use Rattle.std.proofs.lemmas.List.{get_or_default}
 use Rattle.pb_lattice.specs.Graph.{edge_at}
-use Rattle.pb_lattice.proofs.Steps.{in_range, stage_more}
+use Rattle.pb_lattice.proofs.Staged.{in_range, stage_more}
 use Rattle.pb_lattice.proofs.solution.solve.Goals as goal
 
 pub loop-i-preserved : goal.loop-i-preserved

@@ -1,4 +1,4 @@
-use Rattle.pb_lattice.proofs.Steps.{Stage}
+use Rattle.pb_lattice.proofs.Staged.{Stage}
 use Rattle.pb_lattice.proofs.solution.solve.Given as goal
 
 abbrev pub invariant-loop-i : goal.invariant-loop-i

@@ -1,4 +1,4 @@
-use Rattle.pb_lattice.proofs.Steps.{Begun}
+use Rattle.pb_lattice.proofs.Staged.{Begun}
 use Rattle.pb_lattice.proofs.solution.start.Given as goal
 
 abbrev pub invariant-loop : goal.invariant-loop

@@ -1,0 +1,173 @@
+// Environments that share their parts in one table: a copy is a number, putting a slot costs the
+// depth of a tree, and a join goes only where the two differ.
+ghost use Rattle.std.specs.Prelude.{◌≡◌, ◌↔◌, true, IfOk, IsTrue};
+ghost use Rattle.pb_semantics.specs.Well.{Well};
+ghost use Rattle.pb_semantics.specs.Words.{is_among, no_slots};
+ghost use Rattle.pb_language.specs.Judgement.{Exit, live};
+ghost use Rattle.pb_language.specs.Ordered.{ExitLe};
+ghost use Rattle.pb_language.specs.Wells.{WellExit};
+ghost use Rattle.pb_value.specs.Words.{is_always, kind_view, spot_view};
+ghost use Rattle.pb_lattice.specs.Arena.{names_of};
+ghost use Rattle.pb_lattice.specs.Environments.{IsKept, Stands, exit_of, is_dead, put_in, spot_in};
+ghost use Rattle.pb_lattice.specs.Shared.{Shared};
+ghost use Rattle.pb_lattice.specs.Trees.{IsAscending};
+
+use crate::tree::{self, Nodes};
+use pb_value::{Kind, Slot};
+use std::alloc::{AllocError, Global};
+use std::marker::Model;
+
+/// The names of a table, in the order of their bytes, and what environments know of them.
+///
+/// A clause sees the names and the nodes.
+#[derive(Drop)]
+pub struct Environments {
+    names: Vec<String>,
+    nodes: Nodes,
+}
+
+impl Model for Environments {
+    ghost use Rattle.std.specs.Coded.{codes};
+    ghost use Rattle.pb_value.specs.contracts.kind.Kind as kind;
+    ghost use Rattle.pb_lattice.specs.Shared.{Shared};
+
+    ghost Value = { Shared };
+
+    ghost coded = { Prim.hlevel (codes, kind.the_row.coded) };
+
+    ghost use Rattle.pb_lattice.specs.Arena.{names_of};
+    ghost use Rattle.pb_lattice.specs.Trees.{IsAscending};
+
+    ghost view = { λ e. record { names = names_of e.names.items; nodes = e.nodes } };
+
+    ghost invariant = { λ e. IsAscending (names_of e.names.items) };
+}
+
+/// What is known of the names of a table where some way leads, or that none leads there.
+#[derive(Clone, Copy)]
+pub struct Environment {
+    root: Option<u32>,
+}
+
+impl Environment {
+    /// Where no way leads.
+    pub fn dead() -> Environment
+        ensures { (s : Shared) → Stands s result × (is_dead (exit_of s result) ≡ true) }
+    {
+        Environment { root: None }
+    }
+
+    /// Whether no way leads there.
+    pub fn is_dead(self) -> bool
+        ensures { (s : Shared) → result ≡ is_dead (exit_of s self) }
+    {
+        self.root.is_none()
+    }
+}
+
+impl Environments {
+    /// A table over those names, in which no environment stands but the empty one.
+    ///
+    /// # Errors
+    ///
+    /// Want of memory.
+    pub fn new(alloc: Global, names: Vec<String>) -> Result<Environments, AllocError>
+        requires { IsAscending (names_of names.items) }
+        ensures { IfOk result (λ s. s.names ≡ names_of names.items) }
+    {
+        let nodes = Nodes::new(alloc)?;
+        Ok(Environments { names, nodes })
+    }
+
+    /// The environment in which nothing is known.
+    pub fn empty(&self) -> Environment
+        ensures stands { Stands self.now result }
+        ensures means { exit_of self.now result ≡ live no_slots }
+    {
+        let _names = &self.names;
+        Environment {
+            root: Some(self.nodes.bare()),
+        }
+    }
+
+    /// What is known of a name.
+    pub fn slot(&self, at: Environment, name: &str) -> Option<&Slot<Kind>>
+        requires { Stands self.now at }
+        ensures { spot_view result ≡ spot_in name.now (exit_of self.now at) }
+    {
+        match at.root {
+            None => None,
+            Some(place) => tree::find(&self.nodes, place, &self.names, name),
+        }
+    }
+
+    /// The environment with that slot in place of what was known of the name.
+    ///
+    /// # Errors
+    ///
+    /// Want of memory.
+    pub fn with(
+        &mut self,
+        at: Environment,
+        name: &str,
+        slot: Slot<Kind>,
+    ) -> Result<Environment, AllocError>
+        requires stands { Stands self.old at }
+        requires among { is_among name.now self.old.names ≡ true }
+        requires well { Well (kind_view slot.kind) }
+        ensures kept { IsKept self.old self.new }
+        ensures stands { IfOk result (λ e. Stands self.new e) }
+        ensures put { IfOk result (λ e. exit_of self.new e ≡ put_in name.now
+            (is_always slot.presence) (kind_view slot.kind) (exit_of self.old at)) }
+    {
+        let Some(place) = at.root else {
+            return Ok(at);
+        };
+        let root = tree::put(&mut self.nodes, place, &self.names, name, slot)?;
+        Ok(Environment { root: Some(root) })
+    }
+}
+
+/// The least environment above both.
+///
+/// # Errors
+///
+/// Want of memory.
+pub fn join(
+    alloc: Global,
+    space: &mut Environments,
+    first: Environment,
+    second: Environment,
+) -> Result<Environment, AllocError>
+    requires first { Stands space.old first }
+    requires second { Stands space.old second }
+    ensures kept { IsKept space.old space.new }
+    ensures stands { IfOk result (λ e. Stands space.new e) }
+    ensures above { IfOk result (λ e. ExitLe (exit_of space.old first) (exit_of space.new e)
+        × ExitLe (exit_of space.old second) (exit_of space.new e)) }
+    ensures least { IfOk result (λ e. (x : Exit) → WellExit x → ExitLe (exit_of space.old first) x
+        → ExitLe (exit_of space.old second) x → ExitLe (exit_of space.new e) x) }
+{
+    match (first.root, second.root) {
+        (Some(low), Some(high)) => {
+            let root = tree::join_trees(alloc, &mut space.nodes, low, high)?;
+            Ok(Environment { root: Some(root) })
+        }
+        (None, _) => Ok(second),
+        _ => Ok(first),
+    }
+}
+
+/// Whether the first is below the second: name by name, what is certain in the second is certain in
+/// the first, and each kind is below.
+pub fn is_below(space: &Environments, first: Environment, second: Environment) -> bool
+    requires first { Stands space.now first }
+    requires second { Stands space.now second }
+    ensures { IsTrue result ↔ ExitLe (exit_of space.now first) (exit_of space.now second) }
+{
+    match (first.root, second.root) {
+        (Some(low), Some(high)) => tree::is_below(&space.nodes, low, high),
+        (None, _) => true,
+        _ => false,
+    }
+}

@@ -1,0 +1,4 @@
+pub mod CaseSteps
+pub mod Judged
+pub mod LawfulShapes
+pub mod TasksRead

@@ -23,7 +23,7 @@ const BOOK: &str = r#"[
     "hosts":["web:db","h1"]},
     {"hosts":"db","tasks":[{"ping":null}]}]"#;
 
-fn plays_of(alloc: Global, text: &str) -> Result<Vec<Play>, PlayFault> {
+pub(crate) fn plays_of(alloc: Global, text: &str) -> Result<Vec<Play>, PlayFault> {
     let registry = Registry::builtin(alloc)?;
     match read_json(alloc, text.as_bytes()) {
         Ok(value) => read_plays(alloc, &registry, &value),

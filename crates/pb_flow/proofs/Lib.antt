@@ -1,0 +1,12 @@
+pub mod Sizes
+pub mod Rises
+pub mod Counts
+pub mod Joins
+pub mod Puts
+pub mod Arounds
+pub mod Blocks
+pub mod Sections
+pub mod Solved
+pub mod Linked
+pub mod Leads
+pub mod SameEdges

@@ -1,0 +1,123 @@
+use Rattle.std.proofs.Common.{◌≡◌, ◌∙◌, ◌||◌, suc, ◌+◌, ◌-◌, ◌<◌, length, drop, ap, sym, subst, refl, arith}
+use Rattle.pb_language.specs.Book.{no_steps}
+use Rattle.pb_language.specs.Plays.{inside, is_given, places_in, row_of}
+use Rattle.pb_language.specs.Task.{end}
+use Rattle.pb_language.specs.Sites.{steps_in}
+use Rattle.pb_play.specs.Plays.{head_view, step_view, steps_view}
+use Rattle.pb_flow.specs.Build.{IsPut, handlers_from}
+use Rattle.pb_flow.specs.Nodes.{around_view}
+use Rattle.pb_flow.proofs.Blocks.{block-put, both-ok, on-ok}
+use Rattle.pb_flow.proofs.Counts.{left, less-left, places-sum, steps-sum, sum-left, weight, weight-sum}
+use Rattle.pb_flow.proofs.Joins.{row-front}
+use Rattle.pb_flow.proofs.Puts.{put-joined}
+use Rattle.pb_flow.proofs.Sizes.{twice}
+use Rattle.pb_flow.proofs.build.+put.Goals as goal
+
+pub put_steps-put_step-requires : goal.put_steps-put_step-requires
+put_steps-put_step-requires t c =
+    let n = length c.args.scene.now.handlers.now in
+    let ss = c.args.steps.now in
+    let s = c.index-steps-index.result in
+    let j = c.loop-index.index in
+    let i = j - 1 in
+    let one : j ≡ i + 1 = omega arith in
+    let lt : i < length ss = omega arith in (
+      omega (arith, c.decreases, sum-left weight weight-sum ss i j s one lt c.index-steps-index.is, less-left weight weight-sum ss i),
+      (
+        omega (arith, sum-left (steps_in n 0) (steps-sum n) ss i j s one lt c.index-steps-index.is, less-left (steps_in n 0) (steps-sum n) ss i),
+        omega (arith, sum-left (places_in n) (places-sum n) ss i j s one lt c.index-steps-index.is, less-left (places_in n) (places-sum n) ss i),
+      ),
+    )
+
+pub put_steps-loop-index-preserved : goal.put_steps-loop-index-preserved
+put_steps-loop-index-preserved t c =
+    let n = length c.args.scene.now.handlers.now in
+    let ss = c.args.steps.now in
+    let s = c.index-steps-index.result in
+    let j = c.loop-index.index in
+    let i = j - 1 in
+    let one : j ≡ i + 1 = omega arith in
+    let lt : i < length ss = omega arith in
+    let inv = c.loop-index.invariant in
+    let h = c.in_ok-next.ensures in
+    record {
+      front = omega (arith, sum-left (steps_in n 0) (steps-sum n) ss i j s one lt c.index-steps-index.is, h.front);
+      place = omega (arith, sum-left (places_in n) (places-sum n) ss i j s one lt c.index-steps-index.is, h.place);
+      put = λ ms vars.
+          let a = around_view ms vars c.args.around.now.value in
+          let hs = handlers_from ms vars c.args.scene.now in
+          let p = c.put_step.new.tail.place in
+          let rest = steps_view (drop j ss) in
+          let is : steps_view (drop i ss) ≡ step_view s rest = left ss i s lt c.index-steps-index.is ∙ ap (λ k. step_view s (steps_view (drop k ss))) (sym one) in
+          subst (λ r. IsPut ms vars r c.args.to c.args.tail.now c.put_step.new.tail c.in_ok-next.next) (sym (ap (λ x. row_of hs n a p x end) is ∙ row-front hs n a p c.loop-index.tail.place s rest h.place))
+          (put-joined ms vars (row_of hs n a p (step_view s no_steps) end) (row_of hs n a c.loop-index.tail.place rest end) c.args.to c.args.tail.now c.loop-index.tail c.put_step.new.tail c.loop-index.next c.in_ok-next.next (inv.put ms vars) (h.put ms vars));
+    }
+
+pub put_block-put_steps-requires : goal.put_block-put_steps-requires
+put_block-put_steps-requires t c =
+    let n = length c.args.scene.now.handlers.now in
+    let tw = twice n 0 (steps_view c.args.block.now.always.items) in
+    let a4 = ap (λ xs. steps_in n 0 (steps_view xs)) c.deref-4.ensures.value in
+    let b4 = ap (λ xs. places_in n (steps_view xs)) c.deref-4.ensures.value in
+    (omega (arith, c.decreases, ap (λ xs. weight (steps_view xs)) c.deref-4.ensures.value), (omega (arith, c.requires.room), omega (arith, c.requires.places)))
+
+pub put_block-put_steps-requires-2 : goal.put_block-put_steps-requires-2
+put_block-put_steps-requires-2 t c =
+    let n = length c.args.scene.now.handlers.now in
+    let tw = twice n 0 (steps_view c.args.block.now.always.items) in
+    let a4 = ap (λ xs. steps_in n 0 (steps_view xs)) c.deref-4.ensures.value in
+    let a5 = ap (λ xs. steps_in n 0 (steps_view xs)) c.deref-5.ensures.value in
+    let b4 = ap (λ xs. places_in n (steps_view xs)) c.deref-4.ensures.value in
+    let b5 = ap (λ xs. places_in n (steps_view xs)) c.deref-5.ensures.value in
+    (omega (arith, c.decreases, ap (λ xs. weight (steps_view xs)) c.deref-5.ensures.value), (omega (arith, c.requires.room, c.in_ok-failed.ensures.front), omega (arith, c.requires.places, c.in_ok-failed.ensures.place)))
+
+pub put_block-put_steps-requires-3 : goal.put_block-put_steps-requires-3
+put_block-put_steps-requires-3 t c =
+    let n = length c.args.scene.now.handlers.now in
+    let tw = twice n 0 (steps_view c.args.block.now.always.items) in
+    let a4 = ap (λ xs. steps_in n 0 (steps_view xs)) c.deref-4.ensures.value in
+    let a5 = ap (λ xs. steps_in n 0 (steps_view xs)) c.deref-5.ensures.value in
+    let a6 = ap (λ xs. steps_in n 0 (steps_view xs)) c.deref-6.ensures.value in
+    let b4 = ap (λ xs. places_in n (steps_view xs)) c.deref-4.ensures.value in
+    let b5 = ap (λ xs. places_in n (steps_view xs)) c.deref-5.ensures.value in
+    let b6 = ap (λ xs. places_in n (steps_view xs)) c.deref-6.ensures.value in
+    (omega (arith, c.decreases, ap (λ xs. weight (steps_view xs)) c.deref-6.ensures.value), (omega (arith, c.requires.room, c.in_ok-failed.ensures.front, c.in_ok-ok.ensures.front), omega (arith, c.requires.places, c.in_ok-failed.ensures.place, c.in_ok-ok.ensures.place)))
+
+pub put_block-put_steps-requires-4 : goal.put_block-put_steps-requires-4
+put_block-put_steps-requires-4 t c =
+    let n = length c.args.scene.now.handlers.now in
+    let tw = twice n 0 (steps_view c.args.block.now.always.items) in
+    let a4 = ap (λ xs. steps_in n 0 (steps_view xs)) c.deref-4.ensures.value in
+    let a5 = ap (λ xs. steps_in n 0 (steps_view xs)) c.deref-5.ensures.value in
+    let a6 = ap (λ xs. steps_in n 0 (steps_view xs)) c.deref-6.ensures.value in
+    let a7 = ap (λ xs. steps_in n 0 (steps_view xs)) c.deref-7.ensures.value in
+    let b4 = ap (λ xs. places_in n (steps_view xs)) c.deref-4.ensures.value in
+    let b5 = ap (λ xs. places_in n (steps_view xs)) c.deref-5.ensures.value in
+    let b6 = ap (λ xs. places_in n (steps_view xs)) c.deref-6.ensures.value in
+    let b7 = ap (λ xs. places_in n (steps_view xs)) c.deref-7.ensures.value in
+    (omega (arith, c.decreases, ap (λ xs. weight (steps_view xs)) c.deref-7.ensures.value), (omega (arith, c.requires.room, c.in_ok-failed.ensures.front, c.in_ok-ok.ensures.front, c.in_ok-saved.ensures.front), omega (arith, c.requires.places, c.in_ok-failed.ensures.place, c.in_ok-ok.ensures.place, c.in_ok-saved.ensures.place)))
+
+pub put_block-returns-clause-front : goal.put_block-returns-clause-front
+put_block-returns-clause-front t c =
+    let n = length c.args.scene.now.handlers.now in
+    let tw = twice n 0 (steps_view c.args.block.now.always.items) in
+    let a4 = ap (λ xs. steps_in n 0 (steps_view xs)) c.deref-4.ensures.value in
+    let a5 = ap (λ xs. steps_in n 0 (steps_view xs)) c.deref-5.ensures.value in
+    let a6 = ap (λ xs. steps_in n 0 (steps_view xs)) c.deref-6.ensures.value in
+    let a7 = ap (λ xs. steps_in n 0 (steps_view xs)) c.deref-7.ensures.value in
+    on-ok c.put_steps-4.result _ _ c.put_steps-4.ensures.front (λ e. omega (arith, c.in_ok-failed.ensures.front, c.in_ok-ok.ensures.front, c.in_ok-saved.ensures.front))
+
+pub put_block-returns-clause-put : goal.put_block-returns-clause-put
+put_block-returns-clause-put t c =
+    let b = c.args.block.now in
+    both-ok c.put_steps-4.result _ _ _ c.put_steps-4.ensures.put c.put_steps-4.ensures.place (λ at p e. λ ms vars.
+    block-put ms vars c.args.scene.now c.args.around.now.value b c.in_ok-always.always.value c.in_ok-rescue.rescue.value c.in_ok-body.body.value
+    c.deref-7.result.now c.deref-6.result.now c.deref-4.result.now c.deref-5.result.now c.args.to
+    c.args.tail.now c.put_steps.new.tail (record { nodes = c.put_steps.new.tail.nodes; front = c.put_steps.new.tail.front; place = c.args.tail.now.place }) c.put_steps-2.new.tail c.put_steps-3.new.tail c.put_steps-4.new.tail
+    c.in_ok-ok.ok c.in_ok-failed.failed c.in_ok-saved.saved c.failure_of-failed.result at
+    (subst (λ a. around_view ms vars c.in_ok-always.always.value ≡ inside (around_view ms vars a) (head_view b.head)) c.deref.ensures (c.in_ok-always.ensures ms vars))
+    (subst (λ a. around_view ms vars c.in_ok-rescue.rescue.value ≡ record (inside (around_view ms vars a) (head_view b.head)) { depth = suc a.depth }) c.deref-2.ensures (c.in_ok-rescue.ensures ms vars))
+    (subst (λ a. around_view ms vars c.in_ok-body.body.value ≡ record (inside (around_view ms vars a) (head_view b.head)) { rescued = a.rescued || is_given (steps_view b.rescue.items) }) c.deref-3.ensures (c.in_ok-body.ensures ms vars))
+    c.deref-7.ensures.value c.deref-6.ensures.value c.deref-4.ensures.value c.deref-5.ensures.value
+    refl refl refl refl c.in_ok-failed.ensures.place c.in_ok-ok.ensures.place c.in_ok-saved.ensures.place e
+    c.failure_of-failed.ensures (c.in_ok-failed.ensures.put ms vars) (c.in_ok-ok.ensures.put ms vars) (c.in_ok-saved.ensures.put ms vars) (p ms vars))

@@ -1,0 +1,26 @@
+use Rattle.std.proofs.Common.{◌≡◌, ◌+◌, None, length, sym, subst, arith}
+use Rattle.pb_language.specs.Plays.{places_in, row_of}
+use Rattle.pb_language.specs.Task.{end, flush}
+use Rattle.pb_play.specs.Plays.{steps_view}
+use Rattle.pb_flow.specs.Build.{IsPut, handlers_from}
+use Rattle.pb_flow.specs.Nodes.{around_view}
+use Rattle.pb_flow.proofs.Blocks.{both-ok}
+use Rattle.pb_flow.proofs.Joins.{row-joined}
+use Rattle.pb_flow.proofs.Puts.{put-joined}
+use Rattle.pb_flow.proofs.build.put_ended.Goals as goal
+
+pub returns-clause-put : goal.returns-clause-put
+returns-clause-put c =
+    let scene = c.args.scene.now in
+    let n = length scene.handlers.now in
+    let ss = steps_view c.args.steps.now in
+    let old = c.args.tail.now in
+    let mid = c.put_flush.new.tail in
+    let new = c.put_steps.new.tail in
+    both-ok c.put_steps.result _ _ _ c.put_steps.ensures.put c.put_steps.ensures.place (λ at p e. λ ms vars.
+    let s = around_view ms vars scene.around.value in
+    let hs = handlers_from ms vars scene in
+    let at_flush : mid.place ≡ places_in n ss + new.place = omega arith in
+    subst (λ r. IsPut ms vars r (record { ok = c.args.after; failed = None }) old new at) (sym (row-joined hs n s new.place ss (flush (hs (places_in n ss + new.place)) end)))
+    (put-joined ms vars (row_of hs n s new.place ss end) (flush (hs (places_in n ss + new.place)) end) (record { ok = c.args.after; failed = None }) old mid new c.in_ok-flush.flush at
+    (subst (λ k. IsPut ms vars (flush (hs k) end) (record { ok = c.args.after; failed = None }) old mid c.in_ok-flush.flush) at_flush (c.in_ok-flush.ensures.put ms vars)) (p ms vars)))

@@ -1,0 +1,30 @@
+use Rattle.std.proofs.Common.{◌≡◌, ◌+◌, None, length, refl, subst, arith}
+use Rattle.pb_language.specs.Plays.{places_in, row_of}
+use Rattle.pb_language.specs.Task.{end, flush}
+use Rattle.pb_play.specs.Plays.{steps_view}
+use Rattle.pb_flow.specs.Build.{IsPut, handlers_from}
+use Rattle.pb_flow.specs.Nodes.{around_view}
+use Rattle.pb_flow.specs.declared.build.Tail.{Tail}
+use Rattle.pb_flow.proofs.Blocks.{both-ok}
+use Rattle.pb_flow.proofs.Puts.{put-section}
+use Rattle.pb_flow.proofs.build.put_forced.Goals as goal
+
+pub returns-clause-put : goal.returns-clause-put
+returns-clause-put c =
+    let scene = c.args.scene.now in
+    let n = length scene.handlers.now in
+    let ss = steps_view c.args.steps.now in
+    let old = c.args.tail.now in
+    let one = c.put_flush.new.tail in
+    let again : Tail = record { nodes = one.nodes; front = one.front; place = old.place } in
+    let two = c.put_flush-2.new.tail in
+    let new = c.put_steps.new.tail in
+    both-ok c.put_steps.result _ _ _ c.put_steps.ensures.put c.put_steps.ensures.place (λ at p e. λ ms vars.
+    let s = around_view ms vars scene.around.value in
+    let hs = handlers_from ms vars scene in
+    let at_first : one.place ≡ places_in n ss + new.place = omega (arith, c.in_ok-failed.ensures.place, c.in_ok-ok.ensures.place) in
+    let at_second : two.place ≡ places_in n ss + new.place = omega arith in
+    put-section ms vars (row_of hs n s new.place ss end) (hs (places_in n ss + new.place)) c.args.after old one again two new c.in_ok-failed.failed c.in_ok-ok.ok at refl refl refl
+    (subst (λ k. IsPut ms vars (flush (hs k) end) (record { ok = None; failed = None }) old one c.in_ok-failed.failed) at_first (c.in_ok-failed.ensures.put ms vars))
+    (subst (λ k. IsPut ms vars (flush (hs k) end) (record { ok = c.args.after; failed = None }) again two c.in_ok-ok.ok) at_second (c.in_ok-ok.ensures.put ms vars))
+    (p ms vars))

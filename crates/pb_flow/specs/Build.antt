@@ -1,0 +1,81 @@
+-- The nodes of a play as they are built, from its end to its start.
+use Rattle.std.specs.Prelude.{◌≡◌, ℕ, ◌+◌, List, [], ◌++◌, Bool, cond, Option, Some, None, length}
+use Rattle.std.specs.Prelude.{map, reverse}
+use Rattle.pb_language.specs.Book.{PlayData, Registry, Steps, block_step, no_steps}
+use Rattle.pb_language.specs.Expression.{Parts}
+use Rattle.pb_language.specs.Links.{Link, entry, fails, goes, link_to, links, passes, size}
+use Rattle.pb_language.specs.Plays.{ended_row, gathering_task, handlers_at, places_in, row_of}
+use Rattle.pb_language.specs.Plays.{section_row, sections_row, task_at}
+use Rattle.pb_language.specs.Task.{Handlers, Row, Task, end, flush, task}
+use Rattle.pb_play.specs.Plays.{handler_view, head_view, steps_view}
+use Rattle.pb_play.specs.declared.play.Block.{Block}
+use Rattle.pb_play.specs.declared.play.Step.{Step}
+use Rattle.pb_flow.specs.Flow.{tasks_of}
+use Rattle.pb_flow.specs.Nodes.{around_view, node_task, nodes_links, visited_view}
+use Rattle.pb_flow.specs.declared.build.Scene.{Scene}
+use Rattle.pb_flow.specs.declared.build.Tail.{Tail}
+use Rattle.pb_flow.specs.declared.graph.Around.{Around}
+use Rattle.pb_flow.specs.declared.graph.Exits.{Exits}
+use Rattle.pb_flow.specs.declared.graph.Visited.{Visited}
+
+-- the tasks and the edges of the nodes that are built
+abbrev pub tail_tasks : Registry → Parts → Tail → List Task
+tail_tasks ms vars t = map (node_task ms vars) (reverse t.nodes.items)
+
+abbrev pub tail_links : Registry → Parts → Tail → List Link
+tail_links ms vars t = nodes_links ms vars t.front (reverse t.nodes.items)
+
+-- the task of a node, and the edges from it
+abbrev pub task_of : Registry → Parts → Around → ℕ → Visited → Task
+task_of ms vars a p v = task_at (around_view ms vars a) p (visited_view v)
+
+abbrev pub edges_from : Bool → ℕ → Task → Exits → List Link
+edges_from is_handler o t to = cond is_handler (link_to o t passes to.ok) []
+    ++ (link_to o t goes to.ok ++ link_to o t fails to.failed)
+
+-- the row stands in front of what was built before, between those exits, and is entered there
+pub record IsPut (ms : Registry) (vars : Parts) (row : Row) (to : Exits) (old new : Tail)
+    (at : Option ℕ) : Type 0 where
+  pub room : new.front + size row ≡ old.front
+  pub tasks : tail_tasks ms vars new ≡ tasks_of row ++ tail_tasks ms vars old
+  pub edges : tail_links ms vars new
+      ≡ links row new.front to.ok to.failed ++ tail_links ms vars old
+  pub entered : at ≡ entry row new.front to.ok
+
+-- the handlers of a flush at a place
+abbrev pub handlers_from : Registry → Parts → Scene → ℕ → Handlers
+handlers_from ms vars s p =
+    handlers_at (around_view ms vars s.around.value) 0 p (map handler_view s.handlers.now)
+
+abbrev pub flush_row : Registry → Parts → Scene → ℕ → Row
+flush_row ms vars s p = flush (handlers_from ms vars s p) end
+
+abbrev pub steps_row : Registry → Parts → Scene → Around → ℕ → Steps → Row
+steps_row ms vars s a p ss = row_of (handlers_from ms vars s) (length s.handlers.now)
+    (around_view ms vars a) p ss end
+
+-- steps and the flush behind them
+abbrev pub ended_steps_row : Registry → Parts → Scene → Bool → ℕ → Steps → Row
+ended_steps_row ms vars s forces p ss = ended_row forces
+    (handlers_from ms vars s (places_in (length s.handlers.now) ss + p))
+    (row_of (handlers_from ms vars s) (length s.handlers.now)
+    (around_view ms vars s.around.value) p ss) end
+
+abbrev pub one_section_row : Registry → Parts → Scene → Bool → ℕ → Steps → Row
+one_section_row ms vars s forces p ss = section_row (handlers_from ms vars s)
+    (length s.handlers.now) (around_view ms vars s.around.value) forces p ss (λ q. end)
+
+-- the gathering, where there is one
+abbrev pub gathering_row : Registry → Parts → Scene → ℕ → Option ℕ → Row
+gathering_row ms vars s p None = end
+gathering_row ms vars s p (Some l) =
+    task (task_at (around_view ms vars s.around.value) p (gathering_task l)) end
+
+abbrev pub all_sections_row : Registry → Parts → Scene → ℕ → PlayData → Row
+all_sections_row ms vars s p play = sections_row (handlers_from ms vars s)
+    (length s.handlers.now) (around_view ms vars s.around.value) p play
+
+-- a block with nothing behind it
+abbrev pub block_alone : Block Step → Steps
+block_alone b = block_step (head_view b.head) (steps_view b.body.items)
+    (steps_view b.rescue.items) (steps_view b.always.items) no_steps

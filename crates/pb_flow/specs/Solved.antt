@@ -1,0 +1,58 @@
+-- The graph of a play, and its least solution beside the walk of its row (this project's own).
+use Rattle.std.specs.Prelude.{◌≡◌, ◌≤◌, ℕ, suc, length, List, [], ◌∷◌, ◌++◌, Option, Some, None, map}
+use Rattle.std.specs.Prelude.{slice_index_or}
+use Rattle.pb_lattice.specs.Graph.{Graph}
+use Rattle.pb_lattice.specs.Solution.{Covers}
+use Rattle.pb_lattice.specs.declared.graph.Edge.{Edge}
+use Rattle.pb_language.specs.Book.{Registry}
+use Rattle.pb_language.specs.Expression.{Parts}
+use Rattle.pb_language.specs.Judgement.{Exit}
+use Rattle.pb_language.specs.Links.{led, size, values_at}
+use Rattle.pb_language.specs.Nodes.{ValuesLe, values}
+use Rattle.pb_language.specs.Ordered.{ExitLe}
+use Rattle.pb_language.specs.Setting.{Setting}
+use Rattle.pb_language.specs.Task.{Row}
+use Rattle.pb_language.specs.Walk.{walk}
+use Rattle.pb_language.specs.Wells.{WellExit, WellViews}
+use Rattle.pb_flow.specs.Ahead.{flow_edges}
+use Rattle.pb_flow.specs.Flow.{begins_at, end_node, row_links}
+use Rattle.pb_flow.specs.Nodes.{nodes_links}
+use Rattle.pb_flow.specs.declared.graph.Node.{Node}
+
+-- the edges of a play, the first from its start, and what becomes of an environment along each
+abbrev pub begin_edges : Option ℕ → List Edge
+begin_edges None = []
+begin_edges (Some n) = record { source = 0; target = n } ∷ []
+
+abbrev pub row_graph : Row → Graph
+row_graph row = record {
+  count = suc (end_node row);
+  edges = begin_edges (begins_at row)
+      ++ map (λ l. record { source = l.source; target = l.target }) (row_links row);
+}
+
+abbrev pub begin_steps : Option ℕ → List (Exit → Exit)
+begin_steps None = []
+begin_steps (Some n) = (λ e. e) ∷ []
+
+abbrev pub row_step : Setting → Row → ℕ → Exit → Exit
+row_step st row i = slice_index_or
+    (begin_steps (begins_at row) ++ map (λ l. led st l.by l.way) (row_links row)) i (λ e. e)
+
+-- the least solution on it and the walk are below each other, at each node and at the end
+abbrev pub SolutionIsWalk : Type 0
+SolutionIsWalk = (st : Setting) (row : Row) (e : Exit) (val : ℕ → Exit)
+    → WellViews st.views → WellExit e
+    → Covers WellExit ExitLe (row_step st row) (row_graph row) e val
+    → ((w : ℕ → Exit) → Covers WellExit ExitLe (row_step st row) (row_graph row) e w
+    → (n : ℕ) → n ≤ end_node row → ExitLe (val n) (w n))
+    → ValuesLe row (values st row e) (values_at val row 1)
+    × ValuesLe row (values_at val row 1) (values st row e)
+    × ExitLe (walk st row e).well (val (end_node row))
+    × ExitLe (val (end_node row)) (walk st row e).well
+
+-- nodes that have the links of a row have the edges of its graph
+abbrev pub FlowsAreRows : Type 0
+FlowsAreRows = (ms : Registry) (vars : Parts) (row : Row) (begin : Option ℕ) (ns : List Node)
+    → begin ≡ begins_at row → nodes_links ms vars 1 ns ≡ row_links row → length ns ≡ size row
+    → flow_edges begin ns ≡ row_graph row

@@ -1,0 +1,480 @@
+// The nodes of a play, put one in front of the other, from its end to its start.
+ghost use Rattle.std.specs.Prelude.{◌*◌, ◌++◌, ◌+◌, ◌<◌, ◌≡◌, ◌≤◌, ◌∷◌, ◌||◌, IfOk, None, OnOk};
+ghost use Rattle.std.specs.Prelude.{Some, [], cond, false, length, reverse, suc, true};
+ghost use Rattle.pb_semantics.specs.Limits.{most_play_steps};
+ghost use Rattle.pb_language.specs.Book.{Registry, no_steps};
+ghost use Rattle.pb_language.specs.Expression.{Parts};
+ghost use Rattle.pb_language.specs.Links.{saved_entry};
+ghost use Rattle.pb_language.specs.Plays.{inside, is_given, places_in, play_surroundings};
+ghost use Rattle.pb_language.specs.Sites.{gathering_steps, section_steps, sections_steps, steps_in};
+ghost use Rattle.pb_template.specs.Entries.{entries_view};
+ghost use Rattle.pb_play.specs.Plays.{head_view, play_view, step_view, steps_view};
+ghost use Rattle.pb_flow.specs.Build.{IsPut, all_sections_row, block_alone, edges_from};
+ghost use Rattle.pb_flow.specs.Build.{ended_steps_row, flush_row, gathering_row, one_section_row};
+ghost use Rattle.pb_flow.specs.Build.{steps_row, tail_links, tail_tasks, task_of};
+ghost use Rattle.pb_flow.specs.Nodes.{around_view};
+ghost use Rattle.pb_flow.specs.Places.{section_places, sections_places};
+
+use crate::graph::{Around, Exits, Node, Visited};
+use crate::steps::{Count, is_given};
+use pb_play::{Block, BlockHead, Handler, Play, Step};
+use std::alloc::{AllocError, Global};
+use std::sync::Arc;
+
+// What is the same in the whole play.
+#[derive(Drop)]
+pub(crate) struct Scene<'p> {
+    alloc: Global,
+    handlers: &'p [Handler],
+    // What stands round its sections and its handlers.
+    around: Arc<Around<'p>>,
+}
+
+// The last nodes of a play, in front of which more are put.
+#[derive(Drop)]
+pub(crate) struct Tail<'p> {
+    // The last first.
+    nodes: Vec<Node<'p>>,
+    // The number of the one in front, or of the end while there is none.
+    pub(crate) front: u32,
+    // How many places there are before it.
+    place: u32,
+}
+
+impl<'p> Tail<'p> {
+    // The end alone, behind so many nodes and places.
+    pub(crate) fn behind(alloc: Global, count: Count) -> Tail<'p>
+        requires few { count.steps ≤ most_play_steps }
+        requires places { count.places ≤ most_play_steps }
+        ensures front { result.front ≡ suc count.steps }
+        ensures place { result.place ≡ count.places }
+        ensures nodes { result.nodes.items ≡ [] }
+    {
+        Tail {
+            nodes: Vec::new(alloc),
+            front: count.steps as u32 + 1,
+            place: count.places as u32,
+        }
+    }
+
+    // The nodes in their order.
+    pub(crate) fn into_nodes(self) -> Vec<Node<'p>>
+        ensures { result.items ≡ reverse self.entry.nodes.items }
+    {
+        let mut nodes = self.nodes;
+        nodes.reverse();
+        nodes
+    }
+
+    // Puts a node in front, and says which one it is.
+    pub(crate) fn put(
+        &mut self,
+        visited: Visited<'p>,
+        around: &Arc<Around<'p>>,
+        is_handler: bool,
+        to: Exits,
+    ) -> Result<Option<u32>, AllocError>
+        requires room { 0 < self.old.front }
+        requires places { 0 < self.old.place }
+        ensures front { OnOk result (suc self.new.front ≡ self.old.front) }
+        ensures place { OnOk result (suc self.new.place ≡ self.old.place) }
+        ensures at { IfOk result (λ at. at ≡ Some self.new.front) }
+        ensures tasks { OnOk result ((ms : Registry) (vars : Parts) → tail_tasks ms vars self.new
+            ≡ task_of ms vars around.now.value self.new.place visited.entry
+            ∷ tail_tasks ms vars self.old) }
+        ensures edges { OnOk result ((ms : Registry) (vars : Parts) → tail_links ms vars self.new
+            ≡ edges_from is_handler self.new.front
+            (task_of ms vars around.now.value self.new.place visited.entry) to
+            ++ tail_links ms vars self.old) }
+    {
+        let node = Node {
+            visited,
+            around: around.clone()?,
+            place: self.place - 1,
+            is_handler,
+            ok: to.ok,
+            failed: to.failed,
+        };
+        self.nodes.push(node)?;
+        self.front -= 1;
+        self.place -= 1;
+        Ok(Some(self.front))
+    }
+}
+
+// Puts the handlers of a flush in front, from the last to the first. Behind them a host goes on
+// there; where one fails it leaves.
+fn put_flush<'p>(
+    tail: &mut Tail<'p>,
+    scene: &Scene<'p>,
+    after: Option<u32>,
+) -> Result<Option<u32>, AllocError>
+    requires room { length scene.now.handlers.now ≤ tail.old.front }
+    requires places { length scene.now.handlers.now ≤ tail.old.place }
+    ensures place { OnOk result (tail.new.place + length scene.now.handlers.now ≡ tail.old.place) }
+    ensures front { OnOk result (tail.new.front + length scene.now.handlers.now ≡ tail.old.front) }
+    ensures put { IfOk result (λ at. (ms : Registry) (vars : Parts)
+        → IsPut ms vars (flush_row ms vars scene.now tail.new.place)
+        (record { ok = after; failed = None }) tail.old tail.new at) }
+{
+    let handlers = scene.handlers;
+    let mut next = after;
+    for index in (0..handlers.len()).rev() {
+        let to = Exits {
+            ok: next,
+            failed: None,
+        };
+        next = tail.put(
+            Visited::Task(&handlers[index].task),
+            &scene.around,
+            true,
+            to,
+        )?;
+    }
+    Ok(next)
+}
+
+// Puts steps in front, from the last to the first, and says where a host enters them.
+#[cycle(put)]
+fn put_steps<'p>(
+    tail: &mut Tail<'p>,
+    scene: &Scene<'p>,
+    around: &Arc<Around<'p>>,
+    steps: &'p [Step],
+    to: Exits,
+) -> Result<Option<u32>, AllocError>
+    requires room { steps_in (length scene.now.handlers.now) 0 (steps_view steps.now)
+        ≤ tail.old.front }
+    requires places { places_in (length scene.now.handlers.now) (steps_view steps.now)
+        ≤ tail.old.place }
+    ensures front { OnOk result (tail.new.front
+        + steps_in (length scene.now.handlers.now) 0 (steps_view steps.now) ≡ tail.old.front) }
+    ensures place { OnOk result (tail.new.place
+        + places_in (length scene.now.handlers.now) (steps_view steps.now) ≡ tail.old.place) }
+    ensures put { IfOk result (λ at. (ms : Registry) (vars : Parts)
+        → IsPut ms vars (steps_row ms vars scene.now around.now.value tail.new.place
+        (steps_view steps.now)) to tail.old tail.new at) }
+{
+    let mut next = to.ok;
+    for index in (0..steps.len()).rev() {
+        let on = Exits {
+            ok: next,
+            failed: to.failed,
+        };
+        next = put_step(tail, scene, around, &steps[index], on)?;
+    }
+    Ok(next)
+}
+
+#[cycle(put)]
+fn put_step<'p>(
+    tail: &mut Tail<'p>,
+    scene: &Scene<'p>,
+    around: &Arc<Around<'p>>,
+    step: &'p Step,
+    to: Exits,
+) -> Result<Option<u32>, AllocError>
+    requires room { steps_in (length scene.now.handlers.now) 0 (step_view step.now no_steps)
+        ≤ tail.old.front }
+    requires places { places_in (length scene.now.handlers.now) (step_view step.now no_steps)
+        ≤ tail.old.place }
+    ensures front { OnOk result (tail.new.front
+        + steps_in (length scene.now.handlers.now) 0 (step_view step.now no_steps)
+        ≡ tail.old.front) }
+    ensures place { OnOk result (tail.new.place
+        + places_in (length scene.now.handlers.now) (step_view step.now no_steps)
+        ≡ tail.old.place) }
+    ensures put { IfOk result (λ at. (ms : Registry) (vars : Parts)
+        → IsPut ms vars (steps_row ms vars scene.now around.now.value tail.new.place
+        (step_view step.now no_steps)) to tail.old tail.new at) }
+{
+    match step {
+        Step::Task(task) => tail.put(Visited::Task(task), around, false, to),
+        Step::Flush(_) => put_flush(tail, scene, to.ok),
+        Step::Block(block) => put_block(tail, scene, around, block, to),
+    }
+}
+
+// Puts the parts of a block in front: the `always` part as it runs after a failure, the same at the
+// same places as it runs else, then the `rescue` and the body.
+#[cycle(put)]
+fn put_block<'p>(
+    tail: &mut Tail<'p>,
+    scene: &Scene<'p>,
+    around: &Arc<Around<'p>>,
+    block: &'p Block<Step>,
+    to: Exits,
+) -> Result<Option<u32>, AllocError>
+    requires room { steps_in (length scene.now.handlers.now) 0 (block_alone block.now)
+        ≤ tail.old.front }
+    requires places { places_in (length scene.now.handlers.now) (block_alone block.now)
+        ≤ tail.old.place }
+    ensures front { OnOk result (tail.new.front
+        + steps_in (length scene.now.handlers.now) 0 (block_alone block.now) ≡ tail.old.front) }
+    ensures place { OnOk result (tail.new.place
+        + places_in (length scene.now.handlers.now) (block_alone block.now) ≡ tail.old.place) }
+    ensures put { IfOk result (λ at. (ms : Registry) (vars : Parts)
+        → IsPut ms vars (steps_row ms vars scene.now around.now.value tail.new.place
+        (block_alone block.now)) to tail.old tail.new at) }
+{
+    let always = around_always(scene.alloc, around, block)?;
+    let rescue = around_rescue(scene.alloc, around, block)?;
+    let body = around_body(scene.alloc, around, block)?;
+    let place = tail.place;
+    let leaving = Exits {
+        ok: to.failed,
+        failed: to.failed,
+    };
+    let failed = put_steps(tail, scene, &always, &block.always, leaving)?;
+    tail.place = place;
+    let ok = put_steps(tail, scene, &always, &block.always, to)?;
+    let saved = put_steps(tail, scene, &rescue, &block.rescue, Exits { ok, failed })?;
+    let failed = failure_of(block, saved, failed);
+    put_steps(tail, scene, &body, &block.body, Exits { ok, failed })
+}
+
+// Where a failure of the body leads: into the `rescue`, if there is one.
+fn failure_of(block: &Block<Step>, inside: Option<u32>, outside: Option<u32>) -> Option<u32>
+    ensures { result
+        ≡ saved_entry (is_given (steps_view block.now.rescue.items)) inside outside }
+{
+    if is_given(&block.rescue) {
+        inside
+    } else {
+        outside
+    }
+}
+
+fn around_body<'p>(
+    alloc: Global,
+    around: &Around<'p>,
+    block: &'p Block<Step>,
+) -> Result<Arc<Around<'p>>, AllocError>
+    ensures { IfOk result (λ a. (ms : Registry) (vars : Parts) → around_view ms vars a.value
+        ≡ record (inside (around_view ms vars around.now) (head_view block.now.head))
+        { rescued = around.now.rescued || is_given (steps_view block.now.rescue.items) }) }
+{
+    let rescued = is_rescued(around, block);
+    around_part(alloc, around, &block.head, rescued, around.depth)
+}
+
+fn is_rescued(around: &Around, block: &Block<Step>) -> bool
+    ensures { result
+        ≡ around.now.rescued || is_given (steps_view block.now.rescue.items) }
+{
+    around.rescued || is_given(&block.rescue)
+}
+
+fn around_rescue<'p>(
+    alloc: Global,
+    around: &Around<'p>,
+    block: &'p Block<Step>,
+) -> Result<Arc<Around<'p>>, AllocError>
+    ensures { IfOk result (λ a. (ms : Registry) (vars : Parts) → around_view ms vars a.value
+        ≡ record (inside (around_view ms vars around.now) (head_view block.now.head))
+        { depth = suc around.now.depth }) }
+{
+    // Nobody has memory for as many blocks.
+    let Some(depth) = around.depth.checked_add(1) else {
+        return Err(AllocError);
+    };
+    around_part(alloc, around, &block.head, around.rescued, depth)
+}
+
+fn around_always<'p>(
+    alloc: Global,
+    around: &Around<'p>,
+    block: &'p Block<Step>,
+) -> Result<Arc<Around<'p>>, AllocError>
+    ensures { IfOk result (λ a. (ms : Registry) (vars : Parts) → around_view ms vars a.value
+        ≡ inside (around_view ms vars around.now) (head_view block.now.head)) }
+{
+    around_part(alloc, around, &block.head, around.rescued, around.depth)
+}
+
+// What stands round the steps in a part of a block.
+fn around_part<'p>(
+    alloc: Global,
+    around: &Around<'p>,
+    head: &'p BlockHead,
+    rescued: bool,
+    depth: u32,
+) -> Result<Arc<Around<'p>>, AllocError>
+    ensures { IfOk result (λ a. (ms : Registry) (vars : Parts) → around_view ms vars a.value
+        ≡ record (inside (around_view ms vars around.now) (head_view head.now))
+        { rescued = rescued; depth = depth }) }
+{
+    let mut blocks = Vec::new(alloc);
+    blocks.extend_from_slice(&around.blocks)?;
+    blocks.push(head)?;
+    let part = Around {
+        blocks,
+        ignores: head.ignore_errors.unwrap_or(around.ignores),
+        rescued,
+        depth,
+    };
+    Ok(Arc::new(alloc, part)?)
+}
+
+// Puts a section in front, with the flush at its end; where it is empty there is none.
+fn put_section<'p>(
+    tail: &mut Tail<'p>,
+    scene: &Scene<'p>,
+    steps: &'p [Step],
+    forces: bool,
+    after: Option<u32>,
+) -> Result<Option<u32>, AllocError>
+    requires room { section_steps (length scene.now.handlers.now) (cond forces 2 1)
+        (steps_view steps.now) ≤ tail.old.front }
+    requires places { section_places (length scene.now.handlers.now) (steps_view steps.now)
+        ≤ tail.old.place }
+    ensures front { OnOk result (tail.new.front
+        + section_steps (length scene.now.handlers.now) (cond forces 2 1) (steps_view steps.now)
+        ≡ tail.old.front) }
+    ensures place { OnOk result (tail.new.place
+        + section_places (length scene.now.handlers.now) (steps_view steps.now)
+        ≡ tail.old.place) }
+    ensures put { IfOk result (λ at. (ms : Registry) (vars : Parts)
+        → IsPut ms vars (one_section_row ms vars scene.now forces tail.new.place
+        (steps_view steps.now)) (record { ok = after; failed = None }) tail.old tail.new at) }
+{
+    if !is_given(steps) {
+        return Ok(after);
+    }
+    if forces {
+        put_forced(tail, scene, steps, after)
+    } else {
+        put_ended(tail, scene, steps, after)
+    }
+}
+
+// Puts steps in front of a flush that isn't forced.
+fn put_ended<'p>(
+    tail: &mut Tail<'p>,
+    scene: &Scene<'p>,
+    steps: &'p [Step],
+    after: Option<u32>,
+) -> Result<Option<u32>, AllocError>
+    requires room { steps_in (length scene.now.handlers.now) 0 (steps_view steps.now)
+        + length scene.now.handlers.now ≤ tail.old.front }
+    requires places { places_in (length scene.now.handlers.now) (steps_view steps.now)
+        + length scene.now.handlers.now ≤ tail.old.place }
+    ensures front { OnOk result (tail.new.front
+        + (steps_in (length scene.now.handlers.now) 0 (steps_view steps.now)
+        + length scene.now.handlers.now) ≡ tail.old.front) }
+    ensures place { OnOk result (tail.new.place
+        + (places_in (length scene.now.handlers.now) (steps_view steps.now)
+        + length scene.now.handlers.now) ≡ tail.old.place) }
+    ensures put { IfOk result (λ at. (ms : Registry) (vars : Parts)
+        → IsPut ms vars (ended_steps_row ms vars scene.now false tail.new.place
+        (steps_view steps.now)) (record { ok = after; failed = None }) tail.old tail.new at) }
+{
+    let flush = put_flush(tail, scene, after)?;
+    let to = Exits {
+        ok: flush,
+        failed: None,
+    };
+    put_steps(tail, scene, &scene.around, steps, to)
+}
+
+// Puts steps in front of a flush that is forced: it stands there as it runs after a failure, and at
+// the same places as it runs else.
+fn put_forced<'p>(
+    tail: &mut Tail<'p>,
+    scene: &Scene<'p>,
+    steps: &'p [Step],
+    after: Option<u32>,
+) -> Result<Option<u32>, AllocError>
+    requires room { steps_in (length scene.now.handlers.now) 0 (steps_view steps.now)
+        + 2 * length scene.now.handlers.now ≤ tail.old.front }
+    requires places { places_in (length scene.now.handlers.now) (steps_view steps.now)
+        + length scene.now.handlers.now ≤ tail.old.place }
+    ensures front { OnOk result (tail.new.front
+        + (steps_in (length scene.now.handlers.now) 0 (steps_view steps.now)
+        + 2 * length scene.now.handlers.now) ≡ tail.old.front) }
+    ensures place { OnOk result (tail.new.place
+        + (places_in (length scene.now.handlers.now) (steps_view steps.now)
+        + length scene.now.handlers.now) ≡ tail.old.place) }
+    ensures put { IfOk result (λ at. (ms : Registry) (vars : Parts)
+        → IsPut ms vars (ended_steps_row ms vars scene.now true tail.new.place
+        (steps_view steps.now)) (record { ok = after; failed = None }) tail.old tail.new at) }
+{
+    let behind = tail.place;
+    let failed = put_flush(tail, scene, None)?;
+    tail.place = behind;
+    let ok = put_flush(tail, scene, after)?;
+    put_steps(tail, scene, &scene.around, steps, Exits { ok, failed })
+}
+
+// Puts the sections in front, the last one first.
+pub(crate) fn put_sections<'p>(
+    tail: &mut Tail<'p>,
+    scene: &Scene<'p>,
+    play: &'p Play,
+    after: Option<u32>,
+) -> Result<Option<u32>, AllocError>
+    requires room { sections_steps (length scene.now.handlers.now)
+        (cond play.now.force_handlers 2 1) (play_view play.now) ≤ tail.old.front }
+    requires places { sections_places (length scene.now.handlers.now) (play_view play.now)
+        ≤ tail.old.place }
+    ensures front { OnOk result (tail.new.front
+        + sections_steps (length scene.now.handlers.now) (cond play.now.force_handlers 2 1)
+        (play_view play.now) ≡ tail.old.front) }
+    ensures place { OnOk result (tail.new.place
+        + sections_places (length scene.now.handlers.now) (play_view play.now)
+        ≡ tail.old.place) }
+    ensures put { IfOk result (λ at. (ms : Registry) (vars : Parts)
+        → IsPut ms vars (all_sections_row ms vars scene.now tail.new.place (play_view play.now))
+        (record { ok = after; failed = None }) tail.old tail.new at) }
+{
+    let forces = play.force_handlers;
+    let post_tasks = put_section(tail, scene, &play.post_tasks, forces, after)?;
+    let tasks = put_section(tail, scene, &play.tasks, forces, post_tasks)?;
+    put_section(tail, scene, &play.pre_tasks, forces, tasks)
+}
+
+// Puts the task in front that gathers facts, where there is one; where it fails the host leaves.
+pub(crate) fn put_gathering<'p>(
+    tail: &mut Tail<'p>,
+    scene: &Scene<'p>,
+    gathering: Option<u32>,
+    after: Option<u32>,
+) -> Result<Option<u32>, AllocError>
+    requires room { gathering_steps gathering ≤ tail.old.front }
+    requires places { gathering_steps gathering ≤ tail.old.place }
+    ensures front { OnOk result (tail.new.front + gathering_steps gathering ≡ tail.old.front) }
+    ensures place { OnOk result (tail.new.place + gathering_steps gathering ≡ tail.old.place) }
+    ensures put { IfOk result (λ at. (ms : Registry) (vars : Parts)
+        → IsPut ms vars (gathering_row ms vars scene.now tail.new.place gathering)
+        (record { ok = after; failed = None }) tail.old tail.new at) }
+{
+    let to = Exits {
+        ok: after,
+        failed: None,
+    };
+    match gathering {
+        Some(line) => tail.put(Visited::Gathering(line), &scene.around, false, to),
+        None => Ok(after),
+    }
+}
+
+impl<'p> Scene<'p> {
+    pub(crate) fn of(alloc: Global, play: &'p Play) -> Result<Scene<'p>, AllocError>
+        ensures handlers { IfOk result (λ s. s.handlers.now ≡ play.now.handlers.items) }
+        ensures around { IfOk result (λ s. (ms : Registry)
+            → around_view ms (entries_view play.now.vars.items) s.around.value
+            ≡ play_surroundings ms (play_view play.now)) }
+    {
+        let around = Around {
+            blocks: Vec::new(alloc),
+            ignores: false,
+            rescued: false,
+            depth: 0,
+        };
+        Ok(Scene {
+            alloc,
+            handlers: &play.handlers,
+            around: Arc::new(alloc, around)?,
+        })
+    }
+}

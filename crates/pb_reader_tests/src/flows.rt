@@ -1,0 +1,136 @@
+// Plays as graphs: where a host goes from each task, and how many steps there are.
+use crate::plays::plays_of;
+use pb_flow::{Exits, Graph, MOST_STEPS, Way, steps_of};
+use pb_lattice::FlowGraph;
+use pb_play::Play;
+use std::alloc::Global;
+use std::test::Fail;
+
+// A block with a `rescue` and an `always`, a task, and two handlers.
+const RESCUED: &str = r#"[{"hosts":"all","tasks":[
+    {"block":[{"ping":null}],"rescue":[{"ping":null}],"always":[{"ping":null}]},{"ping":null}],
+    "handlers":[{"name":"a","ping":null},{"name":"b","ping":null}]}]"#;
+
+const FORCED: &str = r#"[{"hosts":"all","force_handlers":true,"tasks":[{"ping":null}],
+    "handlers":[{"name":"a","ping":null}]}]"#;
+
+// Twelve `always` parts in one another, round two tasks.
+const NESTED: &str = r#"[{"hosts":"all","tasks":[
+    {"block":[],"always":[{"block":[],"always":[{"block":[],"always":[{"block":[],"always":[
+    {"block":[],"always":[{"block":[],"always":[{"block":[],"always":[{"block":[],"always":[
+    {"block":[],"always":[{"block":[],"always":[{"block":[],"always":[{"block":[],"always":[
+    {"ping":null},{"ping":null}
+    ]}]}]}]}]}]}]}]}]}]}]}]}]}]"#;
+
+// The same round three.
+const PAST: &str = r#"[{"hosts":"all","tasks":[
+    {"block":[],"always":[{"block":[],"always":[{"block":[],"always":[{"block":[],"always":[
+    {"block":[],"always":[{"block":[],"always":[{"block":[],"always":[{"block":[],"always":[
+    {"block":[],"always":[{"block":[],"always":[{"block":[],"always":[{"block":[],"always":[
+    {"ping":null},{"ping":null},{"ping":null}
+    ]}]}]}]}]}]}]}]}]}]}]}]}]}]"#;
+
+fn graph_of<'p>(alloc: Global, play: &'p Play) -> Result<Graph<'p>, Fail> {
+    if steps_of(play) > MOST_STEPS {
+        return Err(Fail::from("too many steps"));
+    }
+    let graph = Graph::of(alloc, play)?;
+    Ok(graph)
+}
+
+fn first_of(alloc: Global, text: &str) -> Result<Vec<Play>, Fail> {
+    match plays_of(alloc, text) {
+        Ok(plays) => Ok(plays),
+        Err(_) => Err(Fail::from("no plays")),
+    }
+}
+
+// Whether a host goes there from the node, and there where its task fails.
+fn leads(graph: &Graph, node: usize, ok: Option<u32>, failed: Option<u32>) -> bool {
+    graph.exits(node) == Exits { ok, failed }
+}
+
+fn stands_at(graph: &Graph, node: usize, line: u32, place: u32) -> bool {
+    graph.line_of(node) == Some(line) && graph.place_of(node) == Some(place)
+}
+
+fn is_the_end(graph: &Graph, node: usize) -> bool {
+    leads(graph, node, None, None) && graph.line_of(node).is_none() && node + 1 == graph.nodes()
+}
+
+#[test]
+fn ways_through_a_block(rt: HostRuntime) -> Result<(), Fail> {
+    let plays = first_of(rt.alloc(), RESCUED)?;
+    for play in plays.iter() {
+        let graph = graph_of(rt.alloc(), play)?;
+        assert!(rt; leads(&graph, 0, Some(1), None) && graph.line_of(0).is_none());
+        assert!(rt; leads(&graph, 1, Some(3), Some(2)) && stands_at(&graph, 1, 3, 0));
+        assert!(rt; leads(&graph, 2, Some(3), Some(4)) && stands_at(&graph, 2, 4, 1));
+        assert!(rt; leads(&graph, 3, Some(5), None) && stands_at(&graph, 3, 5, 2));
+        assert!(rt; leads(&graph, 4, None, None) && stands_at(&graph, 4, 5, 2));
+        assert!(rt; leads(&graph, 5, Some(6), None) && stands_at(&graph, 5, 6, 3));
+    }
+    assert!(rt; plays.len() == 1);
+    Ok(())
+}
+
+#[test]
+fn ways_through_a_flush(rt: HostRuntime) -> Result<(), Fail> {
+    let plays = first_of(rt.alloc(), RESCUED)?;
+    for play in plays.iter() {
+        let graph = graph_of(rt.alloc(), play)?;
+        assert!(rt; leads(&graph, 6, Some(7), None) && stands_at(&graph, 6, 7, 4));
+        assert!(rt; leads(&graph, 7, Some(8), None) && stands_at(&graph, 7, 8, 5));
+        assert!(rt; is_the_end(&graph, 8) && steps_of(play) == 7);
+    }
+    assert!(rt; plays.len() == 1);
+    Ok(())
+}
+
+#[test]
+fn ways_through_a_forced_flush(rt: HostRuntime) -> Result<(), Fail> {
+    let plays = first_of(rt.alloc(), FORCED)?;
+    for play in plays.iter() {
+        let graph = graph_of(rt.alloc(), play)?;
+        assert!(rt; leads(&graph, 1, Some(2), Some(3)) && stands_at(&graph, 1, 2, 0));
+        assert!(rt; leads(&graph, 2, Some(4), None) && stands_at(&graph, 2, 3, 1));
+        assert!(rt; leads(&graph, 3, None, None) && stands_at(&graph, 3, 3, 1));
+        assert!(rt; is_the_end(&graph, 4) && steps_of(play) == 3);
+    }
+    assert!(rt; plays.len() == 1);
+    Ok(())
+}
+
+#[test]
+fn edges_of_a_forced_flush(rt: HostRuntime) -> Result<(), Fail> {
+    let plays = first_of(rt.alloc(), FORCED)?;
+    for play in plays.iter() {
+        let flow = graph_of(rt.alloc(), play)?.flow(rt.alloc())?;
+        let ends: Vec<(usize, usize)> = ends_of(rt.alloc(), &flow.graph)?;
+        assert!(rt; matches!(ends.as_slice(), [(0, 1), (1, 2), (1, 3), (2, 4), (2, 4)]));
+        assert!(rt; matches!(flow.ways.as_slice(),
+            [Way::Begins, Way::Goes, Way::Fails, Way::Passes, Way::Goes]));
+    }
+    assert!(rt; plays.len() == 1);
+    Ok(())
+}
+
+fn ends_of(alloc: Global, graph: &FlowGraph) -> Result<Vec<(usize, usize)>, Fail> {
+    let mut ends = Vec::new(alloc);
+    for edge in graph.edges() {
+        ends.push((edge.source, edge.target))?;
+    }
+    Ok(ends)
+}
+
+#[test]
+fn most_steps(rt: HostRuntime) -> Result<(), Fail> {
+    for play in first_of(rt.alloc(), NESTED)?.iter() {
+        assert!(rt; steps_of(play) == 8_192);
+        assert!(rt; graph_of(rt.alloc(), play)?.nodes() == 8_194);
+    }
+    for play in first_of(rt.alloc(), PAST)?.iter() {
+        assert!(rt; steps_of(play) == 8_193);
+    }
+    Ok(())
+}

@@ -1,6 +1,6 @@
 -- The graph of a play, and its least solution beside the walk of its row (this project's own).
-use Rattle.std.specs.Prelude.{◌≡◌, ◌≤◌, ℕ, suc, length, List, [], ◌∷◌, ◌++◌, Option, Some, None, map}
-use Rattle.std.specs.Prelude.{slice_index_or}
+use Rattle.std.specs.Prelude.{◌≡◌, ◌≤◌, ℕ, suc, length, List, [], ◌∷◌, ◌++◌, Option, Some, None}
+use Rattle.std.specs.Prelude.{map, slice_index_or}
 use Rattle.pb_lattice.specs.Graph.{Graph}
 use Rattle.pb_lattice.specs.Solution.{Covers}
 use Rattle.pb_lattice.specs.declared.graph.Edge.{Edge}

@@ -5,7 +5,8 @@
 //     assert!(rt; number.le(&Kind::Any, &()));
 //     let mut space = Environments::new(alloc, names)?;
 //     let known = space.with(space.empty(), "a", Slot::always(number))?;
-//     let met = environment::join(alloc, &mut space, known, space.empty())?; // `a` is perhaps there
+//     let none = space.empty();
+//     let met = environment::join(alloc, &mut space, known, none)?; // `a` is perhaps there
 #![tactic(auto)]
 
 pub mod environment;

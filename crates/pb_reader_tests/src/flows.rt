@@ -108,8 +108,12 @@ fn edges_of_a_forced_flush(rt: HostRuntime) -> Result<(), Fail> {
         let flow = graph_of(rt.alloc(), play)?.flow(rt.alloc())?;
         let ends: Vec<(usize, usize)> = ends_of(rt.alloc(), &flow.graph)?;
         assert!(rt; matches!(ends.as_slice(), [(0, 1), (1, 2), (1, 3), (2, 4), (2, 4)]));
-        assert!(rt; matches!(flow.ways.as_slice(),
-            [Way::Begins, Way::Goes, Way::Fails, Way::Passes, Way::Goes]));
+        assert!(rt;
+            matches!(
+                flow.ways.as_slice(),
+                [Way::Begins, Way::Goes, Way::Fails, Way::Passes, Way::Goes]
+            )
+        );
     }
     assert!(rt; plays.len() == 1);
     Ok(())

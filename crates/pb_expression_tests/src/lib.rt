@@ -5,6 +5,8 @@
 #[cfg(test)]
 mod admission;
 #[cfg(test)]
+mod environments;
+#[cfg(test)]
 mod expressions;
 #[cfg(test)]
 mod forms;

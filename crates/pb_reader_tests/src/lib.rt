@@ -5,6 +5,8 @@
 #[cfg(test)]
 mod books;
 #[cfg(test)]
+mod ends;
+#[cfg(test)]
 mod flows;
 #[cfg(test)]
 mod inventories;

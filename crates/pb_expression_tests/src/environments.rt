@@ -1,0 +1,52 @@
+// Environments that share their parts: what is known of names, alone and where two ways meet.
+ghost use Rattle.std.specs.Prelude.{[], ◌∷◌, ◌≡◌, IfOk, codes};
+ghost use Rattle.pb_lattice.specs.Words.{Stands};
+
+use pb_lattice::environment::{is_below, join};
+use pb_lattice::{Environment, Environments};
+use pb_value::{Kind, Slot};
+use std::alloc::Global;
+use std::test::Fail;
+
+fn one_name(alloc: Global) -> Result<Environments, Fail>
+    ensures { IfOk result (λ s. s.names ≡ codes "rc" ∷ []) }
+{
+    let name = String::from_str(alloc, "rc")?;
+    let names = vec![in alloc; name]?;
+    Ok(Environments::new(alloc, names)?)
+}
+
+// Whether of the name it is known that it is a number, and whether it is certainly there.
+fn is_number(space: &Environments, at: Environment, is_certain: bool) -> bool
+    requires { Stands space.now at }
+{
+    match space.slot(at, "rc") {
+        Some(slot) => matches!(slot.kind, Kind::Int) && slot.presence.is_always() == is_certain,
+        None => false,
+    }
+}
+
+#[test]
+fn known_and_met(rt: HostRuntime) -> Result<(), Fail> {
+    let mut space = one_name(rt.alloc())?;
+    let none = space.empty();
+    assert!(rt; space.slot(none, "rc").is_none() && !none.is_dead());
+    let known = space.with(none, "rc", Slot::always(Kind::Int))?;
+    assert!(rt; is_number(&space, known, true));
+    let met = join(rt.alloc(), &mut space, known, none)?;
+    assert!(rt; is_number(&space, met, false));
+    assert!(rt; is_below(&space, known, met) && is_below(&space, none, met));
+    assert!(rt; !is_below(&space, met, known));
+    Ok(())
+}
+
+#[test]
+fn met_with_no_way(rt: HostRuntime) -> Result<(), Fail> {
+    let mut space = one_name(rt.alloc())?;
+    let none = space.empty();
+    let known = space.with(none, "rc", Slot::always(Kind::Int))?;
+    let met = join(rt.alloc(), &mut space, Environment::dead(), known)?;
+    assert!(rt; is_number(&space, met, true) && Environment::dead().is_dead());
+    assert!(rt; is_below(&space, Environment::dead(), none));
+    Ok(())
+}

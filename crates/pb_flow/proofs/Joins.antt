@@ -20,13 +20,6 @@ joined (flush hs row) r = flush hs (joined row r)
 joined (section body hs row) r = section body hs (joined row r)
 joined (block d body saves rescued always row) r = block d body saves rescued always (joined row r)
 
-pub joined-end : (a : Row) → joined a end ≡ a
-joined-end end = refl
-joined-end (task t row) = ap (task t) (joined-end row)
-joined-end (flush hs row) = ap (flush hs) (joined-end row)
-joined-end (section body hs row) = ap (section body hs) (joined-end row)
-joined-end (block d body saves rescued always row) = ap (block d body saves rescued always) (joined-end row)
-
 pub joined-assoc : (a b c : Row) → joined (joined a b) c ≡ joined a (joined b c)
 joined-assoc end b c = refl
 joined-assoc (task t row) b c = ap (task t) (joined-assoc row b c)

@@ -1,8 +1,7 @@
 -- The edges of the nodes, taken in one node after the other.
-use Rattle.std.proofs.Common.{◌≡◌, ◌≤◌, ℕ, suc, ◌+◌, ◌<◌, List, [], ◌∷◌, ◌++◌, true, false, Bool, ◌&&◌, All, drop, length, get_or, Option, refl, sym, ap, ◌∙◌, arith}
+use Rattle.std.proofs.Common.{◌≡◌, ◌≤◌, ℕ, suc, ◌+◌, List, ◌++◌, true, All, drop, length, Option}
 use Rattle.pb_lattice.specs.Graph.{Graph as Edges}
-use Rattle.pb_lattice.specs.declared.graph.Edge.{Edge}
-use Rattle.pb_flow.specs.Ahead.{flow_edges, flow_ways, is_ahead, lead_on, node_edges, node_ways, nodes_edges, nodes_ways}
+use Rattle.pb_flow.specs.Ahead.{flow_edges, flow_ways, lead_on, nodes_edges, nodes_ways}
 use Rattle.pb_flow.specs.declared.flow.Way.{Way}
 use Rattle.pb_flow.specs.declared.graph.Node.{Node}
 

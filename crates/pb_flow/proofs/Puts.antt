@@ -1,18 +1,14 @@
 -- Rows that are put in front of one another.
-use Rattle.std.proofs.Common.{◌≡◌, ◌∙◌, ℕ, suc, ◌+◌, List, [], ◌∷◌, ◌++◌, Bool, Option, Some, None, refl, ap, sym, arith, append_assoc, append-nil}
+use Rattle.std.proofs.Common.{◌≡◌, ◌∙◌, ℕ, ◌+◌, List, [], ◌++◌, Bool, Option, None, ap, sym, arith, append_assoc, append-nil}
 use Rattle.pb_language.specs.Book.{Registry}
 use Rattle.pb_language.specs.Expression.{Parts}
-use Rattle.pb_language.specs.Links.{Link, entry, fails, flush_entry, flush_links, goes, handler_places, link_to, links, passes, saved_entry, size}
-use Rattle.pb_language.specs.Task.{Handlers, Row, Task, block, end, flush, handler, section, task}
+use Rattle.pb_language.specs.Links.{Link, entry, flush_entry, flush_links, handler_places, links, saved_entry, size}
+use Rattle.pb_language.specs.Task.{Handlers, Row, block, end, flush, section}
 use Rattle.pb_flow.specs.Build.{IsPut, tail_links, tail_tasks}
 use Rattle.pb_flow.specs.Flow.{flush_tasks, tasks_of}
 use Rattle.pb_flow.specs.declared.build.Tail.{Tail}
 use Rattle.pb_flow.specs.declared.graph.Exits.{Exits}
 use Rattle.pb_flow.proofs.Joins.{joined, joined-entry, joined-links, joined-size, joined-tasks}
-
--- nothing was put in front
-pub put-none : (ms : Registry) (vars : Parts) (to : Exits) (t : Tail) → IsPut ms vars end to t t to.ok
-put-none ms vars to t = record { room = omega arith; tasks = refl; edges = refl; entered = refl }
 
 -- a row, then another before it
 pub put-joined : (ms : Registry) (vars : Parts) (a b : Row) (to : Exits) (old mid new : Tail) (x y : Option ℕ) → IsPut ms vars b to old mid x → IsPut ms vars a (record { ok = x; failed = to.failed }) mid new y → IsPut ms vars (joined a b) to old new y
@@ -25,32 +21,6 @@ put-joined ms vars a b to old mid new x y p q = record {
       ∙ ap (λ ls. ls ++ tail_links ms vars old) (sym (joined-links a b new.front mid.front to.ok to.failed q.room));
   entered = q.entered ∙ ap (entry a new.front) p.entered ∙ sym (joined-entry a b new.front mid.front to.ok q.room);
 }
-
--- a task alone
-pub put-task : (ms : Registry) (vars : Parts) (t : Task) (to : Exits) (old new : Tail) → suc new.front ≡ old.front → tail_tasks ms vars new ≡ t ∷ tail_tasks ms vars old
-    → tail_links ms vars new ≡ ([] ++ (link_to new.front t goes to.ok ++ link_to new.front t fails to.failed)) ++ tail_links ms vars old → IsPut ms vars (task t end) to old new (Some new.front)
-put-task ms vars t to old new room tasks edges = record {
-  room = omega arith;
-  tasks = tasks;
-  edges = edges ∙ ap (λ ls. (link_to new.front t goes to.ok ++ ls) ++ tail_links ms vars old) (sym (append-nil (link_to new.front t fails to.failed)));
-  entered = refl;
-}
-
--- a handler before others
-pub put-handler : (ms : Registry) (vars : Parts) (n : ℕ) (t : Task) (hs : Handlers) (after : Option ℕ) (old mid new : Tail) (x : Option ℕ)
-    → IsPut ms vars (flush hs end) (record { ok = after; failed = None }) old mid x → suc new.front ≡ mid.front → tail_tasks ms vars new ≡ t ∷ tail_tasks ms vars mid
-    → tail_links ms vars new ≡ (link_to new.front t passes x ++ (link_to new.front t goes x ++ link_to new.front t fails None)) ++ tail_links ms vars mid
-    → IsPut ms vars (flush (handler n t hs) end) (record { ok = after; failed = None }) old new (Some new.front)
-put-handler ms vars n t hs after old mid new x p room tasks edges = record {
-  room = omega (arith, p.room);
-  tasks = tasks ∙ ap (λ ts. t ∷ ts) p.tasks;
-  edges = edges ∙ at x mid.front (p.entered) (sym room) (tail_links ms vars mid) p.edges;
-  entered = refl;
-} where
-  at : (x : Option ℕ) (m : ℕ) → x ≡ flush_entry hs m after → m ≡ suc new.front → (ls : List Link) → ls ≡ (flush_links hs m after ++ []) ++ tail_links ms vars old
-      → (link_to new.front t passes x ++ (link_to new.front t goes x ++ [])) ++ ls
-      ≡ ((link_to new.front t passes (flush_entry hs (suc new.front) after) ++ (link_to new.front t goes (flush_entry hs (suc new.front) after) ++ flush_links hs (suc new.front) after)) ++ []) ++ tail_links ms vars old
-  at x m e f ls g = rw (g, e, f) (simp (append_assoc, append-nil))
 
 -- the parts of a block, the last of them twice
 block-links : (d : ℕ) (body : Row) (saves : Bool) (rescued always : Row) (o r a f : ℕ) (after hurt well hurts saved : Option ℕ) (rest : List Link) → o + size body ≡ r → r + size rescued ≡ a → a + size always ≡ f
@@ -86,7 +56,7 @@ pub put-section : (ms : Registry) (vars : Parts) (body : Row) (hs : Handlers) (a
 put-section ms vars body hs after old one again two new x y at ef et el p q r = record {
   room = omega (arith, p.room, q.room, r.room, ef);
   tasks = r.tasks ∙ ap (λ ts. tasks_of body ++ ts) (q.tasks ∙ ap (λ ts. (flush_tasks hs ++ []) ++ ts) (et ∙ p.tasks)) ∙ (simp (append_assoc, append-nil));
-  edges = r.edges ∙ ap (λ ls. links body new.front y x ++ ls) (q.edges ∙ ap (λ ls. (flush_links hs two.front after ++ []) ++ ls) (el ∙ p.edges) ∙ (simp (append_assoc, append-nil)))
+  edges = r.edges ∙ ap (λ ls. links body new.front y x ++ ls) (q.edges ∙ ap (λ ls. (flush_links hs two.front after ++ []) ++ ls) (el ∙ p.edges) ∙ (simp append-nil))
       ∙ section-links body hs new.front two.front one.front after x y (tail_links ms vars old) r.room (omega (arith, q.room, ef)) p.entered q.entered;
   entered = r.entered ∙ ap (entry body new.front) (q.entered ∙ ap (λ k. flush_entry hs k after) (sym r.room));
 }

@@ -5,9 +5,9 @@ use Rattle.pb_language.specs.Expression.{Parts}
 use Rattle.pb_language.specs.Links.{Link, Way, goes, fails, passes, link_to, size}
 use Rattle.pb_language.specs.Task.{Task, Row}
 use Rattle.pb_lattice.specs.declared.graph.Edge.{Edge}
-use Rattle.pb_flow.specs.Ahead.{edge_to, flow_edges, node_edges, nodes_edges}
+use Rattle.pb_flow.specs.Ahead.{edge_to, flow_edges, nodes_edges}
 use Rattle.pb_flow.specs.Flow.{begins_at, row_links}
-use Rattle.pb_flow.specs.Nodes.{node_links, node_task, nodes_links}
+use Rattle.pb_flow.specs.Nodes.{node_task, nodes_links}
 use Rattle.pb_flow.specs.Solved.{begin_edges, row_graph}
 use Rattle.pb_flow.specs.declared.graph.Node.{Node}
 

@@ -9,11 +9,11 @@ abbrev pub node_at : List Node → ℕ → Option Node
 node_at ns zero = None
 node_at ns (suc k) = slice_get ns k
 
--- from the start a host goes to where it begins
 abbrev pub exits_from : Option Node → Exits
 exits_from None = record { ok = None; failed = None }
 exits_from (Some n) = record { ok = n.ok; failed = n.failed }
 
+-- where a host goes from that node: from the start to where it begins
 abbrev pub exits_at : Option ℕ → List Node → ℕ → Exits
 exits_at begin ns zero = record { ok = begin; failed = None }
 exits_at begin ns (suc k) = exits_from (node_at ns (suc k))

@@ -3,7 +3,7 @@ ghost use Rattle.std.specs.Prelude.{◌*◌, ◌+◌, ◌≡◌, cond, length, m
 ghost use Rattle.pb_semantics.specs.Limits.{most_play_steps};
 ghost use Rattle.pb_language.specs.Book.{no_steps};
 ghost use Rattle.pb_language.specs.Plays.{is_given, places_in};
-ghost use Rattle.pb_language.specs.Sites.{section_steps, steps_in, steps_of};
+ghost use Rattle.pb_language.specs.Sites.{gathering_steps, section_steps, steps_in, steps_of};
 ghost use Rattle.pb_play.specs.Plays.{play_view, step_view, steps_view};
 ghost use Rattle.pb_flow.specs.Places.{play_places, section_places};
 
@@ -32,11 +32,21 @@ pub(crate) fn count_of(play: &Play) -> Count
     ensures places { result.places ≡ min (suc most_play_steps) (play_places (play_view play.now)) }
 {
     let handlers = play.handlers.len() as u64;
-    let gathering = Count::of(u64::from(play.gathering.is_some()));
+    let gathering = gathering_count(play.gathering);
     let pre_tasks = section_count(&play.pre_tasks, handlers, play.force_handlers);
     let tasks = section_count(&play.tasks, handlers, play.force_handlers);
     let post_tasks = section_count(&play.post_tasks, handlers, play.force_handlers);
     gathering.and(pre_tasks.and(tasks.and(post_tasks)))
+}
+
+fn gathering_count(gathering: Option<u32>) -> Count
+    ensures steps { result.steps ≡ min (suc most_play_steps) (gathering_steps gathering) }
+    ensures places { result.places ≡ min (suc most_play_steps) (gathering_steps gathering) }
+{
+    match gathering {
+        Some(_) => Count::of(1),
+        None => Count::of(0),
+    }
 }
 
 // A section that isn't empty ends with a flush; one that is forced has two modes.

@@ -1,7 +1,6 @@
 // Plays as graphs: where a host goes from each task, and how many steps there are.
 use crate::plays::plays_of;
-use pb_flow::{Exits, Graph, MOST_STEPS, Way, steps_of};
-use pb_lattice::FlowGraph;
+use pb_flow::{Exits, Flow, Graph, MOST_STEPS, Way, steps_of};
 use pb_play::Play;
 use std::alloc::Global;
 use std::test::Fail;
@@ -55,7 +54,7 @@ fn stands_at(graph: &Graph, node: usize, line: u32, place: u32) -> bool {
 }
 
 fn is_the_end(graph: &Graph, node: usize) -> bool {
-    leads(graph, node, None, None) && graph.line_of(node).is_none() && node + 1 == graph.nodes()
+    leads(graph, node, None, None) && graph.line_of(node).is_none() && graph.nodes() - 1 == node
 }
 
 #[test]
@@ -101,30 +100,26 @@ fn ways_through_a_forced_flush(rt: HostRuntime) -> Result<(), Fail> {
     Ok(())
 }
 
+// Whether the edge of that number leads between those nodes, in that way.
+fn is_edge(flow: &Flow, index: usize, source: usize, target: usize, way: Way) -> bool {
+    match (flow.graph.edges().get(index), flow.ways.get(index)) {
+        (Some(edge), Some(it)) => edge.source == source && edge.target == target && *it == way,
+        _ => false,
+    }
+}
+
 #[test]
 fn edges_of_a_forced_flush(rt: HostRuntime) -> Result<(), Fail> {
     let plays = first_of(rt.alloc(), FORCED)?;
     for play in plays.iter() {
         let flow = graph_of(rt.alloc(), play)?.flow(rt.alloc())?;
-        let ends: Vec<(usize, usize)> = ends_of(rt.alloc(), &flow.graph)?;
-        assert!(rt; matches!(ends.as_slice(), [(0, 1), (1, 2), (1, 3), (2, 4), (2, 4)]));
-        assert!(rt;
-            matches!(
-                flow.ways.as_slice(),
-                [Way::Begins, Way::Goes, Way::Fails, Way::Passes, Way::Goes]
-            )
-        );
+        assert!(rt; is_edge(&flow, 0, 0, 1, Way::Begins));
+        assert!(rt; is_edge(&flow, 1, 1, 2, Way::Goes) && is_edge(&flow, 2, 1, 3, Way::Fails));
+        assert!(rt; is_edge(&flow, 3, 2, 4, Way::Passes) && is_edge(&flow, 4, 2, 4, Way::Goes));
+        assert!(rt; flow.ways.len() == 5);
     }
     assert!(rt; plays.len() == 1);
     Ok(())
-}
-
-fn ends_of(alloc: Global, graph: &FlowGraph) -> Result<Vec<(usize, usize)>, Fail> {
-    let mut ends = Vec::new(alloc);
-    for edge in graph.edges() {
-        ends.push((edge.source, edge.target))?;
-    }
-    Ok(ends)
 }
 
 #[test]

@@ -9,8 +9,8 @@ use Rattle.pb_flow.specs.Ahead.{all_lead_on, is_ahead, lead_on}
 use Rattle.pb_flow.specs.Flow.{AreRising, begins_at, end_node, row_links}
 use Rattle.pb_flow.specs.Nodes.{node_links, node_task, nodes_links}
 use Rattle.pb_flow.specs.declared.graph.Node.{Node}
-use Rattle.pb_flow.proofs.Rises.{links-rise}
-use Rattle.pb_flow.proofs.Solved.{IsInside, IsWithin, begin_inside, begin_within}
+use Rattle.pb_flow.proofs.Rises.{Within, links-rise}
+use Rattle.pb_flow.proofs.Solved.{begin_within}
 
 from-any : (lo last : ℕ) (ls : List Link) → AreRising lo last ls → AreRising 0 last ls
 from-any lo last [] r = tt
@@ -52,9 +52,9 @@ nodes-lead ms vars last lo o (n ∷ ns) r =
     (leads-ahead o 0 last t fails n.failed (others-rise 0 last (link_to o t goes n.ok) (link_to o t fails n.failed) e))
     (nodes-lead ms vars last 0 (suc o) ns (others-rise lo last (node_links ms vars o n) rest r))
 
-begin-leads : (last : ℕ) (o : Option ℕ) → IsInside o → IsWithin last o → is_ahead 0 last o ≡ true
-begin-leads last None h i = refl
-begin-leads last (Some n) h i = both-tests 0 n n last h i
+begin-leads : (last : ℕ) (o : Option ℕ) → Within 1 last o → is_ahead 0 last o ≡ true
+begin-leads last None h = refl
+begin-leads last (Some n) h = both-tests 0 n n last h.0 h.1
 
 both : (a b : Bool) → a ≡ true → b ≡ true → (a && b) ≡ true
 both a b h i = rw (h, i) refl
@@ -63,5 +63,5 @@ pub all-lead : (ms : Registry) (vars : Parts) (row : Row) (begin : Option ℕ) (
 all-lead ms vars row begin ns b l s =
     let last : suc (length ns) ≡ end_node row = ap suc s in
     both (is_ahead 0 (suc (length ns)) begin) (lead_on (suc (length ns)) 1 ns)
-    (rw (last, b) (begin-leads (end_node row) (begins_at row) (begin_inside row) (begin_within row)))
+    (rw (last, b) (begin-leads (end_node row) (begins_at row) (begin_within row)))
     (rw last (nodes-lead ms vars (end_node row) 1 1 ns (subst (AreRising 1 (end_node row)) (sym l) (links-rise row))))

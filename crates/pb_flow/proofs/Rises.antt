@@ -10,7 +10,7 @@ Rise lo hi last [] = lo ≤ hi
 Rise lo hi last (l ∷ ls) = (lo ≤ l.source) × (l.source < l.target) × (l.target ≤ last) × Rise l.source hi last ls
 
 -- a node within those bounds, where there is one
-abbrev Within : ℕ → ℕ → Option ℕ → Type 0
+abbrev pub Within : ℕ → ℕ → Option ℕ → Type 0
 Within lo last None = Unit {0}
 Within lo last (Some n) = (lo ≤ n) × (n ≤ last)
 
@@ -34,7 +34,7 @@ flush-within : (hs : Handlers) (o last : ℕ) (after : Option ℕ) → o + handl
 flush-within no_handlers o last after le w = within-more _ o last after (omega arith) w
 flush-within (handler n t hs) o last after le w = (omega arith, omega arith)
 
-row-within : (row : Row) (o last : ℕ) (after : Option ℕ) → o + size row ≤ last → Within (o + size row) last after → Within o last (entry row o after)
+pub row-within : (row : Row) (o last : ℕ) (after : Option ℕ) → o + size row ≤ last → Within (o + size row) last after → Within o last (entry row o after)
 row-within end o last after le w = within-more _ o last after (omega arith) w
 row-within (task t row) o last after le w = (omega arith, omega arith)
 row-within (flush hs row) o last after le w =

@@ -8,7 +8,7 @@ use Rattle.pb_lattice.specs.declared.graph.Edge.{Edge}
 use Rattle.pb_flow.specs.Ahead.{edge_to, flow_edges, nodes_edges}
 use Rattle.pb_flow.specs.Flow.{begins_at, row_links}
 use Rattle.pb_flow.specs.Nodes.{node_task, nodes_links}
-use Rattle.pb_flow.specs.Solved.{begin_edges, row_graph}
+use Rattle.pb_flow.specs.Solved.{row_graph}
 use Rattle.pb_flow.specs.declared.graph.Node.{Node}
 
 abbrev edge_of : Link → Edge
@@ -37,10 +37,6 @@ same-edges ms vars o (n ∷ ns) =
     ∙ ap (λ es. es ++ map edge_of (nodes_links ms vars (suc o) ns)) (map-both over (goes-on ++ fails-at) ∙ ap (λ es. map edge_of over ++ es) (map-both goes-on fails-at))
     ∙ rw (passing-edge n.is_handler o t n.ok, one-edge o t goes n.ok, one-edge o t fails n.failed, same-edges ms vars (suc o) ns) refl
 
-begin-edge : (o : Option ℕ) → edge_to 0 o ≡ begin_edges o
-begin-edge None = refl
-begin-edge (Some n) = refl
-
 pub same-graph : (ms : Registry) (vars : Parts) (row : Row) (begin : Option ℕ) (ns : List Node) → begin ≡ begins_at row → nodes_links ms vars 1 ns ≡ row_links row → length ns ≡ size row → flow_edges begin ns ≡ row_graph row
 same-graph ms vars row begin ns b l s =
-    rw (b, s, sym (same-edges ms vars 1 ns), l, begin-edge (begins_at row)) refl
+    rw (b, s, sym (same-edges ms vars 1 ns), l) refl

@@ -4,7 +4,7 @@ use Rattle.std.proofs.lemmas.Bool.Decides.{nat_tests}
 use Rattle.pb_language.specs.Task.{Handlers, no_handlers, handler, Row, end, task, flush, section, block}
 use Rattle.pb_language.specs.Setting.{Setting}
 use Rattle.pb_language.specs.Judgement.{Exit, dead}
-use Rattle.pb_language.specs.Links.{Into, Link, LinksHold, carried, led, entry, flush_entry, links, handler_places, size, flush_at, values_at}
+use Rattle.pb_language.specs.Links.{Into, Link, LinksHold, carried, led, entry, links, handler_places, size, flush_at, values_at}
 use Rattle.pb_language.specs.Nodes.{ValuesLe, values}
 use Rattle.pb_language.specs.Ordered.{ExitLe}
 use Rattle.pb_language.specs.Walk.{walk}
@@ -13,9 +13,10 @@ use Rattle.pb_language.proofs.NumbersWalk.{numbers_walk}
 use Rattle.pb_language.proofs.Walks.{exit_own, exit_through}
 use Rattle.pb_lattice.specs.Solution.{Covers}
 use Rattle.pb_lattice.specs.declared.graph.Edge.{Edge}
+use Rattle.pb_flow.specs.Ahead.{edge_to}
 use Rattle.pb_flow.specs.Flow.{AreRising, begins_at, end_node, row_links}
-use Rattle.pb_flow.specs.Solved.{begin_edges, begin_steps, row_graph, row_step}
-use Rattle.pb_flow.proofs.Rises.{links-rise}
+use Rattle.pb_flow.specs.Solved.{begin_steps, row_graph, row_step}
+use Rattle.pb_flow.proofs.Rises.{Within, links-rise, row-within}
 
 -- what is known at each node covers what is known at the start, and what goes along each edge
 record CoversRow (st : Setting) (row : Row) (e : Exit) (val : ℕ → Exit) : Type 0 where
@@ -30,33 +31,9 @@ record SolvesRow (st : Setting) (row : Row) (e : Exit) (val : ℕ → Exit) : Ty
   least : (w : ℕ → Exit) → ((n : ℕ) → WellExit (w n)) → CoversRow st row e w
       → (n : ℕ) → ExitLe (val n) (w n)
 
--- no node but the start has the number 0
-abbrev pub IsInside : Option ℕ → Type 0
-IsInside None = Unit {0}
-IsInside (Some n) = 1 ≤ n
-
-flush_inside : (hs : Handlers) (o : ℕ) (after : Option ℕ) → 1 ≤ o → IsInside after → IsInside (flush_entry hs o after)
-flush_inside no_handlers o after h i = i
-flush_inside (handler n t hs) o after h i = h
-
-entry_inside : (row : Row) (o : ℕ) (after : Option ℕ) → 1 ≤ o → IsInside after → IsInside (entry row o after)
-entry_inside end o after h i = i
-entry_inside (task t row) o after h i = h
-entry_inside (flush hs row) o after h i =
-    flush_inside hs o (entry row (o + handler_places hs) after) h (entry_inside row (o + handler_places hs) after (grind arith) i)
-entry_inside (section body hs row) o after h i =
-    let a = o + size body in
-    let n = a + handler_places hs + handler_places hs in
-    entry_inside body o (flush_entry hs a (entry row n after)) h (flush_inside hs a (entry row n after) (grind arith) (entry_inside row n after (grind arith) i))
-entry_inside (block d body saves rescued always row) o after h i =
-    let a = o + size body + size rescued in
-    let n = a + size always + size always in
-    entry_inside body o (entry always a (entry row n after)) h (entry_inside always a (entry row n after) (grind arith) (entry_inside row n after (grind arith) i))
-
-pub begin_inside : (row : Row) → IsInside (begins_at row)
-begin_inside row = entry_inside row 1 (Some (end_node row)) (grind arith) (at_end (size row)) where
-  at_end : (n : ℕ) → 1 ≤ suc n
-  at_end n = grind arith
+-- a play begins behind its start, at the end at the latest
+pub begin_within : (row : Row) → Within 1 (end_node row) (begins_at row)
+begin_within row = row-within row 1 (end_node row) (Some (end_node row)) (grind arith) (grind arith, grind arith)
 
 -- an assignment with another value at the start
 abbrev from_one : (ℕ → Exit) → Exit → ℕ → Exit
@@ -66,10 +43,10 @@ from_one val e (suc n) = val (suc n)
 none-below : 1 ≤ 0 → ⊥
 none-below h = grind arith
 
-into_other : (val : ℕ → Exit) (e f : Exit) (n : Option ℕ) → IsInside n → Into val n f → Into (from_one val e) n f
-into_other val e f None i x = tt
-into_other val e f (Some zero) i x = absurd (none-below i)
-into_other val e f (Some (suc n)) i x = x
+into_other : (last : ℕ) (val : ℕ → Exit) (e f : Exit) (n : Option ℕ) → Within 1 last n → Into val n f → Into (from_one val e) n f
+into_other last val e f None i x = tt
+into_other last val e f (Some zero) i x = absurd (none-below i.0)
+into_other last val e f (Some (suc n)) i x = x
 
 inside_same : (val : ℕ → Exit) (e : Exit) (n : ℕ) → 1 ≤ n → from_one val e n ≡ val n
 inside_same val e zero h = absurd (grind arith)
@@ -106,7 +83,7 @@ at_same val e (block d body saves rescued always row) o h =
 other_covers : (st : Setting) (row : Row) (e f : Exit) (w : ℕ → Exit) → WellExit e → Into w (begins_at row) e → LinksHold st w (row_links row) → CoversRow st row e (from_one w e)
 other_covers st row e f w u x y = record {
   start = exit_own e u;
-  begin = into_other w e e (begins_at row) (begin_inside row) x;
+  begin = into_other (end_node row) w e e (begins_at row) (begin_within row) x;
   edges = links_other st w e 1 (end_node row) (row_links row) (grind arith) (links-rise row) y;
 }
 
@@ -137,7 +114,7 @@ solved_walk st row e val a u s =
     let into = into_through val e (val 0) (begins_at row) u (s.wells 0) s.wells s.covers.start s.covers.begin in
     let inside = from_one val dead in
     let r = subst (WalkTo st row e inside) (one-more (size row)) (numbers_walk st row e inside 1 a u (other_well val dead tt s.wells))
-    (into_other val dead e (begins_at row) (begin_inside row) into)
+    (into_other (end_node row) val dead e (begins_at row) (begin_within row) into)
     (links_other st val dead 1 (end_node row) (row_links row) (grind arith) (links-rise row) s.covers.edges)
     (λ w v x y. below_other val w e (s.least (from_one w e) (other_well w e u v) (other_covers st row e e w u x y))) in
     let same = at_same val dead row 1 (grind arith) in
@@ -165,12 +142,12 @@ to_index st val (l ∷ ls) x zero h = x.0
 to_index st val (l ∷ ls) x (suc i) h = to_index st val ls x.1 i (grind arith)
 
 -- with the edge from the start
-from_begin : (st : Setting) (val : ℕ → Exit) (o : Option ℕ) (ls : List Link) → ((i : ℕ) → i < length (begin_edges o ++ edges_of ls) → HoldsAt (begin_edges o ++ edges_of ls) (begin_steps o ++ steps_of st ls) val i)
+from_begin : (st : Setting) (val : ℕ → Exit) (o : Option ℕ) (ls : List Link) → ((i : ℕ) → i < length (edge_to 0 o ++ edges_of ls) → HoldsAt (edge_to 0 o ++ edges_of ls) (begin_steps o ++ steps_of st ls) val i)
     → Into val o (val 0) × LinksHold st val ls
 from_begin st val None ls f = (tt, from_index st val ls f)
 from_begin st val (Some n) ls f = (f 0 (grind arith), from_index st val ls (λ i h. f (suc i) (grind arith)))
 
-to_begin : (st : Setting) (val : ℕ → Exit) (o : Option ℕ) (ls : List Link) → Into val o (val 0) → LinksHold st val ls → (i : ℕ) → i < length (begin_edges o ++ edges_of ls) → HoldsAt (begin_edges o ++ edges_of ls) (begin_steps o ++ steps_of st ls) val i
+to_begin : (st : Setting) (val : ℕ → Exit) (o : Option ℕ) (ls : List Link) → Into val o (val 0) → LinksHold st val ls → (i : ℕ) → i < length (edge_to 0 o ++ edges_of ls) → HoldsAt (edge_to 0 o ++ edges_of ls) (begin_steps o ++ steps_of st ls) val i
 to_begin st val None ls x y i h = to_index st val ls y i h
 to_begin st val (Some n) ls x y zero h = x
 to_begin st val (Some n) ls x y (suc i) h = to_index st val ls y i (grind arith)
@@ -197,37 +174,9 @@ within_le last val w l n = go (nat_le n last) refl where
   go true e = l n (grind (arith, nat_tests))
   go false e = tt
 
--- the play begins at a node up to its end
-abbrev pub IsWithin : ℕ → Option ℕ → Type 0
-IsWithin last None = Unit {0}
-IsWithin last (Some n) = n ≤ last
-
-flush_within : (last : ℕ) (hs : Handlers) (o : ℕ) (after : Option ℕ) → o + handler_places hs ≤ last → IsWithin last after → IsWithin last (flush_entry hs o after)
-flush_within last no_handlers o after h i = i
-flush_within last (handler n t hs) o after h i = grind arith
-
-entry_within : (last : ℕ) (row : Row) (o : ℕ) (after : Option ℕ) → o + size row ≤ last → IsWithin last after → IsWithin last (entry row o after)
-entry_within last end o after h i = i
-entry_within last (task t row) o after h i = grind arith
-entry_within last (flush hs row) o after h i =
-    flush_within last hs o (entry row (o + handler_places hs) after) (grind arith) (entry_within last row (o + handler_places hs) after (grind arith) i)
-entry_within last (section body hs row) o after h i =
-    let a = o + size body in
-    let n = a + handler_places hs + handler_places hs in
-    entry_within last body o (flush_entry hs a (entry row n after)) (grind arith) (flush_within last hs a (entry row n after) (grind arith) (entry_within last row n after (grind arith) i))
-entry_within last (block d body saves rescued always row) o after h i =
-    let a = o + size body + size rescued in
-    let n = a + size always + size always in
-    entry_within last body o (entry always a (entry row n after)) (grind arith) (entry_within last always a (entry row n after) (grind arith) (entry_within last row n after (grind arith) i))
-
-pub begin_within : (row : Row) → IsWithin (end_node row) (begins_at row)
-begin_within row = entry_within (end_node row) row 1 (Some (end_node row)) (one-more (size row)) (grind arith) where
-  one-more : (n : ℕ) → 1 + n ≤ suc n
-  one-more n = grind arith
-
-into_within : (last : ℕ) (val : ℕ → Exit) (e : Exit) (o : Option ℕ) → IsWithin last o → Into val o e → Into (within last val) o e
+into_within : (last : ℕ) (val : ℕ → Exit) (e : Exit) (o : Option ℕ) → Within 1 last o → Into val o e → Into (within last val) o e
 into_within last val e None i x = tt
-into_within last val e (Some n) i x = subst (ExitLe e) (sym (inside last n (val n) i)) x
+into_within last val e (Some n) i x = subst (ExitLe e) (sym (inside last n (val n) i.1)) x
 
 link_within : (last : ℕ) (st : Setting) (val : ℕ → Exit) (l : Link) → l.source ≤ last → l.target ≤ last → ExitLe (carried st val l) (val l.target) → ExitLe (carried st (within last val) l) (within last val l.target)
 link_within last st val l h i x = rw (inside last l.source (val l.source) h, inside last l.target (val l.target) i) x

@@ -3,7 +3,6 @@ use Rattle.std.specs.Prelude.{◌≡◌, ◌≤◌, ℕ, suc, length, List, [], 
 use Rattle.std.specs.Prelude.{map, slice_index_or}
 use Rattle.pb_lattice.specs.Graph.{Graph}
 use Rattle.pb_lattice.specs.Solution.{Covers}
-use Rattle.pb_lattice.specs.declared.graph.Edge.{Edge}
 use Rattle.pb_language.specs.Book.{Registry}
 use Rattle.pb_language.specs.Expression.{Parts}
 use Rattle.pb_language.specs.Judgement.{Exit}
@@ -14,20 +13,16 @@ use Rattle.pb_language.specs.Setting.{Setting}
 use Rattle.pb_language.specs.Task.{Row}
 use Rattle.pb_language.specs.Walk.{walk}
 use Rattle.pb_language.specs.Wells.{WellExit, WellViews}
-use Rattle.pb_flow.specs.Ahead.{flow_edges}
+use Rattle.pb_flow.specs.Ahead.{edge_to, flow_edges}
 use Rattle.pb_flow.specs.Flow.{begins_at, end_node, row_links}
 use Rattle.pb_flow.specs.Nodes.{nodes_links}
 use Rattle.pb_flow.specs.declared.graph.Node.{Node}
 
 -- the edges of a play, the first from its start, and what becomes of an environment along each
-abbrev pub begin_edges : Option ℕ → List Edge
-begin_edges None = []
-begin_edges (Some n) = record { source = 0; target = n } ∷ []
-
 abbrev pub row_graph : Row → Graph
 row_graph row = record {
   count = suc (end_node row);
-  edges = begin_edges (begins_at row)
+  edges = edge_to 0 (begins_at row)
       ++ map (λ l. record { source = l.source; target = l.target }) (row_links row);
 }
 

@@ -90,13 +90,11 @@ impl Environments {
         }
     }
 
-    /// Whether the table, in which such an environment stands, is over the name.
-    pub fn has_name(&self, at: Environment, name: &str) -> bool
-        requires stands { Stands self.now at }
-        requires led_to { is_dead (exit_of self.now at) ≡ false }
+    /// Whether the table is over the name.
+    pub fn has_name(&self, name: &str) -> bool
         ensures { result ≡ is_among name.now self.now.names }
     {
-        at.root.is_some() && tree::has(&self.names, name)
+        tree::has(&self.names, name)
     }
 
     /// What is known of a name.

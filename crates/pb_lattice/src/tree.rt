@@ -317,11 +317,8 @@ pub(crate) fn has(names: &[String], name: &str) -> bool
     requires ascending { IsAscending (names_of names.now) }
     ensures { result ≡ is_among name.now (names_of names.now) }
 {
-    if names.is_empty() {
-        return false;
-    }
-    if names.len() == 1 {
-        return name == names[0].as_str();
+    if names.len() <= 1 {
+        return names.len() == 1 && name == names[0].as_str();
     }
     let half = names.len() / 2;
     if name < names[half].as_str() {

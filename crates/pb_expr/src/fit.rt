@@ -58,7 +58,7 @@ impl<T: Drop> From<AllocFailed<T>> for KindFault {
 ///
 /// Want of memory, also where a chain of names of `vars` has more than 8 of them, and past 65,536
 /// trees of such names that are asked and ways that are taken.
-pub fn inferred<K: Known>(
+pub fn infer_kind<K: Known>(
     alloc: Global,
     expr: &Expr,
     known: &K,
@@ -97,7 +97,7 @@ pub fn kind_of<K: Known>(
         IfOk result (λ k. kind_view k
         ≡ kind_found (scope_view b taught.now) (expanded b.trees (expr_view expr.now))) }
 {
-    let found = inferred(alloc, expr, known, taught)?;
+    let found = infer_kind(alloc, expr, known, taught)?;
     match found.unfit {
         Some(unfit) => Err(KindFault::Unfit(unfit)),
         None => Ok(found.kind),

@@ -7,7 +7,7 @@
 //         Err(KindFault::Unfit(unfit)) => { .. } // the first fault
 //         Err(KindFault::NoMemory) => { .. }
 //     }
-//     let Inferred { kind, unfit } = inferred(alloc, &condition, &slots, &taught)?; // fit or not
+//     let Inferred { kind, unfit } = infer_kind(alloc, &condition, &slots, &taught)?; // fit or not
 //     let taught = narrow(alloc, &condition, true, &slots, taught)?; // where it is true
 #![tactic(auto)]
 
@@ -30,7 +30,7 @@ pub mod teach;
 pub mod unfit;
 mod views;
 
-pub use fit::{KindFault, inferred, kind_of};
+pub use fit::{KindFault, infer_kind, kind_of};
 pub use inferred::Inferred;
 pub use known::Known;
 pub use literal::literal_kind;

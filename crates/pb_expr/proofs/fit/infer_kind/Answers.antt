@@ -1,5 +1,5 @@
 use Rattle.pb_expr.specs.TaughtView.{scope_view}
-use Rattle.pb_expr.proofs.fit.inferred.Goals as goal
+use Rattle.pb_expr.proofs.fit.infer_kind.Goals as goal
 
 pub infer-requires : goal.infer-requires
 infer-requires g c =

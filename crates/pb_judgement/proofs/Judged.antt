@@ -23,7 +23,7 @@ skipped_as w m t does judged =
     ap (λ q. cond q (one (action_name t.action) skipped_shape false (recs skipped_slots) no_cases) no_cases) judged.skipped
     ∙ ap (λ n. cond m.may_skip (one n skipped_shape false (recs skipped_slots) no_cases) no_cases) does.named
 
-judged_as : (w : Work) (m : Manner) (t : Task) → Does w t → IsJudgedIn m t → judged_cases t.action t.failed_when ≡ judged_in m (answered_cases (doing w))
+pub judged_as : (w : Work) (m : Manner) (t : Task) → Does w t → IsJudgedIn m t → judged_cases t.action t.failed_when ≡ judged_in m (answered_cases (doing w))
 judged_as w m t does judged =
     judged_by t.action t.failed_when ∙ ap (λ q. cond q (either_status (answered_cases t.action)) (answered_cases t.action)) judged.failed
     ∙ ap (judged_in m) does.answers

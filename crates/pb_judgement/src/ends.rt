@@ -77,7 +77,7 @@ fn results_in(alloc: Global, work: &Work, manner: Manner) -> Result<Vec<Case<Kin
 }
 
 // `failed_when` may give each case either status.
-fn judged_in(
+pub(crate) fn judged_in(
     alloc: Global,
     manner: Manner,
     cases: Vec<Case<Kind>>,
@@ -148,7 +148,8 @@ fn case_kind(alloc: Global, cases: Vec<Case<Kind>>) -> Result<Option<Kind>, Allo
     }
 }
 
-fn result_of(alloc: Global, cases: Vec<Case<Kind>>) -> Result<Kind, AllocError>
+// What a result of one of the cases is.
+pub(crate) fn result_of(alloc: Global, cases: Vec<Case<Kind>>) -> Result<Kind, AllocError>
     ensures { IfOk result (λ k. kind_view k ≡ results_of (cases_view cases.items)) }
 {
     let known = least_record(alloc, &cases)?;

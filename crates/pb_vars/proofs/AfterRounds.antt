@@ -1,15 +1,15 @@
 -- What names of `vars` answer after some rounds.
 use denote.Ref.{Bor}
-use Rattle.std.proofs.Common.{◌≡◌, ℕ, zero, suc, ◌+◌, ◌<◌, max, List, [], ◌∷◌, ◌++◌, length, get_or, take, add-one, Bool, true, false, not, ◌&&◌, cond, nat_le, Option, Some, None, option_map, unwrap_or, is_some, bytes_eq, refl, sym, ap, ◌∙◌, arith}
+use Rattle.std.proofs.Common.{◌≡◌, ℕ, zero, suc, ◌+◌, ◌<◌, max, List, [], ◌∷◌, ◌++◌, length, get_or, take, add-one, Bool, true, false, ◌&&◌, cond, nat_le, Option, Some, None, option_map, unwrap_or, bytes_eq, refl, sym, ap, ◌∙◌, arith}
 use Rattle.std.proofs.Math.Path.{fun_ext}
 use Rattle.std.proofs.Math.Seq.{take-suc}
 use Rattle.pb_syntax.specs.ExprView.{expr_view}
 use Rattle.pb_template.specs.declared.entry.Entry.{Entry}
 use Rattle.pb_vars.specs.Borrowed.{borrowed_view}
 use Rattle.pb_language.specs.Expression.{Name, Expression, literal, path, hostvars_alone, negation, conjunction, disjunction, comparison, membership, in_batch, defined, undefinable, path_status, value_status, path_or, value_or, length_of, joined_by, concatenation, list_of, record_of, Root, variable, alias, other, member, Expressions, no_expressions, expression, Parts, no_parts, part}
-use Rattle.pb_language.specs.Expansion.{expanded, expanded_root, all_expanded, parts_expanded, root_named, part_named, tree_of, depth_in, root_depth, depth_in_all, depth_in_parts, suc_depth, chain_length}
-use Rattle.pb_vars.specs.Reads.{Read, value_at, tested_at, alone, looked_for, every_read, value_read, root_tested, all_every_read, parts_every_read}
-use Rattle.pb_vars.specs.Rounds.{answer_named, through, value_answers, round, after_rounds, by_name, is_outside}
+use Rattle.pb_language.specs.Expansion.{expanded, expanded_root, all_expanded, parts_expanded, root_named, part_named, tree_of, depth_in, root_depth, depth_in_all, depth_in_parts}
+use Rattle.pb_vars.specs.Reads.{Read, value_at, tested_at, every_read, value_read, root_tested, all_every_read, parts_every_read}
+use Rattle.pb_vars.specs.Rounds.{answer_named, through, value_answers, round, after_rounds, by_name}
 use Rattle.pb_vars.proofs.KnownReads.{both-same}
 
 -- the trees of names answer as the names do, where these answer as their trees
@@ -176,9 +176,10 @@ pub one-more-answer : (f : Read → Bool) (es : List (Bor Entry)) (x : Bor Entry
 one-more-answer f [] x = refl
 one-more-answer f (e ∷ es) x = ap (λ bs. every_read f (expr_view e.now.value) ∷ bs) (one-more-answer f es x)
 
-pub next-answer : (f : Read → Bool) (es : List (Bor Entry)) (i : ℕ) (x : Bor Entry) → i < length es → x ≡ get_or es i x
-    → value_answers f (borrowed_view (take (i + 1) es)) ≡ value_answers f (borrowed_view (take i es)) ++ every_read f (expr_view x.now.value) ∷ []
-next-answer f es i x l is =
-    ap (λ k. value_answers f (borrowed_view (take k es))) (add-one i)
+pub next-answer : (f : Read → Bool) (es : List (Bor Entry)) (i : ℕ) (x : Bor Entry) (old new : List Bool) (b : Bool) → i < length es → x ≡ get_or es i x
+    → old ≡ value_answers f (borrowed_view (take i es)) → b ≡ every_read f (expr_view x.now.value) → new ≡ old ++ b ∷ [] → new ≡ value_answers f (borrowed_view (take (i + 1) es))
+next-answer f es i x old new b l is told asked grown =
+    grown ∙ ap (λ bs. bs ++ b ∷ []) told ∙ ap (λ a. value_answers f (borrowed_view (take i es)) ++ a ∷ []) asked
+    ∙ sym (ap (λ k. value_answers f (borrowed_view (take k es))) (add-one i)
     ∙ ap (λ xs. value_answers f (borrowed_view xs)) (take-suc es i x l ∙ ap (λ y. take i es ++ y ∷ []) (sym is))
-    ∙ one-more-answer f (take i es) x
+    ∙ one-more-answer f (take i es) x)

@@ -1,10 +1,9 @@
 -- What the rounds say of chains of names, and of names that stand once.
-use Rattle.std.proofs.Common.{◌≡◌, ℕ, zero, suc, ◌+◌, List, [], ◌∷◌, Bool, true, false, not, ◌&&◌, ◌||◌, cond, nat_le, nat_lt, Option, Some, None, option_map, unwrap_or, is_some, bytes_eq, refl, sym, ap, ◌∙◌, arith}
+use Rattle.std.proofs.Common.{◌≡◌, ℕ, zero, suc, ◌+◌, List, [], Bool, true, not, ◌||◌, nat_le, nat_lt, Option, Some, None, option_map, unwrap_or, is_some, refl, sym, ap, ◌∙◌, arith}
 use Rattle.std.specs.Bool.{⊤}
 use Rattle.std.specs.List.{list_any}
 use Rattle.std.proofs.Math.Path.{fun_ext}
-use Rattle.pb_semantics.proofs.Bools.{untrue, and-left, and-right}
-use Rattle.pb_language.specs.Expression.{Name, Expression, Root, variable, alias, other, member, Parts, no_parts, part}
+use Rattle.pb_language.specs.Expression.{Name, Expression, variable, alias, other, member, Parts, no_parts, part}
 use Rattle.pb_language.specs.Expansion.{part_named, depth_in, suc_depth, chain_length}
 use Rattle.pb_language.specs.Rules.{any_too_long}
 use Rattle.pb_vars.specs.Reads.{Read, value_at, tested_at, alone, looked_for, every_read}

@@ -1,15 +1,14 @@
 -- Names in the order of their bytes: each is found where it stands.
 use denote.Ref.{Bor}
-use Rattle.std.proofs.Common.{◌≡◌, ℕ, zero, suc, ◌<◌, ◌≤◌, max, string_bytes, List, [], ◌∷◌, length, get_or, slice_get, Bool, true, false, ◌&&◌, cond, bytes_eq, Option, Some, None, nat_cmp, refl, sym, ap, ◌∙◌, arith}
-use Rattle.std.specs.Bool.{⊤}
+use Rattle.std.proofs.Common.{◌≡◌, ℕ, zero, suc, ◌<◌, ◌≤◌, string_bytes, List, [], ◌∷◌, length, get_or, slice_get, Bool, true, false, cond, bytes_eq, Option, Some, None, nat_cmp, refl, sym, ap, ◌∙◌, arith}
 use Rattle.std.specs.Cmp.Lexicographic.{slice_cmp}
-use Rattle.std.specs.Ordering.{is_eq, is_lt, ordering_index, ordering_reverse}
+use Rattle.std.specs.Ordering.{is_eq, is_lt, ordering_reverse}
 use Rattle.std.specs.declared.cmp.Ordering.{Ordering}
 use Rattle.std.specs.declared.cmp.Ordering.TheVariants.{Less, Equal, Greater}
 use Rattle.std.proofs.lemmas.Cmp.{nat_list_cmp_total}
 use Rattle.std.proofs.lemmas.Map.Text.{is_eq-slice_cmp}
 use Rattle.pb_semantics.proofs.Bools.{untrue, and-left, and-right, and-both}
-use Rattle.pb_semantics.proofs.Names.{same_name, own_name}
+use Rattle.pb_semantics.proofs.Names.{own_name}
 use Rattle.pb_language.specs.Expression.{Name, Expression, Parts, no_parts, part}
 use Rattle.pb_language.specs.Expansion.{part_named}
 use Rattle.pb_language.specs.Rules.{part_names}

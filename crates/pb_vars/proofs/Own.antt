@@ -1,5 +1,5 @@
 -- What reads others' values, place by place.
-use Rattle.std.proofs.Common.{◌≡◌, List, Bool, true, false, not, ◌&&◌, ◌||◌, Option, refl, sym, ap, ◌∙◌}
+use Rattle.std.proofs.Common.{◌≡◌, List, Bool, true, false, not, ◌&&◌, ◌||◌, Option, refl, ap, ◌∙◌}
 use Rattle.pb_language.specs.Expression.{Name, Expression, literal, path, hostvars_alone, negation, conjunction, disjunction, comparison, membership, in_batch, defined, undefinable, path_status, value_status, path_or, value_or, length_of, joined_by, concatenation, list_of, record_of, Root, variable, alias, other, member, Expressions, no_expressions, expression, Parts, no_parts, part}
 use Rattle.pb_language.specs.Expansion.{expanded}
 use Rattle.pb_language.specs.Rules.{reads_others, root_reads_others, any_reads_others, part_reads_others, expanded_reads}

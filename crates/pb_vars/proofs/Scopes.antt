@@ -1,8 +1,8 @@
 -- Names in scope: whether a chain is too long, and values that come to the same.
-use Rattle.std.proofs.Common.{◌≡◌, ℕ, zero, suc, ◌≤◌, Bool, true, false, ◌||◌, cond, nat_lt, Option, Some, None, option_map, is_some, bytes_eq, refl, sym, ap, ◌∙◌, arith}
+use Rattle.std.proofs.Common.{◌≡◌, ℕ, zero, suc, ◌≤◌, Bool, true, false, cond, nat_lt, Option, Some, None, option_map, is_some, bytes_eq, refl, sym, ap, ◌∙◌, arith}
 use Rattle.std.proofs.Math.Path.{fun_ext}
 use Rattle.pb_semantics.proofs.Bools.{untrue, neither-left, neither-right, neither-both}
-use Rattle.pb_semantics.proofs.Names.{same_name, own_name}
+use Rattle.pb_semantics.proofs.Names.{same_name}
 use Rattle.pb_language.specs.Expression.{Name, Expression, Parts, no_parts, part}
 use Rattle.pb_language.specs.Expansion.{expanded, part_named, tree_of, trees, depth_in, suc_depth, chain_length}
 use Rattle.pb_language.specs.Rules.{any_too_long}

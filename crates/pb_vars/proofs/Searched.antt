@@ -1,8 +1,8 @@
 -- What a binary search among names in their order says.
 use denote.Ref.{Bor}
-use Rattle.std.proofs.Common.{◌≡◌, inl, inr, ℕ, zero, suc, ◌<◌, ◌≤◌, List, [], ◌∷◌, length, get_or, slice_get, Bool, true, false, bytes_eq, Option, Some, None, Result, Ok, Err, IfSome, nat_cmp, refl, sym, ap, ◌∙◌, arith}
+use Rattle.std.proofs.Common.{◌≡◌, inl, inr, ℕ, ◌≤◌, List, [], ◌∷◌, length, get_or, slice_get, Bool, false, bytes_eq, Option, Some, None, Result, Ok, Err, IfSome, nat_cmp, refl, sym, ap, ◌∙◌, arith}
 use Rattle.std.specs.Cmp.Lexicographic.{slice_cmp}
-use Rattle.std.specs.List.Sorted.{IsBinarySearchResult, IsNonDecreasingBy, IsSearchInRange}
+use Rattle.std.specs.List.Sorted.{IsBinarySearchResult, IsNonDecreasingBy}
 use Rattle.std.specs.Ordering.{is_eq, ordering_index, ordering_reverse}
 use Rattle.std.specs.Result.{result_ok}
 use Rattle.std.specs.declared.cmp.Ordering.{Ordering}
@@ -13,14 +13,13 @@ use Rattle.std.proofs.lemmas.Option.{slice_get_past, slice_get_read}
 use Rattle.std.proofs.lemmas.Bool.{cases_lt, ltb-false, ltb-true}
 use Rattle.std.proofs.lemmas.Cmp.{nat_list_cmp_total}
 use Rattle.std.proofs.lemmas.Map.Text.{is_eq-slice_cmp}
-use Rattle.pb_semantics.proofs.Bools.{untrue}
-use Rattle.pb_semantics.proofs.Names.{same_name, own_name}
+use Rattle.pb_semantics.proofs.Names.{same_name}
 use Rattle.pb_language.specs.Expression.{Name}
 use Rattle.pb_language.specs.Expansion.{part_named}
 use Rattle.pb_template.specs.declared.entry.Entry.{Entry}
 use Rattle.pb_vars.specs.Borrowed.{borrowed_view, entry_name}
 use Rattle.pb_vars.specs.Merging.{IsOrdered}
-use Rattle.pb_vars.proofs.Ordered.{less-differs, less-turned, rising, not-there}
+use Rattle.pb_vars.proofs.Ordered.{less-turned, rising, not-there}
 
 pub equal-names : (n m : Name) → slice_cmp nat_cmp n m ≡ Equal → n ≡ m
 equal-names n m h = same_name n m (sym (is_eq-slice_cmp n m) ∙ ap is_eq h)

@@ -1,5 +1,5 @@
 -- Where an expression reads something, and what is asked of each such place.
-use Rattle.std.specs.Prelude.{List, [], ◌∷◌, Bool, true, false, not, ◌&&◌, Option, is_some, codes}
+use Rattle.std.specs.Prelude.{List, Bool, true, false, not, ◌&&◌, Option, is_some, codes}
 use Rattle.std.specs.Str.{bytes_eq}
 use Rattle.pb_language.specs.Expression.{Name, Term, Expression, literal, path, hostvars_alone}
 use Rattle.pb_language.specs.Expression.{negation, conjunction, disjunction, comparison, membership}

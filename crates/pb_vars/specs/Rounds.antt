@@ -3,9 +3,9 @@
 use Rattle.std.specs.Prelude.{ℕ, zero, suc, List, [], ◌∷◌, Bool, true, not, cond, Option, Some, None}
 use Rattle.std.specs.Prelude.{is_some, unwrap_or}
 use Rattle.std.specs.Str.{bytes_eq}
-use Rattle.pb_language.specs.Expression.{Name, Root, variable, Parts, no_parts, part}
+use Rattle.pb_language.specs.Expression.{Name, variable, Parts, no_parts, part}
 use Rattle.pb_language.specs.Expansion.{part_named}
-use Rattle.pb_vars.specs.Reads.{Read, value_at, tested_at, alone, looked_for, every_read}
+use Rattle.pb_vars.specs.Reads.{Read, value_at, tested_at, every_read}
 
 -- the answer that stands beside a name
 abbrev pub answer_named : Name → Parts → List Bool → Option Bool

@@ -1,4 +1,4 @@
-use Rattle.std.proofs.Common.{◌≡◌, ◌∙◌, ap, sym}
+use Rattle.std.proofs.Common.{◌∙◌, ap, sym}
 use Rattle.std.proofs.Math.Path.{fun_ext}
 use Rattle.pb_language.specs.Expansion.{trees}
 use Rattle.pb_syntax.specs.ExprView.{expr_view}

@@ -1,4 +1,4 @@
-use Rattle.std.proofs.Common.{◌≡◌, take, map}
+use Rattle.std.proofs.Common.{◌≡◌, take}
 use Rattle.pb_vars.specs.Borrowed.{borrowed_view}
 use Rattle.pb_vars.specs.InScope.{in_scope}
 use Rattle.pb_vars.specs.Rounds.{answer_named, through, value_answers}

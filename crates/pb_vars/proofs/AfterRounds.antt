@@ -183,3 +183,10 @@ next-answer f es i x old new b l is told asked grown =
     ∙ sym (ap (λ k. value_answers f (borrowed_view (take k es))) (add-one i)
     ∙ ap (λ xs. value_answers f (borrowed_view xs)) (take-suc es i x l ∙ ap (λ y. take i es ++ y ∷ []) (sym is))
     ∙ one-more-answer f (take i es) x)
+
+-- a round that changes nothing, and one that may
+pub ended : (f : Read → Bool) (ps : Parts) (k : ℕ) (bs seen next all : List Bool) → seen ≡ bs → next ≡ round f ps seen → next ≡ bs → after_rounds k f ps bs ≡ all → bs ≡ all
+ended f ps k bs seen next all s made same h = sym (same-again f ps k bs (ap (round f ps) (sym s) ∙ sym made ∙ same)) ∙ h
+
+pub continued : (f : Read → Bool) (ps : Parts) (m k : ℕ) (bs seen next all : List Bool) → m ≡ suc k → seen ≡ bs → next ≡ round f ps seen → after_rounds m f ps bs ≡ all → after_rounds k f ps next ≡ all
+continued f ps m k bs seen next all one s made h = ap (after_rounds k f ps) (made ∙ ap (round f ps) s) ∙ ap (λ j. after_rounds j f ps bs) (sym one) ∙ h

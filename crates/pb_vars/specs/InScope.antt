@@ -5,6 +5,7 @@ use Rattle.pb_language.specs.Expansion.{trees}
 use Rattle.pb_vars.specs.Borrowed.{borrowed_view, greatest_of}
 use Rattle.pb_vars.specs.Reads.{Read, every_read}
 use Rattle.pb_vars.specs.Rounds.{answer_named}
+pub use Rattle.pb_vars.specs.Same.{HaveSame}
 use Rattle.pb_vars.specs.declared.in_scope.InScope.{InScope}
 use Rattle.pb_vars.specs.declared.in_scope.Answers.{Answers}
 

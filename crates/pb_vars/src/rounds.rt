@@ -1,5 +1,5 @@
 // What the names in scope answer to questions, each value asked once a round.
-ghost use Rattle.std.specs.Prelude.{[], ◌≡◌, IfOk, false};
+ghost use Rattle.std.specs.Prelude.{[], ◌≡◌, IfOk};
 ghost use Rattle.pb_language.specs.Expansion.{expanded, trees};
 ghost use Rattle.pb_language.specs.Rules.{any_too_long};
 ghost use Rattle.pb_syntax.specs.Words.{expr_view};
@@ -16,7 +16,7 @@ use std::alloc::{AllocError, Global};
 // More names than these make a chain too long.
 const LONGEST_CHAIN: usize = 8;
 
-// Through so many names a value is read, and a chain that isn't too long stands whole in it.
+// A tree is read through so many names at most.
 const MOST_ROUNDS: usize = 17;
 
 impl<'p> InScope<'p> {
@@ -32,17 +32,13 @@ impl<'p> InScope<'p> {
         Ok(short.contains(&false))
     }
 
-    /// What every name in scope answers to the question.
+    /// What every name in scope answers to the question. It takes as many rounds as the longest
+    /// chain has names and one more, in which nothing changes, and at most 17.
     ///
     /// # Errors
     ///
     /// Want of memory.
-    pub fn answers<Q: Question>(
-        &self,
-        alloc: Global,
-        question: &Q,
-    ) -> Result<Answers, AllocError>
-        requires short { any_too_long (in_scope self.now) (in_scope self.now) ≡ false }
+    pub fn answers<Q: Question>(&self, alloc: Global, question: &Q) -> Result<Answers, AllocError>
         ensures { IfOk result (λ a. AreAnswers (in_scope self.now) (Q.holds question.now) a) }
     {
         let all = self.after_rounds(alloc, question, MOST_ROUNDS)?;

@@ -14,3 +14,5 @@ mod inventories;
 mod plays;
 #[cfg(test)]
 mod tasks;
+#[cfg(test)]
+mod vars;

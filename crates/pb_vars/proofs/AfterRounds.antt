@@ -190,3 +190,6 @@ ended f ps k bs seen next all s made same h = sym (same-again f ps k bs (ap (rou
 
 pub continued : (f : Read → Bool) (ps : Parts) (m k : ℕ) (bs seen next all : List Bool) → m ≡ suc k → seen ≡ bs → next ≡ round f ps seen → after_rounds m f ps bs ≡ all → after_rounds k f ps next ≡ all
 continued f ps m k bs seen next all one s made h = ap (after_rounds k f ps) (made ∙ ap (round f ps) s) ∙ ap (λ j. after_rounds j f ps bs) (sym one) ∙ h
+
+pub finished : (f : Read → Bool) (ps : Parts) (k : ℕ) (bs all : List Bool) → k ≡ 0 → after_rounds k f ps bs ≡ all → bs ≡ all
+finished f ps k bs all none h = ap (λ j. after_rounds j f ps bs) (sym none) ∙ h

@@ -1,6 +1,7 @@
 // The values of `vars` in scope at a task: their chains, and what expressions read through them.
 //
-//     let at_play = InScope::nothing(alloc).with(alloc, &play.vars)?;
+//     let nothing = InScope::nothing(alloc);
+//     let at_play = nothing.with(alloc, &play.vars)?;
 //     let at_task = at_play.with(alloc, &task.vars)?; // hides the play's of the same names
 //     if !at_task.has_long_chain(alloc)? {
 //         let answers = at_task.answers(alloc, &IsOwn)?; // each name asked once a round

@@ -1,9 +1,9 @@
-use Rattle.std.proofs.Common.{◌≡◌, ◌-◌, ◌+◌, [], ap, sym, ◌∙◌, arith}
+use Rattle.std.proofs.Common.{◌≡◌, ◌-◌, ◌+◌, [], ap, ◌∙◌, arith}
 use Rattle.std.proofs.lemmas.Slice.Eq.{slice_eq-Decides}
 use Rattle.std.specs.Cmp.{booleans_Decides}
 use Rattle.pb_vars.specs.InScope.{in_scope}
 use Rattle.pb_vars.specs.Rounds.{after_rounds}
-use Rattle.pb_vars.proofs.AfterRounds.{continued, ended}
+use Rattle.pb_vars.proofs.AfterRounds.{continued, ended, finished}
 use Rattle.pb_vars.proofs.in_scope.InScope.after_rounds.Goals as goal
 
 pub loop-done-init : goal.loop-done-init
@@ -32,5 +32,4 @@ pub returns : goal.returns
 returns g c =
     let f = g.Q.Question.holds c.args.question.now in
     let ps = in_scope c.args.self.now in
-    let none : c.args.most - c.loop-done._done ≡ 0 = omega (arith, c.loop-done-test.false) in
-    ap (λ k. after_rounds k f ps c.loop-done.answers.items) (sym none) ∙ c.loop-done.invariant
+    finished f ps (c.args.most - c.loop-done._done) c.loop-done.answers.items (after_rounds c.args.most f ps []) (omega (arith, c.loop-done-test.false)) c.loop-done.invariant

@@ -1,5 +1,6 @@
 -- What an environment means in the table that it stands in.
-use Rattle.std.specs.Prelude.{◌≡◌, ℕ, ◌<◌, length, Bool, true, false, Option, Some, None}
+use Rattle.std.specs.Prelude.{◌≡◌, ◌&&◌, ℕ, ◌<◌, nat_lt, length, Bool, true, false, Option}
+use Rattle.std.specs.Prelude.{Some, None}
 use Rattle.pb_semantics.specs.Kind.{KindData, Spot, nowhere, slot_at, put_slot}
 use Rattle.pb_language.specs.Expression.{Name}
 use Rattle.pb_language.specs.Judgement.{Exit, dead, live}
@@ -30,6 +31,15 @@ Stands s e = StandsAt s e.root
 -- what is known there, if a way leads there
 abbrev pub exit_of : Shared → Environment → Exit
 exit_of s e = exit_at s e.root
+
+-- the tree at the place is over the names
+abbrev pub is_over_at : Shared → Option ℕ → Bool
+is_over_at s None = true
+is_over_at s (Some i) = nat_lt i (length s.nodes) && fits (tree_at s.nodes i) s.names
+
+-- what is known there can be looked up
+abbrev pub is_over : Shared → Environment → Bool
+is_over s e = is_over_at s e.root
 
 -- the names are the same, and what stood stands and means what it meant
 pub record IsKept (s u : Shared) : Type 0 where

@@ -8,7 +8,8 @@ ghost use Rattle.pb_language.specs.Ordered.{ExitLe};
 ghost use Rattle.pb_language.specs.Wells.{WellExit};
 ghost use Rattle.pb_value.specs.Words.{is_always, kind_view, spot_view};
 ghost use Rattle.pb_lattice.specs.Arena.{names_of};
-ghost use Rattle.pb_lattice.specs.Environments.{IsKept, Stands, exit_of, is_dead, put_in, spot_in};
+ghost use Rattle.pb_lattice.specs.Environments.{IsKept, Stands, exit_of, is_dead, is_over};
+ghost use Rattle.pb_lattice.specs.Environments.{put_in, spot_in};
 ghost use Rattle.pb_lattice.specs.Shared.{Shared};
 ghost use Rattle.pb_lattice.specs.Trees.{IsAscending};
 
@@ -100,6 +101,18 @@ impl Environments {
     /// What is known of a name.
     pub fn slot(&self, at: Environment, name: &str) -> Option<&Slot<Kind>>
         requires { Stands self.now at }
+        ensures { spot_view result ≡ spot_in name.now (exit_of self.now at) }
+    {
+        match at.root {
+            None => None,
+            Some(place) => tree::find(&self.nodes, place, &self.names, name),
+        }
+    }
+
+    /// What is known of a name, in an environment of a tree over the table's names: one that stands
+    /// is such a one.
+    pub fn find(&self, at: Environment, name: &str) -> Option<&Slot<Kind>>
+        requires { is_over self.now at ≡ true }
         ensures { spot_view result ≡ spot_in name.now (exit_of self.now at) }
     {
         match at.root {

@@ -6,12 +6,12 @@ use crate::unfit::Unfit;
 use pb_value::Kind;
 use std::alloc::AllocError;
 
-// What is found of an expression, fit or not.
+/// What is found of an expression, fit or not.
 #[derive(Drop)]
-pub(crate) struct Inferred {
-    // The kind of each value that it can have.
+pub struct Inferred {
+    /// The kind of each value that it can have.
     pub kind: Kind,
-    // The first fault from left to right, operands before the form round them.
+    /// The first fault from left to right, operands before the form round them.
     pub unfit: Option<Unfit>,
 }
 

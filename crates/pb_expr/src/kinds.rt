@@ -8,6 +8,7 @@ ghost use Rattle.pb_language.specs.Words.{is_plain_kind, is_plain_list as is_pla
 ghost use Rattle.pb_language.specs.Words.{is_result as is_result_kind, is_status_record};
 ghost use Rattle.pb_language.specs.Words.{is_text as is_textual, may_be_flag as may_be_flag_spot};
 ghost use Rattle.pb_language.specs.Words.{path_spot, spot_kind, step_spot};
+ghost use Rattle.pb_language.specs.Fit.{is_list as is_listed_kind};
 ghost use Rattle.pb_language.specs.Kinds.{shown_spot};
 ghost use Rattle.pb_value.specs.Words.{cases_view, is_always, kind_view, slots_view};
 ghost use Rattle.pb_syntax.specs.ExprView.{names_of};
@@ -28,11 +29,22 @@ pub(crate) fn is_int(kind: &Kind) -> bool
     }
 }
 
-pub(crate) fn is_text(kind: &Kind) -> bool
+/// Whether each value of the kind is a text.
+pub fn is_text(kind: &Kind) -> bool
     ensures { result ≡ is_textual (kind_view kind.now) }
 {
     match kind {
         Kind::Text | Kind::Host(_) | Kind::Never => true,
+        _ => false,
+    }
+}
+
+/// Whether each value of the kind is a list.
+pub fn is_list(kind: &Kind) -> bool
+    ensures { result ≡ is_listed_kind (kind_view kind.now) }
+{
+    match kind {
+        Kind::List(_, _) | Kind::Never => true,
         _ => false,
     }
 }

@@ -7,6 +7,7 @@
 //         Err(KindFault::Unfit(unfit)) => { .. } // the first fault
 //         Err(KindFault::NoMemory) => { .. }
 //     }
+//     let Inferred { kind, unfit } = infer_kind(alloc, &condition, &slots, &taught)?; // fit or not
 //     let taught = narrow(alloc, &condition, true, &slots, taught)?; // where it is true
 #![tactic(auto)]
 
@@ -17,10 +18,10 @@ pub mod defined;
 pub mod fit;
 mod forms;
 mod inference;
-mod inferred;
-mod kinds;
+pub mod inferred;
+pub mod kinds;
 pub mod known;
-mod literal;
+pub mod literal;
 pub mod narrow;
 mod roots;
 pub mod scope;
@@ -29,8 +30,10 @@ pub mod teach;
 pub mod unfit;
 mod views;
 
-pub use fit::{KindFault, kind_of};
+pub use fit::{KindFault, infer_kind, kind_of};
+pub use inferred::Inferred;
 pub use known::Known;
+pub use literal::literal_kind;
 pub use pb_syntax::{
     Comparison, Expr, ExprFault, Member, Names, Path, Root, Status, Term, parse_expr,
     parse_template,

@@ -9,9 +9,13 @@ use pb_value::{Fields, Kind, Slot, Slots, Value, put_slot};
 use std::alloc::{AllocError, Global};
 use std::collections::BTreeMap;
 
-// The kind of a value that is known.
+/// The kind of a value that is known.
+///
+/// # Errors
+///
+/// Want of memory.
 #[cycle(literal_kind)]
-pub(crate) fn literal_kind(alloc: Global, known: &Value) -> Result<Kind, AllocError>
+pub fn literal_kind(alloc: Global, known: &Value) -> Result<Kind, AllocError>
     ensures { IfOk result (λ k. kind_view k ≡ known_kind (view known.now)) }
 {
     match known {

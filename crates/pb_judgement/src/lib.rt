@@ -10,9 +10,11 @@
 mod answers;
 pub mod ends;
 pub mod laws;
+pub mod own;
 pub mod registered;
 mod shapes;
 mod status;
 
 pub use ends::{Ends, Manner, ends_of};
+pub use own::{Own, own_of};
 pub use registered::looped;

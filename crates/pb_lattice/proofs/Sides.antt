@@ -94,6 +94,24 @@ module _ (n : Name) (es : Texts) (p : String Global) (ascending : IsAscending (n
       ap (λ ms. is_among n ms) (other_names es)
       ∙ other_of (is_among n (left_half ns)) (is_among n (right_half ns)) (sym (among_halves n ns) ∙ a) (behind_none n (left_half ns) (behind h))
 
+  or_none : (a b : Bool) → b ≡ false → a ≡ a || b
+  or_none true b h = refl
+  or_none false b h = sym h
+
+  none_or : (a b : Bool) → a ≡ false → b ≡ a || b
+  none_or true b h = true-false true refl h
+  none_or false b h = refl
+
+  pub first_has : is_lt (order n (string_bytes p)) ≡ true → is_among n (names_of (first_texts es)) ≡ is_among n ns
+  first_has h =
+      ap (λ ms. is_among n ms) (first_names es)
+      ∙ or_none (is_among n (left_half ns)) (is_among n (right_half ns)) (before_none n (right_half ns) (before h)) ∙ sym (among_halves n ns)
+
+  pub other_has : is_lt (order n (string_bytes p)) ≡ false → is_among n (names_of (other_texts es)) ≡ is_among n ns
+  other_has h =
+      ap (λ ms. is_among n ms) (other_names es)
+      ∙ none_or (is_among n (left_half ns)) (is_among n (right_half ns)) (behind_none n (left_half ns) (behind h)) ∙ sym (among_halves n ns)
+
 pub first_fits : (l r : Tree) (es : Texts) → fits (fork l r) (names_of es) ≡ true → fits l (names_of (first_texts es)) ≡ true
 first_fits l r es h = rw (first_names es) (fits_left l r (names_of es) h)
 

@@ -90,6 +90,13 @@ impl Environments {
         }
     }
 
+    /// Whether the table is over the name.
+    pub fn has_name(&self, name: &str) -> bool
+        ensures { result ≡ is_among name.now self.now.names }
+    {
+        tree::has(&self.names, name)
+    }
+
     /// What is known of a name.
     pub fn slot(&self, at: Environment, name: &str) -> Option<&Slot<Kind>>
         requires { Stands self.now at }

@@ -312,6 +312,22 @@ pub(crate) fn find<'n>(
     }
 }
 
+// Whether it is one of the names.
+pub(crate) fn has(names: &[String], name: &str) -> bool
+    requires ascending { IsAscending (names_of names.now) }
+    ensures { result ≡ is_among name.now (names_of names.now) }
+{
+    if names.len() <= 1 {
+        return names.len() == 1 && name == names[0].as_str();
+    }
+    let half = names.len() / 2;
+    if name < names[half].as_str() {
+        has(&names[..half], name)
+    } else {
+        has(&names[half..], name)
+    }
+}
+
 // The tree over the names with that slot under one of them.
 pub(crate) fn put(
     nodes: &mut Nodes,

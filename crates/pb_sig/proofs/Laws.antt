@@ -30,8 +30,20 @@ not_failed ss h = neither-left (is_listed (codes "failed") ss) _ (none_listed ss
 not_skipped : (ss : Slots) → are_lawful ss ≡ true → is_listed (codes "skipped") ss ≡ false
 not_skipped ss h = neither-left (is_listed (codes "skipped") ss) _ (neither-right (is_listed (codes "failed") ss) _ (none_listed ss h))
 
-shape : (ss : Slots) → are_plain ss ≡ true → are_lawful ss ≡ true → is_shape (recs ss) ≡ true
-shape ss p h = and-both (are_free ss) _ (free_slots ss p) (and-both (is_certain_boolean (slot_at (codes "changed") ss)) _ (changed ss h) (ap not (not_failed ss h)))
+-- a lawful shape is a shape, and one of failures where `msg` is always there
+pub is_shape-lawful : (k : KindData) → is_lawful_shape k ≡ true → is_shape k ≡ true
+is_shape-lawful (recs ss) h =
+    let certain = is_certain_boolean (slot_at (codes "changed") ss) in
+    let unfailed = not (is_listed (codes "failed") ss) in
+    let unskipped = not (is_listed (codes "skipped") ss) in
+    let rest = and-right (are_plain ss) (certain && (unfailed && unskipped)) h in
+    let free = free_slots ss (and-left (are_plain ss) (certain && (unfailed && unskipped)) h) in
+    and-both (are_free ss) (certain && unfailed) free
+    (and-both certain unfailed (and-left certain (unfailed && unskipped) rest) (and-left unfailed unskipped (and-right certain (unfailed && unskipped) rest)))
+is_shape-lawful k h = h
+
+pub is_failure_shape-lawful : (k : KindData) → is_lawful_shape k ≡ true → has_message k ≡ true → is_failure_shape k ≡ true
+is_failure_shape-lawful k h g = and-both (is_shape k) (has_message k) (is_shape-lawful k h) g
 
 lawful_shape : (ss : Slots) → are_plain ss ≡ true → are_lawful ss ≡ true → is_lawful_shape (recs ss) ≡ true
 lawful_shape ss p h =
@@ -49,10 +61,9 @@ IsLawful-draft m ok failure fine bad laws =
     let rest = and-right (are_lawful ss) (are_lawful ts && is_certain_text (slot_at (codes "msg") ts)) laws in
     let lawful_failure = and-left (are_lawful ts) _ rest in
     let message = and-right (are_lawful ts) (is_certain_text (slot_at (codes "msg") ts)) rest in record {
-      ok_shape = ap is_shape fine ∙ shape ss plain_ok lawful_ok;
-      failure_shape = ap is_failure_shape bad ∙ and-both (is_shape (recs ts)) (has_message (recs ts)) (shape ts plain_failure lawful_failure) message;
       lawful = ap (λ k. is_lawful_shape k && is_lawful_shape failure) fine ∙ ap (λ k. is_lawful_shape (recs ss) && is_lawful_shape k) bad
           ∙ and-both (is_lawful_shape (recs ss)) (is_lawful_shape (recs ts)) (lawful_shape ss plain_ok lawful_ok) (lawful_shape ts plain_failure lawful_failure);
+      message = ap has_message bad ∙ message;
     }
 
 pub are_lawful_modules-append : (ms ns : List ModuleData) → are_lawful_modules ms ≡ true → are_lawful_modules ns ≡ true → are_lawful_modules (ms ++ ns) ≡ true

@@ -1,6 +1,7 @@
 // The modules that are there in every run.
 ghost use Rattle.std.specs.Prelude.{◌≡◌, IfOk, map, option_map, string_bytes, true};
-ghost use Rattle.pb_semantics.specs.Words.{is_failure_shape, is_shape};
+ghost use Rattle.pb_semantics.specs.Signature.{has_message};
+ghost use Rattle.pb_language.specs.Cases.{is_lawful_shape};
 ghost use Rattle.pb_value.specs.Words.{kind_view};
 ghost use Rattle.pb_sig.specs.Table.{command, copy, file, ping, program, service, setup, shell};
 ghost use Rattle.pb_sig.specs.Table.{stat};
@@ -24,8 +25,9 @@ pub struct Builtin {
     ok: Kind,
     failure: Kind,
     free: Option<String>,
-    ghost lawful_ok: { is_shape (kind_view ok) ≡ true },
-    ghost lawful_failure: { is_failure_shape (kind_view failure) ≡ true },
+    ghost lawful_ok: { is_lawful_shape (kind_view ok) ≡ true },
+    ghost lawful_failure: { is_lawful_shape (kind_view failure) ≡ true },
+    ghost message: { has_message (kind_view failure) ≡ true },
 }
 
 impl Module for Builtin {
@@ -153,7 +155,7 @@ impl Builtin {
         parameters: Vec<Parameter>,
         ok: Kind,
     ) -> Result<Builtin, AllocError>
-        requires { is_shape (kind_view ok) ≡ true }
+        requires { is_lawful_shape (kind_view ok) ≡ true }
         ensures { IfOk result (λ m. builtin_view m ≡ record {
           name = name.now;
           params = map parameter_view parameters.items;
@@ -174,8 +176,9 @@ impl Builtin {
         failure: Kind,
         free: Option<String>,
     ) -> Result<Builtin, AllocError>
-        requires ok { is_shape (kind_view ok) ≡ true }
-        requires failure { is_failure_shape (kind_view failure) ≡ true }
+        requires ok { is_lawful_shape (kind_view ok) ≡ true }
+        requires failure { is_lawful_shape (kind_view failure) ≡ true }
+        requires message { has_message (kind_view failure) ≡ true }
         ensures { IfOk result (λ m. builtin_view m ≡ record {
           name = name.now;
           params = map parameter_view parameters.items;

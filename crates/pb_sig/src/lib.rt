@@ -31,5 +31,5 @@ pub use declared::Declared;
 pub use fault::SignatureFault;
 pub use names::{is_one_of, is_variable, without_prefix};
 pub use registry::{Known, Registry};
-pub use results::Results;
-pub use signature::{Module, Parameter, SIGNATURES_LIMIT};
+pub use results::{Results, case_of, ended_record, skipped_record};
+pub use signature::{Module, Parameter, SIGNATURES_LIMIT, shared_name};

@@ -118,7 +118,13 @@ fn result_of_case(alloc: Global, case: Case<Kind>) -> Result<Kind, AllocError>
     Kind::of_cases(alloc, cases, known)
 }
 
-fn case_of(
+/// A case of a result: of an action of that name, with that shape, that final status and these
+/// fields. It shares the name and the fields.
+///
+/// # Errors
+///
+/// Want of memory.
+pub fn case_of(
     action: &Arc<String>,
     shape: Shape,
     failed: bool,
@@ -137,8 +143,12 @@ fn case_of(
     })
 }
 
-// The record of a shape's fields with the final status.
-fn ended_record(alloc: Global, shape: &Slots) -> Result<Kind, AllocError>
+/// The record of a shape's fields with the final status. The shape has no `failed` of its own.
+///
+/// # Errors
+///
+/// Want of memory.
+pub fn ended_record(alloc: Global, shape: &Slots) -> Result<Kind, AllocError>
     requires { is_listed (codes "failed") (slots_view shape.now.entries) ≡ false }
     ensures { IfOk result (λ k. kind_view k ≡ ended_kind (slots_view shape.now.entries)) }
 {
@@ -157,7 +167,12 @@ fn ended_slots(alloc: Global, shape: &Slots) -> Result<Slots, AllocError>
     Ok(slots)
 }
 
-fn skipped_record(alloc: Global) -> Result<Kind, AllocError>
+/// The record of a result that is skipped: `changed`, `failed`, `skip_reason` and `skipped`.
+///
+/// # Errors
+///
+/// Want of memory.
+pub fn skipped_record(alloc: Global) -> Result<Kind, AllocError>
     ensures { IfOk result (λ k. kind_view k ≡ recs skipped_slots) }
 {
     let rows = [

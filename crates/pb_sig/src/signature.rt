@@ -1,6 +1,7 @@
 // What is known of a module before it is called.
 ghost use Rattle.std.specs.Prelude.{◌≡◌, IfOk, map, option_map, string_bytes, true};
 ghost use Rattle.pb_semantics.specs.Words.{ModuleData, is_failure_shape, is_shape};
+ghost use Rattle.pb_language.specs.Cases.{is_lawful_shape};
 ghost use Rattle.pb_value.specs.Words.{kind_view};
 
 use pb_value::Kind;
@@ -33,24 +34,30 @@ pub trait Module {
     fn params(&self) -> &[Parameter]
         ensures { map parameter_view result.now ≡ (meaning self.now).params };
 
-    /// The fields of an answer that isn't failed: a record that holds no result, with the truth
-    /// value `changed` always there, and without a field `failed`.
+    /// The fields of an answer that isn't failed: a record that holds no result, each name once,
+    /// with the truth value `changed` always there, and without a field `failed` or `skipped`.
     fn ok_shape(&self) -> &Kind
         ensures gives { kind_view result.now ≡ (meaning self.now).ok }
-        ensures lawful { is_shape (kind_view result.now) ≡ true };
+        ensures lawful { is_shape (kind_view result.now) ≡ true }
+        ensures plain { is_lawful_shape (kind_view result.now) ≡ true };
 
     /// The fields of a failed answer: as an `ok_shape`, and the text `msg` is always there.
     fn fail_shape(&self) -> &Kind
         ensures gives { kind_view result.now ≡ (meaning self.now).failure }
-        ensures lawful { is_failure_shape (kind_view result.now) ≡ true };
+        ensures lawful { is_failure_shape (kind_view result.now) ≡ true }
+        ensures plain { is_lawful_shape (kind_view result.now) ≡ true };
 
     /// The parameter that a text in place of the arguments stands for, where there is one.
     fn free_form(&self) -> Option<&str>
         ensures { option_map (λ n. n.now) result ≡ (meaning self.now).free };
 }
 
-// The name, in a block that its copies share.
-pub(crate) fn shared_name(alloc: Global, name: &str) -> Result<Arc<String>, AllocError>
+/// The name of a module or an action, in a block that its copies share.
+///
+/// # Errors
+///
+/// Want of memory.
+pub fn shared_name(alloc: Global, name: &str) -> Result<Arc<String>, AllocError>
     ensures { IfOk result (λ s. string_bytes s.value ≡ name.now) }
 {
     Ok(Arc::new(alloc, String::from_str(alloc, name)?)?)

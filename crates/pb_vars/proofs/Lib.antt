@@ -5,6 +5,7 @@ pub mod Scopes
 pub mod AfterRounds
 pub mod Chains
 pub mod Ordered
+pub mod Rising
 pub mod Searched
 pub mod Merged
 pub mod Pushes

@@ -1,14 +1,15 @@
 -- What environments of one table mean, in order.
-use Rattle.std.proofs.Common.{◌≡◌, ◌↔◌, ℕ, List, Bool, true, Option, Some, None, IsTrue, sym, ◌∙◌}
-use Rattle.pb_semantics.proofs.Bools.{untrue}
+use Rattle.std.proofs.Common.{◌≡◌, ◌↔◌, ◌<◌, ℕ, nat_lt, List, length, Bool, true, Option, Some, None, IsTrue, refl, sym, ◌∙◌, arith}
+use Rattle.std.proofs.lemmas.Bool.Decides.{nat_tests}
+use Rattle.pb_semantics.proofs.Bools.{and-both, untrue}
 use Rattle.pb_language.specs.Judgement.{Exit, dead, live}
 use Rattle.pb_language.specs.Ordered.{SlotsLe, ExitLe}
 use Rattle.pb_language.specs.Wells.{WellExit}
 use Rattle.pb_language.proofs.Walks.{exit_own}
-use Rattle.pb_lattice.specs.Trees.{Tree, slots_over, tree_below, are_alike}
+use Rattle.pb_lattice.specs.Trees.{Tree, fits, slots_over, tree_below, are_alike}
 use Rattle.pb_lattice.specs.Arena.{tree_at, IsJoined}
 use Rattle.pb_lattice.specs.Shared.{Shared}
-use Rattle.pb_lattice.specs.Environments.{IsRooted, StandsAt, exit_at, Stands, exit_of, is_dead}
+use Rattle.pb_lattice.specs.Environments.{IsRooted, StandsAt, exit_at, Stands, exit_of, is_dead, is_over, is_over_at}
 use Rattle.pb_lattice.specs.declared.environment.Environment.{Environment}
 use Rattle.pb_lattice.specs.declared.tree.Node.{Node}
 use Rattle.pb_lattice.proofs.TreeOrder.{fits_alike}
@@ -21,6 +22,17 @@ well_at s (Some i) h = slots_well (tree_at s.nodes i) s.names h.ascending h.well
 -- what stands is well formed
 pub stands_well : (s : Shared) (e : Environment) → Stands s e → WellExit (exit_of s e)
 stands_well s e h = well_at s e.root h
+
+over_at : (s : Shared) (o : Option ℕ) → StandsAt s o → is_over_at s o ≡ true
+over_at s None h = refl
+over_at s (Some i) h =
+    let inside : i < length s.nodes = h.within in
+    let is_inside : nat_lt i (length s.nodes) ≡ true = grind (arith, nat_tests) in
+    and-both (nat_lt i (length s.nodes)) (fits (tree_at s.nodes i) s.names) is_inside h.fitting
+
+-- and is over the names
+pub stands_over : (s : Shared) (e : Environment) → Stands s e → is_over s e ≡ true
+stands_over s e h = over_at s e.root h
 
 pub stands_own : (s : Shared) (e : Environment) → Stands s e → ExitLe (exit_of s e) (exit_of s e)
 stands_own s e h = exit_own (exit_of s e) (stands_well s e h)

@@ -103,14 +103,11 @@ impl Environments {
         requires { Stands self.now at }
         ensures { spot_view result ≡ spot_in name.now (exit_of self.now at) }
     {
-        match at.root {
-            None => None,
-            Some(place) => tree::find(&self.nodes, place, &self.names, name),
-        }
+        self.find(at, name)
     }
 
-    /// What is known of a name, in an environment of a tree over the table's names: one that stands
-    /// is such a one.
+    /// What is known of a name, where the environment's tree is over the table's names, as is that
+    /// of one that stands.
     pub fn find(&self, at: Environment, name: &str) -> Option<&Slot<Kind>>
         requires { is_over self.now at ≡ true }
         ensures { spot_view result ≡ spot_in name.now (exit_of self.now at) }

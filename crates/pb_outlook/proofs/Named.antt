@@ -37,7 +37,7 @@ named_over n st d env =
     let w1 = with_over n (codes "ansible_play_batch") true b (with_failure_slot d env) no_slots u refl in
     let w2 = with_over n (codes "group_names") true m (with_slot (codes "ansible_play_batch") true b (with_failure_slot d env)) (with_slot (codes "ansible_play_batch") true b no_slots) u w1 in
     let w3 = with_over n (codes "groups") true g (with_slot (codes "group_names") true m (with_slot (codes "ansible_play_batch") true b (with_failure_slot d env)))
-        (with_slot (codes "group_names") true m (with_slot (codes "ansible_play_batch") true b no_slots)) u w2 in
+    (with_slot (codes "group_names") true m (with_slot (codes "ansible_play_batch") true b no_slots)) u w2 in
     with_over n (codes "inventory_hostname") true (hosts (st.this ∷ []))
     (with_slot (codes "groups") true g (with_slot (codes "group_names") true m (with_slot (codes "ansible_play_batch") true b (with_failure_slot d env))))
     (with_slot (codes "groups") true g (with_slot (codes "group_names") true m (with_slot (codes "ansible_play_batch") true b no_slots))) u w3

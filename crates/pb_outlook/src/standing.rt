@@ -183,7 +183,10 @@ impl<'s, O: Outlook> Ground<'s, O> {
 /// # Errors
 ///
 /// Want of memory.
-pub fn own_result<'s>(register: Option<&'s str>, kind: &Kind) -> Result<Option<Given<'s>>, AllocError>
+pub fn own_result<'s>(
+    register: Option<&'s str>,
+    kind: &Kind,
+) -> Result<Option<Given<'s>>, AllocError>
     ensures { IfOk result (λ g. (ss : Slots) → with_given g ss
         ≡ with_result (option_map (λ n. n.now) register.entry) (kind_view kind.now) ss) }
 {

@@ -10,3 +10,4 @@ pub mod Solved
 pub mod Linked
 pub mod Leads
 pub mod SameEdges
+pub mod SameSteps

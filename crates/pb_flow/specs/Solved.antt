@@ -1,6 +1,6 @@
 -- The graph of a play, and its least solution beside the walk of its row (this project's own).
 use Rattle.std.specs.Prelude.{◌≡◌, ◌≤◌, ℕ, suc, length, List, [], ◌∷◌, ◌++◌, Option, Some, None}
-use Rattle.std.specs.Prelude.{map, slice_index_or}
+use Rattle.std.specs.Prelude.{cond, map, slice_index_or}
 use Rattle.pb_lattice.specs.Graph.{Graph}
 use Rattle.pb_lattice.specs.Solution.{Covers}
 use Rattle.pb_language.specs.Book.{Registry}
@@ -10,11 +10,15 @@ use Rattle.pb_language.specs.Links.{led, size, values_at}
 use Rattle.pb_language.specs.Nodes.{ValuesLe, values}
 use Rattle.pb_language.specs.Ordered.{ExitLe}
 use Rattle.pb_language.specs.Setting.{Setting}
-use Rattle.pb_language.specs.Task.{Row}
-use Rattle.pb_language.specs.Walk.{walk}
+use Rattle.pb_language.specs.Task.{Row, Task}
+use Rattle.pb_language.specs.Walk.{failing_from, going_from, walk}
 use Rattle.pb_language.specs.Wells.{WellExit, WellViews}
 use Rattle.pb_flow.specs.Ahead.{edge_to, flow_edges}
 use Rattle.pb_flow.specs.Flow.{begins_at, end_node, row_links}
+use Rattle.pb_flow.specs.Nodes.{node_task, nodes_links}
+use Rattle.pb_flow.specs.declared.flow.Way.{Way}
+use Rattle.pb_flow.specs.declared.flow.Way.TheVariants.{Begins, Goes, Fails, Passes}
+use Rattle.pb_flow.specs.declared.graph.Node.{Node}
 use Rattle.pb_flow.specs.Nodes.{nodes_links}
 use Rattle.pb_flow.specs.declared.graph.Node.{Node}
 
@@ -51,3 +55,34 @@ abbrev pub FlowsAreRows : Type 0
 FlowsAreRows = (ms : Registry) (vars : Parts) (row : Row) (begin : Option ℕ) (ns : List Node)
     → begin ≡ begins_at row → nodes_links ms vars 1 ns ≡ row_links row → length ns ≡ size row
     → flow_edges begin ns ≡ row_graph row
+
+-- what goes along an edge in that way
+abbrev pub along_way : Setting → Task → Way → Exit → Exit
+along_way st t Begins e = e
+along_way st t Goes e = going_from st t e
+along_way st t Fails e = failing_from st t e
+along_way st t Passes e = e
+
+-- for each edge from nodes what goes along it
+abbrev pub step_to : (Exit → Exit) → Option ℕ → List (Exit → Exit)
+step_to f None = []
+step_to f (Some n) = f ∷ []
+
+abbrev pub node_steps : Setting → Task → Node → List (Exit → Exit)
+node_steps st t n = cond n.is_handler (step_to (along_way st t Passes) n.ok) []
+    ++ (step_to (along_way st t Goes) n.ok ++ step_to (along_way st t Fails) n.failed)
+
+abbrev pub nodes_steps : Setting → Registry → Parts → List Node → List (Exit → Exit)
+nodes_steps st ms vars [] = []
+nodes_steps st ms vars (n ∷ ns) =
+    node_steps st (node_task ms vars n) n ++ nodes_steps st ms vars ns
+
+-- and for each edge of a graph
+abbrev pub flow_steps : Setting → Registry → Parts → Option ℕ → List Node → List (Exit → Exit)
+flow_steps st ms vars begin ns = begin_steps begin ++ nodes_steps st ms vars ns
+
+-- nodes that have the links of a row carry along their edges what the row does
+abbrev pub FlowsCarryRows : Type 0
+FlowsCarryRows = (st : Setting) (ms : Registry) (vars : Parts) (row : Row) (begin : Option ℕ)
+    (ns : List Node) → begin ≡ begins_at row → nodes_links ms vars 1 ns ≡ row_links row → (i : ℕ)
+    → slice_index_or (flow_steps st ms vars begin ns) i (λ e. e) ≡ row_step st row i

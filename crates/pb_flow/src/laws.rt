@@ -6,7 +6,7 @@ ghost use Rattle.pb_language.specs.Plays.{play_row};
 ghost use Rattle.pb_language.specs.Sites.{steps_of};
 ghost use Rattle.pb_language.specs.Task.{Row};
 ghost use Rattle.pb_flow.specs.Flow.{AreRising, end_node, row_links, tasks_of};
-ghost use Rattle.pb_flow.specs.Solved.{FlowsAreRows, SolutionIsWalk};
+ghost use Rattle.pb_flow.specs.Solved.{FlowsAreRows, FlowsCarryRows, SolutionIsWalk};
 
 /// A play has as many nodes, without its start and its end, as the rule on steps counts.
 pub fn steps_are_nodes()
@@ -32,4 +32,9 @@ pub fn solution_is_walk()
 /// The edges of nodes that have the links of a row are the edges of the row's graph.
 pub fn edges_are_those_of_the_row()
     ensures { FlowsAreRows }
+{}
+
+/// What goes along the edges of such nodes is what goes along those of the row.
+pub fn edges_carry_what_the_row_does()
+    ensures { FlowsCarryRows }
 {}

@@ -1,0 +1,6 @@
+pub mod Broken
+pub mod Rules
+pub mod Parameters
+pub mod Names
+pub mod Handlers
+pub mod Sites

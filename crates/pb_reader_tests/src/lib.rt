@@ -13,4 +13,6 @@ mod inventories;
 #[cfg(test)]
 mod plays;
 #[cfg(test)]
+mod rules;
+#[cfg(test)]
 mod tasks;

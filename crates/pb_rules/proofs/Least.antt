@@ -92,6 +92,7 @@ keys-sooner (Some p) None = refl
 keys-sooner (Some p) (Some q) = at (is_sooner q p) (sooner-key q p) where
   lesser : (c : Bool) (a b : ℕ) → c ≡ nat_lt b a → (cond c b a) ≡ min a b
   lesser c a b e = grind (arith, nat_tests)
+
   at : (c : Bool) → c ≡ nat_lt (key q) (key p) → keys (cond c (Some q) (Some p)) ≡ Some (min (key p) (key q))
   at true e = ap Some (lesser true (key p) (key q) e)
   at false e = ap Some (lesser false (key p) (key q) e)
@@ -193,6 +194,7 @@ refusals-sooner n (Some p) None h k = refl
 refusals-sooner n (Some p) (Some q) h k = ap (λ c. refusals (cond c (Some q) (Some p))) (at n q.line p.line (rank q.rule) (rank p.rule) h k) ∙ move (nat_lt q.line p.line) where
   at : (n l m a b : ℕ) → b ≤ n → n ≤ a → (nat_lt l m || (nat_eq l m && nat_lt a b)) ≡ nat_lt l m
   at n l m a b x y = grind (arith, nat_tests)
+
   move : (c : Bool) → refusals (cond c (Some q) (Some p)) ≡ cond c (Some (refusal_of q)) (Some (refusal_of p))
   move true = refl
   move false = refl
@@ -223,9 +225,9 @@ one-rule q [] = refl
 one-rule q (s ∷ ss) =
     refusals-sooner (rank q.rule) (broken_at s.line (site_broken (q ∷ []) s)) (first_broken (q ∷ []) ss) (up-to q s) (first-from (rank q.rule) (q ∷ []) ss (self (rank q.rule), tt))
     ∙ ap (earlier (refusals (broken_at s.line (site_broken (q ∷ []) s)))) (one-rule q ss) ∙ ap (λ o. earlier o (first_line (code_of q.rule) q.breaks ss)) (at (q.breaks s)) where
-  at : (b : Bool) → refusals (broken_at s.line (if_broken b q.rule None)) ≡ cond b (Some (record { code = code_of q.rule; line = s.line; host = None })) None
-  at true = refl
-  at false = refl
+      at : (b : Bool) → refusals (broken_at s.line (if_broken b q.rule None)) ≡ cond b (Some (record { code = code_of q.rule; line = s.line; host = None })) None
+      at true = refl
+      at false = refl
 
 broken-lower : (m n : ℕ) (o : Option Broken) → m ≤ n → BrokenFrom n o → BrokenFrom m o
 broken-lower m n None h k = tt
@@ -240,7 +242,7 @@ all-rules n [] (s ∷ ss) h = all-rules n [] ss h
 all-rules n (q ∷ qs) ss h =
     ap refusals (rule-by-rule n q qs ss h)
     ∙ refusals-sooner (rank q.rule) (first_broken (q ∷ []) ss) (first_broken qs ss) (all-up-to q ss)
-        (broken-lower (rank q.rule) (suc (rank q.rule)) (first_broken qs ss) (suc-lower (rank q.rule) (rank q.rule) (self (rank q.rule))) (first-from (suc (rank q.rule)) qs ss h.1))
+    (broken-lower (rank q.rule) (suc (rank q.rule)) (first_broken qs ss) (suc-lower (rank q.rule) (rank q.rule) (self (rank q.rule))) (first-from (suc (rank q.rule)) qs ss h.1))
     ∙ ap (λ o. earlier o (refusals (first_broken qs ss))) (one-rule q ss) ∙ ap (earlier (first_line (code_of q.rule) q.breaks ss)) (all-rules (suc (rank q.rule)) qs ss h.1)
 
 -- the steps are told first on their line
@@ -249,9 +251,10 @@ pub with-steps : (n : ℕ) (qs : List Asked) (ss : List Site) (l : Option ℕ) �
 with-steps n qs ss l h =
     refusals-sooner 0 (option_map (λ k. record { line = k; rule = rule.Steps }) l) (first_broken qs ss) (zero-rank l) (broken-lower 0 n (first_broken qs ss) (omega arith) (first-from n qs ss h))
     ∙ ap (earlier (refusals (option_map (λ k. record { line = k; rule = rule.Steps }) l))) (all-rules n qs ss h) ∙ ap (λ o. earlier o (rules_broken qs ss)) (code l) where
-  zero-rank : (l : Option ℕ) → BrokenUpTo 0 (option_map (λ k. record { line = k; rule = rule.Steps }) l)
-  zero-rank None = tt
-  zero-rank (Some k) = self 0
-  code : (l : Option ℕ) → refusals (option_map (λ k. record { line = k; rule = rule.Steps }) l) ≡ option_map (λ k. record { code = 13; line = k; host = None }) l
-  code None = refl
-  code (Some k) = refl
+      zero-rank : (l : Option ℕ) → BrokenUpTo 0 (option_map (λ k. record { line = k; rule = rule.Steps }) l)
+      zero-rank None = tt
+      zero-rank (Some k) = self 0
+
+      code : (l : Option ℕ) → refusals (option_map (λ k. record { line = k; rule = rule.Steps }) l) ≡ option_map (λ k. record { code = 13; line = k; host = None }) l
+      code None = refl
+      code (Some k) = refl

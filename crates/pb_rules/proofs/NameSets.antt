@@ -29,6 +29,7 @@ among-insert n k (x ∷ ks) = at (text_cmp k x) (is_eq-slice_cmp k.now x.now) (a
   met b m h = rw (same_name k.now x.now h) (twice (bytes_eq n x.now) b) where
     twice : (a b : Bool) → (a || b) ≡ (a || (a || b))
     twice a b = grind arith
+
   at : (o : Ordering) → is_eq o ≡ bytes_eq k.now x.now → is_among n (texts (insert_key text_cmp ks k)) ≡ (bytes_eq n k.now || is_among n (texts ks))
       → is_among n (texts (match_ordering o (k ∷ x ∷ ks) (x ∷ ks) (x ∷ insert_key text_cmp ks k))) ≡ (bytes_eq n k.now || (bytes_eq n x.now || is_among n (texts ks)))
   at Less e h = refl

@@ -32,8 +32,10 @@ none-past i k n [] h = refl
 none-past i k n (x ∷ hs) h = at (is_named n x) (none-past i (suc k) n hs (below i k h)) where
   below : (i k : ℕ) → i < k → i < suc k
   below i k h = omega arith
+
   above : (i k : ℕ) → i < k → nat_le k i ≡ false
   above i k h = grind (arith, nat_tests)
+
   at : (b : Bool) → any_up_to i (notified (suc k) n hs) ≡ false → any_up_to i (cond b (k ∷ notified (suc k) n hs) (notified (suc k) n hs)) ≡ false
   at true e = ap (λ b. b || any_up_to i (notified (suc k) n hs)) (above i k h) ∙ e
   at false e = e
@@ -43,6 +45,7 @@ pub next-up-to : (i k : ℕ) (n : Name) (x : HandlerNames) (hs : List HandlerNam
 next-up-to i k n x hs h = at (is_named n x) where
   upto : (i k : ℕ) → k ≤ i → nat_le k i ≡ true
   upto i k h = grind (arith, nat_tests)
+
   at : (b : Bool) → any_up_to i (cond b (k ∷ notified (suc k) n hs) (notified (suc k) n hs)) ≡ (b || any_up_to i (notified (suc k) n hs))
   at true = ap (λ b. b || any_up_to i (notified (suc k) n hs)) (upto i k h)
   at false = refl

@@ -138,8 +138,8 @@ block-put a b k h x y z s0 s1 s2 s3 s4 eh i ex ey ez p q r t =
     (tasks-joined (tasks_in x) (tasks_in y) (tasks_in z) ∙ ap (λ ks. tasks_in ks ++ (tasks_in y ++ tasks_in z)) ex ∙ ap (λ ks. tasks_in k.body.items ++ (tasks_in ks ++ tasks_in z)) ey
     ∙ ap (λ ks. tasks_in k.body.items ++ (tasks_in k.rescue.items ++ tasks_in ks)) ez)
     (put-then s0 s3 s4 _ (sites_round b (steps_view z)) _ (tasks_in z) (put-then s0 s2 s3 _ (sites_round b (steps_view y)) _ (tasks_in y) (put-then s0 s1 s2 _ (sites_round b (steps_view x)) _ (tasks_in x) p q) r) t) where
-  headed : h.now ≡ k.head → block-sites a k h.now ≡ block-sites a k k.head
-  headed e = ap (block-sites a k) e
+      headed : h.now ≡ k.head → block-sites a k h.now ≡ block-sites a k k.head
+      headed e = ap (block-sites a k) e
 
 -- a block as a step
 pub step-block : (a : Around) (k : Block Step) (xs ys : List Site) → ArePut xs ys (sites_round a (block_alone k)) (block_tasks k) → ArePut xs ys (sites_round a (step_view (Step-of.Block k) no_steps)) (step_tasks (Step-of.Block k))
@@ -207,26 +207,28 @@ pub play-put : (a : Around) (p : Bor Play) (g : Option ℕ) (x y z : List Step) 
 play-put a p g x y z hs s0 s1 s2 s3 s4 s5 s6 ep none eg ex ey ez eh p1 p2 p3 p4 p5 p6 =
     subst (λ (q : Bor Play). ArePut s0 s6 (play_sites (play_view q.now)) (play_tasks q.now)) ep
     (whole (eg ∙ own (λ q. q.gathering)) (ex ∙ own (λ q. q.pre_tasks.items)) (ey ∙ own (λ q. q.tasks.items)) (ez ∙ own (λ q. q.post_tasks.items)) (eh ∙ own (λ q. q.handlers.items))) where
-  own : {A : Type 0} (f : Play → A) → f p.now ≡ f a.play.now
-  own f = ap (λ (q : Bor Play). f q.now) (sym ep)
-  top : (ss : List Step) → sites_round a (steps_view ss) ≡ sites_in (play_view a.play.now) no_expressions (entries_view a.play.now.vars.items) (steps_view ss)
-  top ss = top-sites a (steps_view ss) none
-  whole : g ≡ a.play.now.gathering → x ≡ a.play.now.pre_tasks.items → y ≡ a.play.now.tasks.items → z ≡ a.play.now.post_tasks.items → hs ≡ a.play.now.handlers.items → ArePut s0 s6 (play_sites (play_view a.play.now)) (play_tasks a.play.now)
-  whole fg fx fy fz fh =
-      let q = play_view a.play.now in
-      let line = site_in a thing.Play in
-      let inner = λ (ss : List Step). sites_in q no_expressions (entries_view a.play.now.vars.items) (steps_view ss) in
-      let work = λ (ks : List Handler). handler_sites q 0 (map handler_view ks) in
-      let there : (((((line ∷ [] ++ gathering_sites q g) ++ sites_round a (steps_view x)) ++ sites_round a (steps_view y)) ++ sites_round a (steps_view z)) ++ work hs)
+      own : {A : Type 0} (f : Play → A) → f p.now ≡ f a.play.now
+      own f = ap (λ (q : Bor Play). f q.now) (sym ep)
+
+      top : (ss : List Step) → sites_round a (steps_view ss) ≡ sites_in (play_view a.play.now) no_expressions (entries_view a.play.now.vars.items) (steps_view ss)
+      top ss = top-sites a (steps_view ss) none
+
+      whole : g ≡ a.play.now.gathering → x ≡ a.play.now.pre_tasks.items → y ≡ a.play.now.tasks.items → z ≡ a.play.now.post_tasks.items → hs ≡ a.play.now.handlers.items → ArePut s0 s6 (play_sites (play_view a.play.now)) (play_tasks a.play.now)
+      whole fg fx fy fz fh =
+          let q = play_view a.play.now in
+          let line = site_in a thing.Play in
+          let inner = λ (ss : List Step). sites_in q no_expressions (entries_view a.play.now.vars.items) (steps_view ss) in
+          let work = λ (ks : List Handler). handler_sites q 0 (map handler_view ks) in
+          let there : (((((line ∷ [] ++ gathering_sites q g) ++ sites_round a (steps_view x)) ++ sites_round a (steps_view y)) ++ sites_round a (steps_view z)) ++ work hs)
           ≡ (((((line ∷ [] ++ gathering_sites q g) ++ inner x) ++ inner y) ++ inner z) ++ work hs) = rw (top x, top y, top z) refl in
-      let here : line ∷ (gathering_sites q g ++ inner x ++ inner y ++ inner z ++ work hs) ≡ play_sites q = rw (fg, fx, fy, fz, fh) refl in
-      let done : tasks_in x ++ (tasks_in y ++ (tasks_in z ++ handler_tasks hs)) ≡ play_tasks a.play.now = rw (fx, fy, fz, fh) refl in
-      put-as s0 s6 (((((line ∷ [] ++ gathering_sites q g) ++ sites_round a (steps_view x)) ++ sites_round a (steps_view y)) ++ sites_round a (steps_view z)) ++ work hs) (play_sites q)
-      (((((([] ++ []) ++ tasks_in x)) ++ tasks_in y) ++ tasks_in z) ++ handler_tasks hs) (play_tasks a.play.now)
-      (there ∙ sections-joined line (gathering_sites q g) (inner x) (inner y) (inner z) (work hs) ∙ here)
-      (section-tasks (tasks_in x) (tasks_in y) (tasks_in z) (handler_tasks hs) ∙ done)
-      (put-then s0 s5 s6 _ (work hs) _ (handler_tasks hs) (put-then s0 s4 s5 _ (sites_round a (steps_view z)) _ (tasks_in z) (put-then s0 s3 s4 _ (sites_round a (steps_view y)) _ (tasks_in y)
-      (put-then s0 s2 s3 _ (sites_round a (steps_view x)) _ (tasks_in x) (put-then s0 s1 s2 _ (gathering_sites q g) _ [] p1 p2) p3) p4) p5) p6)
+          let here : line ∷ (gathering_sites q g ++ inner x ++ inner y ++ inner z ++ work hs) ≡ play_sites q = rw (fg, fx, fy, fz, fh) refl in
+          let done : tasks_in x ++ (tasks_in y ++ (tasks_in z ++ handler_tasks hs)) ≡ play_tasks a.play.now = rw (fx, fy, fz, fh) refl in
+          put-as s0 s6 (((((line ∷ [] ++ gathering_sites q g) ++ sites_round a (steps_view x)) ++ sites_round a (steps_view y)) ++ sites_round a (steps_view z)) ++ work hs) (play_sites q)
+          (((((([] ++ []) ++ tasks_in x)) ++ tasks_in y) ++ tasks_in z) ++ handler_tasks hs) (play_tasks a.play.now)
+          (there ∙ sections-joined line (gathering_sites q g) (inner x) (inner y) (inner z) (work hs) ∙ here)
+          (section-tasks (tasks_in x) (tasks_in y) (tasks_in z) (handler_tasks hs) ∙ done)
+          (put-then s0 s5 s6 _ (work hs) _ (handler_tasks hs) (put-then s0 s4 s5 _ (sites_round a (steps_view z)) _ (tasks_in z) (put-then s0 s3 s4 _ (sites_round a (steps_view y)) _ (tasks_in y)
+          (put-then s0 s2 s3 _ (sites_round a (steps_view x)) _ (tasks_in x) (put-then s0 s1 s2 _ (gathering_sites q g) _ [] p1 p2) p3) p4) p5) p6)
 
 -- up to that play they were put
 pub record PlaysPut (now : List Site) (ps : List Play) (i : ℕ) : Type 0 where

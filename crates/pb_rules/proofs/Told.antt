@@ -8,7 +8,7 @@ use Rattle.pb_language.specs.Rules.{any_among, breaks_give, breaks_names, breaks
 use Rattle.pb_language.specs.Sites.{Site, sites_of}
 use Rattle.pb_language.specs.Verdict.{Refusal, earlier}
 use Rattle.pb_rules.specs.Broken.{Asked, broken_at, first_broken, if_broken, rules_broken, site_broken, sooner}
-use Rattle.pb_rules.specs.Rules.{all_asked, past_steps, unread_asked, unread_offence}
+use Rattle.pb_rules.specs.Rules.{FirstIsTold, all_asked, past_steps, unread_asked, unread_offence}
 use Rattle.pb_rules.proofs.Least.{AreRising, refusals, with-steps}
 use Rattle.pb_rules.specs.declared.broken.Broken.{Broken}
 use Rattle.pb_rules.specs.declared.broken.Rule.TheVariants as rule
@@ -66,5 +66,13 @@ earlier-none None = refl
 earlier-none (Some r) = refl
 
 -- the rules in their order are those of a book
-pub all-told : (rs : Registry) (v : Inventory) (b : Book) (ss : List Site) → sites_offence rs v b ss ≡ earlier (too_many_steps 0 b) (rules_broken (all_asked rs v (vars_names ss)) ss)
+all-told : (rs : Registry) (v : Inventory) (b : Book) (ss : List Site) → sites_offence rs v b ss ≡ earlier (too_many_steps 0 b) (rules_broken (all_asked rs v (vars_names ss)) ss)
 all-told rs v b ss = rw (earlier-none (first_line 9 breaks_give ss)) refl
+
+all-in-order : (rs : Registry) (v : Inventory) (ns : List Name) → AreRising 0 (all_asked rs v ns)
+all-in-order rs v ns = (omega arith, (omega arith, (omega arith, (omega arith, (omega arith, (omega arith, (omega arith, tt)))))))
+
+pub first-told : FirstIsTold
+first-told rs v b past e =
+    let names = vars_names (sites_of b) in
+    with-steps 0 (all_asked rs v names) (sites_of b) past (all-in-order rs v names) ∙ ap (λ o. earlier o (rules_broken (all_asked rs v names) (sites_of b))) e ∙ sym (all-told rs v b (sites_of b))

@@ -4,3 +4,4 @@ pub mod Parameters
 pub mod Names
 pub mod Handlers
 pub mod Sites
+pub mod Words

@@ -1,19 +1,24 @@
 -- The rules in their order, and what they say of a book.
-use Rattle.std.specs.Prelude.{ℕ, List, [], ◌∷◌, Bool, false, not, Option, None}
+use Rattle.std.specs.Prelude.{◌≡◌, ℕ, List, [], ◌∷◌, Bool, false, not, Option, None, option_map}
 use Rattle.pb_language.specs.Book.{Book, Registry}
 use Rattle.pb_language.specs.Expression.{Name}
 use Rattle.pb_language.specs.Program.{Inventory}
 use Rattle.pb_language.specs.Rules.{breaks_chains, breaks_give, breaks_known, breaks_names}
 use Rattle.pb_language.specs.Rules.{breaks_notify, breaks_order, breaks_parameters, too_many_steps}
-use Rattle.pb_language.specs.Rules.{vars_names, words_known}
+use Rattle.pb_language.specs.Rules.{rules_offence, vars_names, words_known}
 use Rattle.pb_language.specs.Sites.{Site, Thing, a_play, sites_of}
 use Rattle.pb_language.specs.Verdict.{Refusal, earlier}
-use Rattle.pb_rules.specs.Broken.{Asked, rules_broken}
+use Rattle.pb_rules.specs.Broken.{Asked, first_broken, refusal_of, rules_broken, sooner}
+use Rattle.pb_rules.specs.declared.broken.Broken.{Broken}
 use Rattle.pb_rules.specs.declared.broken.Rule.{Rule}
 use Rattle.pb_rules.specs.declared.broken.Rule.TheVariants as rule
 
 abbrev pub past_steps : ℕ → Refusal
 past_steps l = record { code = 13; line = l; host = None }
+
+-- V13, at the line of the play with which there are too many
+abbrev pub steps_broken : Option ℕ → Option Broken
+steps_broken o = option_map (λ l. record { line = l; rule = rule.Steps }) o
 
 -- V06 of a play alone: a word of its pattern names nothing
 abbrev pub breaks_pattern : Inventory → Site → Thing → Bool
@@ -47,3 +52,11 @@ unread_asked ms v given = asked rule.Parameters (breaks_parameters ms)
 abbrev pub unread_offence : Registry → Inventory → Book → Option Refusal
 unread_offence ms v b = earlier (too_many_steps 0 b)
     (rules_broken (unread_asked ms v (vars_names (sites_of b))) (sites_of b))
+
+-- the sooner of V13 and of the first rule that some line breaks is the offence of the book
+abbrev pub FirstIsTold : Type 0
+FirstIsTold = (ms : Registry) (v : Inventory) (b : Book) (past : Option ℕ)
+    → option_map past_steps past ≡ too_many_steps 0 b
+    → option_map refusal_of (sooner (steps_broken past)
+    (first_broken (all_asked ms v (vars_names (sites_of b))) (sites_of b)))
+    ≡ rules_offence ms v b

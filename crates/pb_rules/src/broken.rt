@@ -52,8 +52,7 @@ impl Broken {
     fn is_sooner(self, other: Broken) -> bool
         ensures { result ≡ is_sooner self other }
     {
-        self.line < other.line
-            || (self.line == other.line && self.rule.rank() < other.rule.rank())
+        self.line < other.line || (self.line == other.line && self.rule.rank() < other.rule.rank())
     }
 }
 

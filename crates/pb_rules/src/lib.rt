@@ -7,6 +7,7 @@
 #![tactic(auto)]
 
 pub mod broken;
+pub mod laws;
 mod names;
 mod notify;
 mod parameters;

@@ -64,7 +64,8 @@ fn writes_taken(task: Option<&Task>, given: &BTreeSet<&str>) -> bool
         (reserved_names ++ names_in given.now) }
 {
     match task {
-        Some(task) => registers_taken(task, given) || sets_taken(&task.work, &task.arguments, given),
+        Some(task) => registers_taken(task, given)
+            || sets_taken(&task.work, &task.arguments, given),
         None => false,
     }
 }

@@ -4,7 +4,8 @@ ghost use Rattle.std.specs.List.{list_any};
 ghost use Rattle.pb_semantics.specs.Words.{is_among};
 ghost use Rattle.pb_language.specs.Notify.{all_notified, is_name, is_named, names_something};
 ghost use Rattle.pb_language.specs.Notify.{notified};
-ghost use Rattle.pb_language.specs.Rules.{any_notifies_up_to, any_up_to, breaks_notify, breaks_order};
+ghost use Rattle.pb_language.specs.Rules.{any_notifies_up_to, any_up_to, breaks_notify};
+ghost use Rattle.pb_language.specs.Rules.{breaks_order};
 ghost use Rattle.pb_task.specs.Words.{names_view};
 ghost use Rattle.pb_rules.specs.Handlers.{handler_name, handlers_names, names_of};
 ghost use Rattle.pb_rules.specs.Sites.{site_view};
@@ -80,11 +81,8 @@ pub(crate) fn breaks_order(site: &Site<'_>) -> bool
         Thing::Handler(number, task) => {
             notifies_up_to(&site.around.play.handlers, number, &task.notify)
         }
-        Thing::Play
-        | Thing::Block(_)
-        | Thing::Flush(_)
-        | Thing::Gathering(_)
-        | Thing::Task(_) => false,
+        Thing::Play | Thing::Block(_) | Thing::Flush(_) | Thing::Gathering(_) | Thing::Task(_) =>
+            false,
     }
 }
 

@@ -6,7 +6,7 @@ ghost use Rattle.pb_play.specs.Words.{AreSound, all_tasks, play_view};
 ghost use Rattle.pb_sig.specs.Words.{modules_of};
 ghost use Rattle.pb_rules.specs.Broken.{broken_at, first_broken, refusal_of, site_broken, sooner};
 ghost use Rattle.pb_rules.specs.Names.{names_in};
-ghost use Rattle.pb_rules.specs.Rules.{unread_asked, unread_offence};
+ghost use Rattle.pb_rules.specs.Rules.{steps_broken, unread_asked, unread_offence};
 ghost use Rattle.pb_rules.specs.Sites.{IsResolvedThere, site_view, task_of, tasks_at};
 
 use crate::broken::{Broken, Rule, sooner};
@@ -48,7 +48,7 @@ pub fn first_broken_unread(
 
 // V13 too, at the line of the play that is the first past its steps.
 fn with_steps(past: Option<u32>, found: Option<Broken>) -> Option<Broken>
-    ensures { result ≡ sooner (option_map (λ l. record { line = l; rule = Rule.Steps }) past) found }
+    ensures { result ≡ sooner (steps_broken past) found }
 {
     match past {
         Some(line) => sooner(

@@ -14,11 +14,9 @@ use std::sync::Arc;
 
 // Each play, its task that gathers facts, then the blocks and tasks of its sections and its
 // handlers, as they run.
-pub(crate) fn sites_of<'p>(
-    alloc: Global,
-    plays: &'p [Play],
-) -> Result<Vec<Site<'p>>, AllocError>
-    ensures lines { IfOk result (λ ss. map site_view ss.items ≡ sites_of (map play_view plays.now)) }
+pub(crate) fn sites_of<'p>(alloc: Global, plays: &'p [Play]) -> Result<Vec<Site<'p>>, AllocError>
+    ensures lines { IfOk result (λ ss. map site_view ss.items
+        ≡ sites_of (map play_view plays.now)) }
     ensures tasks { IfOk result (λ ss. tasks_at ss.items ≡ all_tasks plays.now) }
 {
     let mut sites = Vec::new(alloc);
@@ -28,11 +26,7 @@ pub(crate) fn sites_of<'p>(
     Ok(sites)
 }
 
-fn put_play<'p>(
-    alloc: Global,
-    sites: &mut Vec<Site<'p>>,
-    play: &'p Play,
-) -> Result<(), AllocError>
+fn put_play<'p>(alloc: Global, sites: &mut Vec<Site<'p>>, play: &'p Play) -> Result<(), AllocError>
     ensures { OnOk result (ArePut sites.old.items sites.new.items (play_sites (play_view play.now))
         (play_tasks play.now)) }
 {

@@ -26,6 +26,6 @@ returns c =
     let names : HaveSame given (vars_names (sites_of book)) = λ n. c.in_ok-given.ensures n ∙ ap (λ xs. is_among n (vars_names (map site_view xs))) c.deref.ensures.value ∙ ap (λ ss. is_among n (vars_names ss)) lines in
     let sound : AreSound ms (tasks_at c.deref-2.result.now) = subst (AreSound ms) (sym (ap tasks_at c.deref-2.ensures.value ∙ c.in_ok-sites.ensures.tasks)) c.requires.resolved in
     let found : c.in_ok-found.found ≡ first_broken (unread_asked ms v given) (sites_of book) = c.in_ok-found.ensures ms sound
-        ∙ ap (λ xs. first_broken (unread_asked ms v given) (map site_view xs)) c.deref-2.ensures.value
-        ∙ ap (first_broken (unread_asked ms v given)) lines in
+    ∙ ap (λ xs. first_broken (unread_asked ms v given) (map site_view xs)) c.deref-2.ensures.value
+    ∙ ap (first_broken (unread_asked ms v given)) lines in
     ap refusals c.with_steps.ensures ∙ book-told ms v book given c.line_past_steps.result c.in_ok-found.found names c.line_past_steps.ensures found

@@ -16,7 +16,7 @@ pub returns-clause-conditions : goal.returns-clause-conditions
 returns-clause-conditions c =
     let old = c.args.self.now.blocks.items in
     let all : c.push.new.self.items ≡ old ++ c.args.head ∷ [] = c.in_ok-push.ensures.items
-        ∙ ap (λ bs. bs ++ c.args.head ∷ []) (c.in_ok-extend_from_slice.ensures.items ∙ ap (λ bs. bs ++ c.deref.result.now) c.new-blocks.ensures.items ∙ c.deref.ensures.value) in
+    ∙ ap (λ bs. bs ++ c.args.head ∷ []) (c.in_ok-extend_from_slice.ensures.items ∙ ap (λ bs. bs ++ c.deref.result.now) c.new-blocks.ensures.items ∙ c.deref.ensures.value) in
     ap conditions_round c.in_ok-new.ensures.ok ∙ ap (conditions_after no_expressions) (heads c.args.head old c.push.new.self.items all) ∙ conditions-push no_expressions (map (λ b. b.now) old) c.args.head.now
 
 pub returns-clause-scope : goal.returns-clause-scope
@@ -24,5 +24,5 @@ returns-clause-scope c =
     let old = c.args.self.now.blocks.items in
     let vars = entries_view c.args.self.now.play.now.vars.items in
     let all : c.push.new.self.items ≡ old ++ c.args.head ∷ [] = c.in_ok-push.ensures.items
-        ∙ ap (λ bs. bs ++ c.args.head ∷ []) (c.in_ok-extend_from_slice.ensures.items ∙ ap (λ bs. bs ++ c.deref.result.now) c.new-blocks.ensures.items ∙ c.deref.ensures.value) in
+    ∙ ap (λ bs. bs ++ c.args.head ∷ []) (c.in_ok-extend_from_slice.ensures.items ∙ ap (λ bs. bs ++ c.deref.result.now) c.new-blocks.ensures.items ∙ c.deref.ensures.value) in
     ap scope_round c.in_ok-new.ensures.ok ∙ ap (scope_after vars) (heads c.args.head old c.push.new.self.items all) ∙ scope-push vars (map (λ b. b.now) old) c.args.head.now

@@ -1,5 +1,5 @@
 -- Sets of names, and names that are written.
-use Rattle.std.proofs.Common.{◌≡◌, ◌∙◌, ℕ, List, [], ◌∷◌, ◌++◌, Bool, true, false, ◌||◌, bytes_eq, map, Ordering, Less, Equal, Greater, refl, sym, ap, arith, Bor}
+use Rattle.std.proofs.Common.{◌≡◌, ◌∙◌, ℕ, List, [], ◌∷◌, ◌++◌, Bool, true, ◌||◌, bytes_eq, map, Ordering, Less, Equal, Greater, refl, sym, ap, arith, Bor}
 use Rattle.std.proofs.lemmas.Map.Text.{is_eq-slice_cmp}
 use Rattle.std.specs.List.{list_any}
 use Rattle.std.specs.Ordering.{is_eq, match_ordering, nat_cmp}
@@ -10,7 +10,6 @@ use Rattle.pb_semantics.proofs.Names.{same_name}
 use Rattle.pb_semantics.specs.Keeps.{is_among}
 use Rattle.pb_language.specs.Expression.{Name}
 use Rattle.pb_language.specs.Rules.{any_among}
-use Rattle.pb_rules.proofs.Told.{among-both}
 
 abbrev pub texts : List (Bor (List ℕ)) → List Name
 texts ks = map (λ k. k.now) ks

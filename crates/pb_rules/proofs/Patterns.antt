@@ -1,5 +1,5 @@
 -- Whether the words of a play's texts name hosts and groups.
-use Rattle.std.proofs.Common.{◌≡◌, ◌∙◌, List, [], ◌∷◌, ◌++◌, Bool, true, false, not, cond, Option, Some, None, refl, sym, ap}
+use Rattle.std.proofs.Common.{◌≡◌, List, [], ◌∷◌, ◌++◌, Bool, true, false, not, cond, Some, None, refl, ap}
 use Rattle.pb_language.specs.BookForm.{words_from}
 use Rattle.pb_language.specs.Expression.{Name}
 use Rattle.pb_inventory.specs.Patterns.{patterns_words}

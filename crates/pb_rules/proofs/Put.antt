@@ -1,8 +1,8 @@
 -- Lines that are put one behind the other are those of a book.
-use Rattle.std.proofs.Common.{◌≡◌, ◌∙◌, ℕ, zero, suc, ◌+◌, ◌<◌, ◌≤◌, List, [], ◌∷◌, ◌++◌, drop, get_or, length, map, append_assoc, append-nil, add-one, Option, Some, None, Bor, refl, sym, ap, subst, arith, rules}
+use Rattle.std.proofs.Common.{◌≡◌, ◌∙◌, ℕ, ◌+◌, ◌<◌, ◌≤◌, List, [], ◌∷◌, ◌++◌, drop, get_or, length, map, append_assoc, append-nil, add-one, Option, Some, Bor, refl, sym, ap, subst}
 use Rattle.std.proofs.lemmas.List.{drop_all, map-append}
 use Rattle.pb_language.specs.Book.{PlayData, Steps, block_step, no_steps}
-use Rattle.pb_language.specs.Expression.{Expressions, Parts, no_expressions, no_parts}
+use Rattle.pb_language.specs.Expression.{Expressions, Parts, no_expressions}
 use Rattle.pb_language.specs.Plays.{append_expressions, append_parts}
 use Rattle.pb_language.specs.Sites as language
 use Rattle.pb_language.specs.Sites.{a_block, a_handler, gathering_sites, handler_sites, play_sites, site, sites_in, sites_of}
@@ -10,7 +10,7 @@ use Rattle.pb_flow.specs.Nodes.{conditions_after, scope_after}
 use Rattle.pb_flow.proofs.Counts.{left, none-left, of-layer, view-block}
 use Rattle.pb_play.proofs.Sounds.{block-tasks as seen-tasks}
 use Rattle.pb_play.specs.Plays.{handler_view, head_view, play_view, step_layer, step_view, steps_view}
-use Rattle.pb_play.specs.Sound.{all_tasks, handler_tasks, joined, play_tasks, step_tasks, tasks_in}
+use Rattle.pb_play.specs.Sound.{all_tasks, handler_tasks, play_tasks, step_tasks, tasks_in}
 use Rattle.pb_play.specs.declared.play.Block.{Block}
 use Rattle.pb_play.specs.declared.play.Handler.{Handler}
 use Rattle.pb_play.specs.declared.play.Play.{Play}

@@ -1,4 +1,4 @@
-use Rattle.std.proofs.Common.{◌≡◌, ◌∙◌, ◌||◌, ◌+◌, drop, map, ap, sym}
+use Rattle.std.proofs.Common.{◌∙◌, ◌||◌, ◌+◌, drop, map, ap, sym}
 use Rattle.std.proofs.Math.Bool.{or_assoc}
 use Rattle.pb_semantics.specs.Keeps.{is_among}
 use Rattle.pb_language.specs.Rules.{part_names, vars_names}

@@ -1,8 +1,7 @@
-use Rattle.std.proofs.Common.{◌≡◌, ◌∙◌, List, Option, Some, map, not, ap, sym}
+use Rattle.std.proofs.Common.{◌≡◌, ◌∙◌, Some, not, ap, sym}
 use Rattle.pb_language.specs.Notify.{all_notified, names_something}
 use Rattle.pb_language.specs.Plays.{names_of_handlers}
 use Rattle.pb_language.specs.Rules.{breaks_notify, of_task, task_at_site}
-use Rattle.pb_play.specs.declared.play.Handler.{Handler}
 use Rattle.pb_task.specs.Tasks.{names_view, task_view}
 use Rattle.pb_task.specs.declared.task.Task.{Task}
 use Rattle.pb_rules.specs.Handlers.{handlers_names}

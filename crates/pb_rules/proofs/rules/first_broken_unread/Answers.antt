@@ -1,13 +1,12 @@
 use Rattle.std.proofs.Common.{◌≡◌, ◌∙◌, map, ap, sym, subst}
-use Rattle.pb_language.specs.Expression.{Name}
 use Rattle.pb_language.specs.Rules.{vars_names}
 use Rattle.pb_language.specs.Sites.{sites_of}
 use Rattle.pb_inventory.specs.Inventory.{inventory_view}
 use Rattle.pb_play.specs.Plays.{play_view}
-use Rattle.pb_play.specs.Sound.{AreSound, all_tasks}
+use Rattle.pb_play.specs.Sound.{AreSound}
 use Rattle.pb_semantics.specs.Keeps.{is_among}
 use Rattle.pb_sig.specs.Modules.{modules_of}
-use Rattle.pb_rules.specs.Broken.{first_broken, refusal_of}
+use Rattle.pb_rules.specs.Broken.{first_broken}
 use Rattle.pb_rules.specs.Names.{names_in}
 use Rattle.pb_rules.specs.Rules.{unread_asked}
 use Rattle.pb_rules.specs.Sites.{site_view, tasks_at}

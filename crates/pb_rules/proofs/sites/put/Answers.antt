@@ -1,4 +1,4 @@
-use Rattle.std.proofs.Common.{◌∷◌, [], subst, sym, ap}
+use Rattle.std.proofs.Common.{◌∷◌, [], subst}
 use Rattle.pb_rules.specs.Sites.{ArePut, site_in, task_list}
 use Rattle.pb_rules.specs.declared.site.Around.{Around}
 use Rattle.pb_rules.proofs.Put.{put_one}

@@ -1,4 +1,4 @@
-use Rattle.std.proofs.Common.{◌≡◌, ◌∙◌, ◌+◌, drop, map, ap, sym, arith}
+use Rattle.std.proofs.Common.{◌∙◌, ◌+◌, drop, map, ap, sym, arith}
 use Rattle.pb_language.specs.Rules.{too_many_steps}
 use Rattle.pb_play.specs.Plays.{play_view}
 use Rattle.pb_syntax.proofs.Left.{drop-at}

@@ -6,7 +6,6 @@ use Rattle.pb_template.specs.Entries.{entries_view}
 use Rattle.pb_flow.specs.Nodes.{conditions_after, scope_after}
 use Rattle.pb_flow.proofs.Arounds.{conditions-push, scope-push}
 use Rattle.pb_rules.specs.Sites.{conditions_round, scope_round}
-use Rattle.pb_rules.specs.declared.site.Around.{Around}
 use Rattle.pb_rules.proofs.site.Around.inside.Goals as goal
 
 heads : (h : Bor BlockHead) (bs cs : List (Bor BlockHead)) → cs ≡ bs ++ h ∷ [] → map (λ b. b.now) cs ≡ map (λ b. b.now) bs ++ h.now ∷ []

@@ -13,6 +13,8 @@ mod inventories;
 #[cfg(test)]
 mod plays;
 #[cfg(test)]
+mod rules;
+#[cfg(test)]
 mod tasks;
 #[cfg(test)]
 mod vars;

@@ -1,0 +1,9 @@
+pub mod Least
+pub mod Told
+pub mod NameSets
+pub mod Notified
+pub mod Counted
+pub mod Patterns
+pub mod Put
+pub mod Judged
+pub mod Modules

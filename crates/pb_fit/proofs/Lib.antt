@@ -1,0 +1,3 @@
+pub mod Conditions
+pub mod Arguments
+pub mod Sets

@@ -16,6 +16,33 @@ SHOWN = 20
 NO_SUCH_NAME = "a name of a host or a group that no inventory has is looked for in the texts by a rule of the book"
 LEFT_OUT = {"expr-145": NO_SUCH_NAME, "expr-148": NO_SUCH_NAME, "expr-149": NO_SUCH_NAME}
 
+# Forms of expressions, each with variables under which it is true, or with the code of its refusal.
+RESULT = {"changed": True, "failed": False, "skipped": True}
+FORMS = [
+    ("2 < 3", {}, "ok"),
+    ("not 3 < 3", {}, "ok"),
+    ("3 <= 3", {}, "ok"),
+    ("not 2 > 3", {}, "ok"),
+    ("-1 >= -2", {}, "ok"),
+    ("[1] == [1]", {}, "ok"),
+    ("'a' < 'b'", {}, "V04"),
+    ("[1, 2] | join(', ') == '1, 2'", {}, "ok"),
+    ("[true, false] | join('') == 'TrueFalse'", {}, "ok"),
+    ("[] | join(', ') == ''", {}, "ok"),
+    ("[1, 2] | length == 2", {}, "ok"),
+    ("'\u00e4b' | length == 2", {}, "ok"),
+    ("r | length == 1", {"r": {"x": 1}}, "ok"),
+    ("1 | length == 1", {}, "V04"),
+    ("a.b | default('z') == 'z'", {}, "ok"),
+    ("a.b | default('z') == 'z'", {"a": {"c": 1}}, "ok"),
+    ("a.b | default('z') == 'z'", {"a": 7}, "ok"),
+    ("a.b | default('z') == 'y'", {"a": {"b": "y"}}, "ok"),
+    ("1 | default(2) == 1", {}, "ok"),
+    ("t is changed and t is not failed and t is skipped", {"t": RESULT}, "ok"),
+    ("(t | default(t)) is changed", {"t": RESULT}, "ok"),
+    ("t is not skipped", {"t": {"changed": True, "failed": False}}, "ok"),
+]
+
 # The code of a refusal by what is said of the text.
 CODES = {
     "undefined": "V01",
@@ -155,6 +182,20 @@ def cases():
     for name in FILES:
         with open(TESTS / "cases" / name, encoding="utf-8") as lines:
             yield from map(json.loads, lines)
+    for number, form in enumerate(FORMS, 1):
+        yield form_case(f"form-{number:02}", *form)
+
+
+def form_case(name, text, variables, wanted):
+    """A case of one `assert` of that text, which holds or is refused with that code."""
+    recap = f"{HOST} : ok=1 changed=0 unreachable=0 failed=0 skipped=0 rescued=0 ignored=0\n"
+    return {
+        "id": name,
+        "book": json.dumps([{"hosts": "all", "tasks": [{"assert": {"that": text}}]}]),
+        "inventory": json.dumps({"all": {"hosts": [HOST], "vars": variables}}),
+        "answers": "{}",
+        "expected_stdout": recap if wanted == "ok" else f"refused {wanted} line 2 host {HOST}\n",
+    }
 
 
 def answers_to(program, questions):

@@ -9,11 +9,11 @@ mod environments;
 #[cfg(test)]
 mod expressions;
 #[cfg(test)]
-mod forms;
-#[cfg(test)]
 mod lattices;
 #[cfg(test)]
 mod others;
+#[cfg(test)]
+mod results;
 #[cfg(test)]
 mod signatures;
 #[cfg(test)]

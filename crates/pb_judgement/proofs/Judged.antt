@@ -8,7 +8,7 @@ use Rattle.pb_language.specs.Narrow.{cases_with}
 use Rattle.pb_language.specs.Task.{Action, Attempts, Task}
 use Rattle.pb_task.specs.declared.task.Work.{Work}
 use Rattle.pb_judgement.specs.declared.ends.Manner.{Manner}
-use Rattle.pb_judgement.specs.Ends.{Does, IsIn, doing, ended_in, failing_in, going_in, judged_in, results_in, skipped_in}
+use Rattle.pb_judgement.specs.Ends.{Does, IsJudgedIn, doing, ended_in, failing_in, going_in, judged_in, results_in, skipped_in}
 
 judged_by : (a : Action) (o : Option Expressions) → judged_cases a o ≡ cond (is_some o) (either_status (answered_cases a)) (answered_cases a)
 judged_by a None = refl
@@ -18,28 +18,28 @@ ended_by : (o : Option Attempts) (cs : Cases) → ended_cases o cs ≡ cond (is_
 ended_by None cs = refl
 ended_by (Some a) cs = refl
 
-skipped_as : (w : Work) (m : Manner) (t : Task) → Does w t → IsIn m t → skipped_cases t ≡ skipped_in m (doing w)
+skipped_as : (w : Work) (m : Manner) (t : Task) → Does w t → IsJudgedIn m t → skipped_cases t ≡ skipped_in m (doing w)
 skipped_as w m t does judged =
     ap (λ q. cond q (one (action_name t.action) skipped_shape false (recs skipped_slots) no_cases) no_cases) judged.skipped
     ∙ ap (λ n. cond m.may_skip (one n skipped_shape false (recs skipped_slots) no_cases) no_cases) does.named
 
-judged_as : (w : Work) (m : Manner) (t : Task) → Does w t → IsIn m t → judged_cases t.action t.failed_when ≡ judged_in m (answered_cases (doing w))
+judged_as : (w : Work) (m : Manner) (t : Task) → Does w t → IsJudgedIn m t → judged_cases t.action t.failed_when ≡ judged_in m (answered_cases (doing w))
 judged_as w m t does judged =
     judged_by t.action t.failed_when ∙ ap (λ q. cond q (either_status (answered_cases t.action)) (answered_cases t.action)) judged.failed
     ∙ ap (judged_in m) does.answers
 
-ended_as : (w : Work) (m : Manner) (t : Task) → Does w t → IsIn m t → ended_cases t.attempts (judged_cases t.action t.failed_when) ≡ ended_in m (judged_in m (answered_cases (doing w)))
+ended_as : (w : Work) (m : Manner) (t : Task) → Does w t → IsJudgedIn m t → ended_cases t.attempts (judged_cases t.action t.failed_when) ≡ ended_in m (judged_in m (answered_cases (doing w)))
 ended_as w m t does judged =
     let cs = judged_cases t.action t.failed_when in
     ended_by t.attempts cs ∙ ap (λ q. cond q (perhaps_failed cs) cs) judged.repeats ∙ ap (ended_in m) (judged_as w m t does judged)
 
-pub results_as : (w : Work) (m : Manner) (t : Task) → Does w t → IsIn m t → results_in m (doing w) ≡ all_results t
+pub results_as : (w : Work) (m : Manner) (t : Task) → Does w t → IsJudgedIn m t → results_in m (doing w) ≡ all_results t
 results_as w m t does judged = sym (ap₂ append_cases (skipped_as w m t does judged) (ended_as w m t does judged))
 
-pub going_as : (w : Work) (m : Manner) (t : Task) → Does w t → IsIn m t → going_in m (results_in m (doing w)) ≡ going_cases t
+pub going_as : (w : Work) (m : Manner) (t : Task) → Does w t → IsJudgedIn m t → going_in m (results_in m (doing w)) ≡ going_cases t
 going_as w m t does judged =
     ap (going_in m) (results_as w m t does judged) ∙ ap (λ q. cond q (all_results t) (cases_with (λ sh fl k. not fl) (all_results t))) (sym judged.ignores)
 
-pub failing_as : (w : Work) (m : Manner) (t : Task) → Does w t → IsIn m t → failing_in m (results_in m (doing w)) ≡ failing_cases t
+pub failing_as : (w : Work) (m : Manner) (t : Task) → Does w t → IsJudgedIn m t → failing_in m (results_in m (doing w)) ≡ failing_cases t
 failing_as w m t does judged =
     ap (failing_in m) (results_as w m t does judged) ∙ ap (λ q. cond q no_cases (cases_with (λ sh fl k. fl) (all_results t))) (sym judged.ignores)

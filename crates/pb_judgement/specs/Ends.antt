@@ -27,7 +27,7 @@ pub record Does (w : Work) (t : Task) : Type 0 where
   pub named : action_name t.action ≡ action_name (doing w)
 
 -- how its results are judged
-pub record IsIn (m : Manner) (t : Task) : Type 0 where
+pub record IsJudgedIn (m : Manner) (t : Task) : Type 0 where
   pub skipped : is_conditional t.conditions ≡ m.may_skip
   pub failed : is_some t.failed_when ≡ m.asks_failed
   pub repeats : is_some t.attempts ≡ m.repeats

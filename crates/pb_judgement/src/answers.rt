@@ -1,5 +1,5 @@
 // What a module or an action answers, and its result where it is skipped.
-ghost use Rattle.std.specs.Prelude.{[], ◌∷◌, ◌≡◌, IfOk, cond, false, string_bytes, true};
+ghost use Rattle.std.specs.Prelude.{◌≡◌, IfOk, cond, false, string_bytes, true};
 ghost use Rattle.pb_semantics.specs.Words.{no_cases, ok_shape, one, recs, skipped_shape};
 ghost use Rattle.pb_semantics.specs.Kind.{failure_shape};
 ghost use Rattle.pb_language.specs.Cases.{action_name, answered_cases, skipped_slots};
@@ -9,8 +9,8 @@ ghost use Rattle.pb_value.specs.Words.{cases_view, kind_view, shape_view};
 ghost use Rattle.pb_sig.specs.Words.{known_view};
 ghost use Rattle.pb_judgement.specs.Ends.{doing};
 
-use crate::shapes::{changed_record, ended_shape, message_record, skipped_record};
-use pb_sig::{Known, Module};
+use crate::shapes::{changed_record, ended_shape, message_record};
+use pb_sig::{Known, Module, case_of, shared_name, skipped_record};
 use pb_task::Work;
 use pb_value::{Case, Kind, Shape};
 use std::alloc::{AllocError, Global};
@@ -22,17 +22,11 @@ pub(crate) fn name_of(alloc: Global, work: &Work) -> Result<Arc<String>, AllocEr
 {
     match work {
         Work::Module(called) => called.shared_name().clone(),
-        Work::Debug => named(alloc, "debug"),
-        Work::SetFact => named(alloc, "set_fact"),
-        Work::Assert(_) => named(alloc, "assert"),
-        Work::Fail => named(alloc, "fail"),
+        Work::Debug => shared_name(alloc, "debug"),
+        Work::SetFact => shared_name(alloc, "set_fact"),
+        Work::Assert(_) => shared_name(alloc, "assert"),
+        Work::Fail => shared_name(alloc, "fail"),
     }
-}
-
-fn named(alloc: Global, name: &str) -> Result<Arc<String>, AllocError>
-    ensures { IfOk result (λ n. string_bytes n.value ≡ name.now) }
-{
-    Ok(Arc::new(alloc, String::from_str(alloc, name)?)?)
 }
 
 // What the module or the action answers: ok and not failed, or a failure.
@@ -48,20 +42,19 @@ pub(crate) fn answered_cases(
         Work::Module(called) => module_cases(alloc, action, called),
         Work::Debug => {
             let ended = changed_record(alloc)?;
-            lone_case(alloc, action, Shape::Ok, false, ended)
+            lone_case(alloc, action, Shape::Ok, false, &ended)
         }
         Work::SetFact => {
             let ended = changed_record(alloc)?;
-            lone_case(alloc, action, Shape::Ok, false, ended)
+            lone_case(alloc, action, Shape::Ok, false, &ended)
         }
         Work::Assert(_) => {
             let ended = message_record(alloc)?;
-            let failure = ended.clone()?;
-            both_cases(alloc, action, ended, failure)
+            both_cases(alloc, action, &ended, &ended)
         }
         Work::Fail => {
             let ended = message_record(alloc)?;
-            lone_case(alloc, action, Shape::Failure, true, ended)
+            lone_case(alloc, action, Shape::Failure, true, &ended)
         }
     }
 }
@@ -77,7 +70,7 @@ fn module_cases(
 {
     let ok = ended_shape(alloc, called.ok_shape())?;
     let failure = ended_shape(alloc, called.fail_shape())?;
-    both_cases(alloc, action, ok, failure)
+    both_cases(alloc, action, &ok, &failure)
 }
 
 // The result of what is skipped, where it may be.
@@ -92,7 +85,7 @@ pub(crate) fn skipped_cases(
 {
     if may_skip {
         let fields = skipped_record(alloc)?;
-        lone_case(alloc, action, Shape::Skipped, false, fields)
+        lone_case(alloc, action, Shape::Skipped, false, &fields)
     } else {
         Ok(Vec::new(alloc))
     }
@@ -102,47 +95,31 @@ pub(crate) fn skipped_cases(
 fn both_cases(
     alloc: Global,
     action: &Arc<String>,
-    ok: Kind,
-    failure: Kind,
+    ok: &Kind,
+    failure: &Kind,
 ) -> Result<Vec<Case<Kind>>, AllocError>
     ensures { IfOk result (λ v. cases_view v.items
-        ≡ one (string_bytes action.now.value) ok_shape false (kind_view ok)
-        (one (string_bytes action.now.value) failure_shape true (kind_view failure) no_cases)) }
+        ≡ one (string_bytes action.now.value) ok_shape false (kind_view ok.now)
+        (one (string_bytes action.now.value) failure_shape true (kind_view failure.now)
+        no_cases)) }
 {
     let ended = case_of(action, Shape::Ok, false, ok)?;
     let failed = case_of(action, Shape::Failure, true, failure)?;
     Ok(vec![in alloc; ended, failed]?)
 }
 
+// The one case.
 fn lone_case(
     alloc: Global,
     action: &Arc<String>,
     shape: Shape,
     failed: bool,
-    fields: Kind,
+    fields: &Kind,
 ) -> Result<Vec<Case<Kind>>, AllocError>
     ensures { IfOk result (λ v. cases_view v.items
-        ≡ one (string_bytes action.now.value) (shape_view shape) failed (kind_view fields)
+        ≡ one (string_bytes action.now.value) (shape_view shape) failed (kind_view fields.now)
         no_cases) }
 {
     let case = case_of(action, shape, failed, fields)?;
     Ok(vec![in alloc; case]?)
-}
-
-fn case_of(
-    action: &Arc<String>,
-    shape: Shape,
-    failed: bool,
-    fields: Kind,
-) -> Result<Case<Kind>, AllocError>
-    ensures { IfOk result (λ c. cases_view (c ∷ [])
-        ≡ one (string_bytes action.now.value) (shape_view shape) failed (kind_view fields)
-        no_cases) }
-{
-    Ok(Case {
-        action: action.clone()?,
-        shape,
-        failed,
-        fields,
-    })
 }

@@ -4,8 +4,8 @@ ghost use Rattle.pb_language.specs.Cases.{all_results, failing_cases, going_case
 ghost use Rattle.pb_language.specs.Narrow.{least_record, results_of};
 ghost use Rattle.pb_language.specs.Task.{Task};
 ghost use Rattle.pb_value.specs.Words.{cases_view, kind_view};
-ghost use Rattle.pb_judgement.specs.Ends.{Does, IsIn, case_kind, doing, ended_in, failing_in};
-ghost use Rattle.pb_judgement.specs.Ends.{going_in, judged_in, results_in};
+ghost use Rattle.pb_judgement.specs.Ends.{Does, IsJudgedIn, case_kind, doing, ended_in};
+ghost use Rattle.pb_judgement.specs.Ends.{failing_in, going_in, judged_in, results_in};
 
 use crate::answers::{answered_cases, name_of, skipped_cases};
 use crate::status::{cases_of_status, copies, either_status, perhaps_failed};
@@ -43,11 +43,11 @@ pub struct Ends {
 ///
 /// Want of memory.
 pub fn ends_of(alloc: Global, work: &Work, manner: Manner) -> Result<Ends, AllocError>
-    ensures going { IfOk result (λ e. (t : Task) → Does work.now t → IsIn manner t
+    ensures going { IfOk result (λ e. (t : Task) → Does work.now t → IsJudgedIn manner t
         → option_map kind_view e.going ≡ case_kind (going_cases t)) }
-    ensures failing { IfOk result (λ e. (t : Task) → Does work.now t → IsIn manner t
+    ensures failing { IfOk result (λ e. (t : Task) → Does work.now t → IsJudgedIn manner t
         → option_map kind_view e.failing ≡ case_kind (failing_cases t)) }
-    ensures all { IfOk result (λ e. (t : Task) → Does work.now t → IsIn manner t
+    ensures all { IfOk result (λ e. (t : Task) → Does work.now t → IsJudgedIn manner t
         → kind_view e.all ≡ results_of (all_results t)) }
 {
     let cases = results_in(alloc, work, manner)?;

@@ -90,7 +90,7 @@ fn add_of_status(
 fn is_of_status(case: &Case<Kind>, failed: bool) -> bool
     ensures { result ≡ cond failed case.now.failed (not case.now.failed) }
 {
-    if failed { case.failed } else { !case.failed }
+    case.failed == failed
 }
 
 // The same cases.

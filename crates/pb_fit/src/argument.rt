@@ -56,8 +56,7 @@ fn argument_unfit<K: Known>(
         (expanded b.trees (expr_view argument.now.value))) }
 {
     let found = infer_kind(alloc, &argument.value, known, taught)?;
-    let is_kept =
-        !found.kind.is_any() && is_of(&found.kind, argument.name.as_str(), parameters);
+    let is_kept = !found.kind.is_any() && is_of(&found.kind, argument.name.as_str(), parameters);
     Ok(asked(found.unfit, is_kept))
 }
 

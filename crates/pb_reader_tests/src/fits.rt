@@ -53,7 +53,13 @@ fn unheld(alloc: Global, text: &str) -> Result<Option<Unfit>, Fail> {
 fn undone(alloc: Global, text: &str) -> Result<Option<Unfit>, Fail> {
     let task = task_of(alloc, text)?;
     let nothing = Taught::nothing(alloc);
-    Ok(action_unfit(alloc, &task.work, &task.arguments, &variables(alloc)?, &nothing)?)
+    Ok(action_unfit(
+        alloc,
+        &task.work,
+        &task.arguments,
+        &variables(alloc)?,
+        &nothing,
+    )?)
 }
 
 #[test]
@@ -96,7 +102,10 @@ fn what_conditions_teach(rt: HostRuntime) -> Result<(), Fail> {
     let nothing = Taught::nothing(alloc);
     let untaught = action_unfit(alloc, &task.work, &task.arguments, &known, &nothing)?;
     assert_eq!(rt; untaught, Some(Unfit::Undefined));
-    let before = held(alloc, r#"{"ping":null,"when":["number","perhaps is defined"]}"#)?;
+    let before = held(
+        alloc,
+        r#"{"ping":null,"when":["number","perhaps is defined"]}"#,
+    )?;
     assert_eq!(rt; before.unfit, Some(Unfit::WrongKind));
     let found = action_unfit(alloc, &task.work, &task.arguments, &known, &before.taught)?;
     assert_eq!(rt; found, None);
@@ -265,13 +274,22 @@ fn assertions(rt: HostRuntime) -> Result<(), Fail> {
 #[test]
 fn values_that_are_set(rt: HostRuntime) -> Result<(), Fail> {
     let alloc = rt.alloc();
-    assert_eq!(rt; undone(alloc, r#"{"set_fact":{"a":"{{ number }}"}}"#)?, None);
     assert_eq!(rt;
-        undone(alloc, r#"{"set_fact":{"a":"{{ number }}","b":"{{ any }}"}}"#)?,
+        undone(alloc, r#"{"set_fact":{"a":"{{ number }}"}}"#)?,
+        None
+    );
+    assert_eq!(rt;
+        undone(
+            alloc,
+            r#"{"set_fact":{"a":"{{ number }}","b":"{{ any }}"}}"#
+        )?,
         Some(Unfit::WrongKind)
     );
     assert_eq!(rt;
-        undone(alloc, r#"{"set_fact":{"a":"{{ nowhere }}","b":"{{ any }}"}}"#)?,
+        undone(
+            alloc,
+            r#"{"set_fact":{"a":"{{ nowhere }}","b":"{{ any }}"}}"#
+        )?,
         Some(Unfit::Undefined)
     );
     Ok(())
@@ -280,7 +298,10 @@ fn values_that_are_set(rt: HostRuntime) -> Result<(), Fail> {
 #[test]
 fn names_that_are_set(rt: HostRuntime) -> Result<(), Fail> {
     let alloc = rt.alloc();
-    let task = task_of(alloc, r#"{"set_fact":{"b":"{{ number }}","a":"{{ texts }}"}}"#)?;
+    let task = task_of(
+        alloc,
+        r#"{"set_fact":{"b":"{{ number }}","a":"{{ texts }}"}}"#,
+    )?;
     let nothing = Taught::nothing(alloc);
     let sets = sets_of(alloc, &task.arguments, &variables(alloc)?, &nothing)?;
     match sets.as_slice() {

@@ -1,12 +1,15 @@
 -- The entries of a task that say what it does.
-use Rattle.std.proofs.Common.{◌≡◌, Bool, true, false, not, ◌&&◌, ◌||◌, cond, List, [], ◌∷◌, ◌++◌, Option, Some, None, bytes_eq, is_some, option_map, refl, sym, ap, ◌∙◌}
+use Rattle.std.proofs.Common.{◌≡◌, Bool, true, false, not, ◌&&◌, ◌||◌, cond, List, [], ◌∷◌, ◌++◌, Option, Some, None, bytes_eq, codes, is_some, option_map, refl, sym, ap, ◌∙◌}
 use Rattle.pb_semantics.specs.Data.{Data, Fields, no_fields, field}
 use Rattle.pb_semantics.specs.Keeps.{is_among}
 use Rattle.pb_language.specs.Expression.{Name}
 use Rattle.pb_language.specs.Keywords.{Standing, is_left_out, keywords_of}
 use Rattle.std.specs.List.{list_any}
-use Rattle.pb_language.specs.TaskForm.{is_action, keys_of, lone, without_prefix, works_in}
-use Rattle.pb_task.specs.Doings.{is_work}
+use Rattle.pb_semantics.proofs.Bools.{untrue}
+use Rattle.pb_semantics.specs.Signature.{ModuleData}
+use Rattle.pb_language.specs.Book.{Registry}
+use Rattle.pb_language.specs.TaskForm.{is_action, is_known_work, is_missing, keys_of, module_at, lone, without_prefix, works_in}
+use Rattle.pb_task.specs.Doings.{Doing, assert_that, debug, doing_in, fail, flush, is_work, module_of, set_fact}
 
 pub works-next : (s : Standing) (n : Name) (d : Data) (fs : Fields) → works_in s (field n d fs) ≡ cond (is_work s n) (field (without_prefix n) d (works_in s fs)) (works_in s fs)
 works-next s n d fs = at (is_among n (keywords_of s)) (is_left_out s n) where
@@ -64,3 +67,17 @@ mapped-some f (Some a) = refl
 pub is-so : (q : Bool) → false ≡ not q → q ≡ true
 is-so true h = refl
 is-so false h = absurd (cc)
+
+-- what a name stands for is known
+pub known_doing : (ms : Registry) (n : Name) (d : Doing) → Some d ≡ doing_in ms n → is_known_work ms n ≡ true
+known_doing ms n d h = at (bytes_eq n (codes "debug")) (bytes_eq n (codes "set_fact")) (bytes_eq n (codes "fail")) (bytes_eq n (codes "assert")) (bytes_eq n (codes "meta")) (module_at n ms) h where
+  at : (a b c e f : Bool) (o : Option ModuleData)
+      → Some d ≡ cond a (Some debug) (cond b (Some set_fact) (cond c (Some fail) (cond e (Some assert_that) (cond f (Some flush) (option_map module_of o)))))
+      → ((a || (b || (e || (c || false)))) || (f || not (is_missing o))) ≡ true
+  at true b c e f o h = refl
+  at false true c e f o h = refl
+  at false false c true f o h = refl
+  at false false true false f o h = refl
+  at false false false false true o h = refl
+  at false false false false false (Some m) h = refl
+  at false false false false false None h = untrue (sym (ap is_some h))

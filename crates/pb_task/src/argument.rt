@@ -39,22 +39,12 @@ pub(crate) fn work_with(
 {
     match doing {
         Doing::Flush => Ok(None),
-        Doing::Debug => Ok(Some(action(alloc, Work::Debug, given)?)),
-        Doing::SetFact => Ok(Some(action(alloc, Work::SetFact, given)?)),
-        Doing::Fail => Ok(Some(action(alloc, Work::Fail, given)?)),
+        Doing::Debug => Ok(Some((Work::Debug, arguments_in(alloc, None, given)?))),
+        Doing::SetFact => Ok(Some((Work::SetFact, arguments_in(alloc, None, given)?))),
+        Doing::Fail => Ok(Some((Work::Fail, arguments_in(alloc, None, given)?))),
         Doing::Assert => Ok(Some(assertion(alloc, given)?)),
         Doing::Module(module) => Ok(Some(call_of(alloc, module, given)?)),
     }
-}
-
-// An action that has no free form, with its arguments.
-fn action(alloc: Global, work: Work, given: &Value) -> Result<(Work, Vec<Entry>), TemplateFault>
-    ensures given { Gives (λ p. Some (worked p)) refused result
-        (option_map (work_view work) (arguments_in None (view given.now))) }
-    ensures ordered { IfOk result (λ p. are_ascending (entry_names p.1.items) ≡ true) }
-{
-    let arguments = arguments_in(alloc, None, given)?;
-    Ok((work, arguments))
 }
 
 // A call of the module.
@@ -122,6 +112,7 @@ fn lone_argument(alloc: Global, name: &str, given: &Value) -> Result<Vec<Entry>,
 // An `assert` with its arguments.
 fn assertion(alloc: Global, given: &Value) -> Result<(Work, Vec<Entry>), TemplateFault>
     ensures given { Gives (λ p. Some (worked p)) refused result (assertion (view given.now)) }
+    ensures resolved { IfOk result (λ p. (ms : Registry) → Resolves ms p.0) }
     ensures ordered { IfOk result (λ p. are_ascending (entry_names p.1.items) ≡ true) }
 {
     match given {
@@ -133,6 +124,7 @@ fn assertion(alloc: Global, given: &Value) -> Result<(Work, Vec<Entry>), Templat
 fn assertion_of(alloc: Global, fields: &Fields) -> Result<(Work, Vec<Entry>), TemplateFault>
     ensures given { Gives (λ p. Some (worked p)) refused result
         (assertion (rec (fields_view fields.now.entries))) }
+    ensures resolved { IfOk result (λ p. (ms : Registry) → Resolves ms p.0) }
     ensures ordered { IfOk result (λ p. are_ascending (entry_names p.1.items) ≡ true) }
 {
     let asserted = asserted_in(alloc, field_of(fields, THAT))?;

@@ -1,0 +1,10 @@
+pub mod Own
+pub mod KnownReads
+pub mod Whole
+pub mod Scopes
+pub mod AfterRounds
+pub mod Chains
+pub mod Ordered
+pub mod Searched
+pub mod Merged
+pub mod Pushes

@@ -1,0 +1,20 @@
+// The values of `vars` in scope at a task: their chains, and what expressions read through them.
+//
+//     let at_play = InScope::nothing(alloc).with(alloc, &play.vars)?;
+//     let at_task = at_play.with(alloc, &task.vars)?; // hides the play's of the same names
+//     if !at_task.has_long_chain(alloc)? {
+//         let answers = at_task.answers(alloc, &IsOwn)?; // each name asked once a round
+//         let own = at_task.holds(&IsOwn, &answers, &condition);
+//     }
+#![tactic(auto)]
+
+mod every;
+pub mod in_scope;
+pub mod laws;
+mod merge;
+mod names;
+pub mod read;
+mod rounds;
+
+pub use in_scope::{Answers, InScope};
+pub use read::{IsOwn, Question, Read};

@@ -1,3 +1,3 @@
-pub mod Conditions
-pub mod Arguments
-pub mod Sets
+pub mod InTurn
+pub mod Calls
+pub mod SetNames

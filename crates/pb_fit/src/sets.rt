@@ -39,7 +39,8 @@ pub fn sets_of<K: Known>(
     let mut sets = Vec::with_capacity(alloc, arguments.len())?;
     for argument in arguments {
         let name = argument.name.clone()?;
-        let kind = infer_kind(alloc, &argument.value, known, taught)?.kind;
+        let found = infer_kind(alloc, &argument.value, known, taught)?;
+        let kind = found.kind;
         sets.push(Set { name, kind })?;
     }
     Ok(sets)

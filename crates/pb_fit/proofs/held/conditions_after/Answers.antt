@@ -9,7 +9,7 @@ use Rattle.pb_syntax.proofs.Left.{drop-at}
 use Rattle.pb_expr.specs.FitView.{fault_view}
 use Rattle.pb_expr.specs.TaughtView.{scope_view}
 use Rattle.pb_expr.proofs.Findings.{first-none}
-use Rattle.pb_fit.proofs.Conditions.{condition-turn}
+use Rattle.pb_fit.proofs.InTurn.{condition-turn}
 use Rattle.pb_fit.proofs.held.conditions_after.Goals as goal
 
 pub loop-condition-preserved : goal.loop-condition-preserved

@@ -1,4 +1,4 @@
-use Rattle.pb_fit.proofs.Conditions.{conditions-append, expanded-append, narrow_each-append}
+use Rattle.pb_fit.proofs.InTurn.{conditions-append, expanded-append, narrow_each-append}
 use Rattle.pb_fit.proofs.laws.conditions_follow_each_other.Goals as goal
 
 pub returns-clause-fault : goal.returns-clause-fault

@@ -7,7 +7,7 @@ use Rattle.pb_syntax.proofs.Left.{drop-at}
 use Rattle.pb_expr.specs.TaughtView.{scope_view}
 use Rattle.pb_template.specs.Entries.{entries_view}
 use Rattle.pb_fit.specs.SetsView.{sets_view}
-use Rattle.pb_fit.proofs.Sets.{append_sets-push, append_sets-none}
+use Rattle.pb_fit.proofs.SetNames.{append_sets-push, append_sets-none}
 use Rattle.pb_fit.proofs.sets.sets_of.Goals as goal
 
 pub loop-argument-preserved : goal.loop-argument-preserved
@@ -22,8 +22,8 @@ loop-argument-preserved g c = λ a.
     let known = l.sets.items in
     let next : drop i items ≡ e ∷ drop (i + 1) items = drop-at items i e c.loop-argument-test.true c.argument-item.is in
     ap (λ ss. append_sets (sets_view a ss) rest) c.in_ok-push.ensures.items ∙ append_sets-push a known _ rest
-    ∙ ap (λ n. append_sets (sets_view a known) (sets n a (kind_view c.in_ok-infer_kind.field-0.kind) rest)) (ap string_bytes c.in_ok-name.ensures.cases)
-    ∙ ap (λ k. append_sets (sets_view a known) (sets (string_bytes e.name.value) a k rest)) c.in_ok-infer_kind.ensures.kind
+    ∙ ap (λ n. append_sets (sets_view a known) (sets n a (kind_view c.in_ok-found.found.kind) rest)) (ap string_bytes c.in_ok-name.ensures.cases)
+    ∙ ap (λ k. append_sets (sets_view a known) (sets (string_bytes e.name.value) a k rest)) c.in_ok-found.ensures.kind
     ∙ ap (λ es. append_sets (sets_view a known) (parts_set s a (parts_expanded b.trees (entries_view es)))) (sym next) ∙ l.invariant a
 
 pub returns : goal.returns

@@ -1,11 +1,11 @@
 -- The module that is called, and the first fault of its arguments.
-use Rattle.std.proofs.Common.{◌≡◌, ℕ, List, [], ◌∷◌, Bool, true, false, cond, bytes_eq, Option, Some, None, refl, sym, ap, ◌∙◌}
+use Rattle.std.proofs.Common.{◌≡◌, List, [], ◌∷◌, Bool, true, false, cond, bytes_eq, Option, Some, refl, sym, ap, ◌∙◌}
 use Rattle.pb_semantics.specs.Signature.{ModuleData}
 use Rattle.pb_semantics.proofs.Bools.{and-both, untrue}
 use Rattle.pb_semantics.proofs.Names.{same_name, own_name}
 use Rattle.pb_language.specs.Cases.{is_lawful_shape}
 use Rattle.pb_language.specs.Expression.{Name, Parts}
-use Rattle.pb_language.specs.Fit.{Fault, asks, first, malformed}
+use Rattle.pb_language.specs.Fit.{asks, first, malformed}
 use Rattle.pb_language.specs.Judgement.{action_fault, arguments_fault, is_lawful}
 use Rattle.pb_language.specs.Plays.{module_named}
 use Rattle.pb_language.specs.Scope.{Scope}

@@ -1,11 +1,13 @@
-// Tests of the public calls that read inventories, tasks, plays and books. They stand here, so that
-// no crate with code is proved twice.
+// Tests of the public calls that read inventories, tasks, plays and books, and ask what tasks do.
+// They stand here, so that no crate with code is proved twice.
 #![tactic(auto)]
 
 #[cfg(test)]
 mod books;
 #[cfg(test)]
 mod ends;
+#[cfg(test)]
+mod fits;
 #[cfg(test)]
 mod flows;
 #[cfg(test)]

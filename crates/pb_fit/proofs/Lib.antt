@@ -1,0 +1,3 @@
+pub mod InTurn
+pub mod Calls
+pub mod SetNames

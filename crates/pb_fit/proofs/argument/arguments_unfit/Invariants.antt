@@ -1,0 +1,14 @@
+use Rattle.std.proofs.Common.{◌≡◌, map, drop}
+use Rattle.pb_language.specs.Expansion.{parts_expanded}
+use Rattle.pb_language.specs.Judgement.{arguments_fault}
+use Rattle.pb_expr.specs.TaughtView.{scope_view}
+use Rattle.pb_sig.specs.Views.{parameter_view}
+use Rattle.pb_template.specs.Entries.{entries_view}
+use Rattle.pb_fit.proofs.argument.arguments_unfit.Given as goal
+
+abbrev pub invariant-loop-argument : goal.invariant-loop-argument
+invariant-loop-argument g l =
+    let b = g.K.Known.before l.known in
+    let c = scope_view b l.taught in
+    let ps = map parameter_view l.parameters in
+    arguments_fault c ps (parts_expanded b.trees (entries_view (drop l.argument-index l.arguments))) ≡ arguments_fault c ps (parts_expanded b.trees (entries_view l.arguments))

@@ -4,8 +4,10 @@ ghost use Rattle.pb_lattice.specs.Words.{Stands};
 
 use pb_lattice::environment::{is_below, join};
 use pb_lattice::{Environment, Environments};
+use pb_transfer::{Set, with_register, with_sets};
 use pb_value::{Kind, Slot};
 use std::alloc::Global;
+use std::sync::Arc;
 use std::test::Fail;
 
 fn one_name(alloc: Global) -> Result<Environments, Fail>
@@ -38,6 +40,27 @@ fn known_and_met(rt: HostRuntime) -> Result<(), Fail> {
     assert!(rt; is_number(&space, met, false));
     let none = space.empty();
     assert!(rt; is_below(&space, none, met) && !is_below(&space, met, none));
+    Ok(())
+}
+
+// What a task registers, and a name that it may set; a table that isn't over a name has no room.
+#[test]
+fn written(rt: HostRuntime) -> Result<(), Fail> {
+    let mut space = one_name(rt.alloc())?;
+    assert!(rt; space.has_name("rc") && !space.has_name("out"));
+    let none = space.empty();
+    let registered = with_register(&mut space, none, Some("rc"), &Kind::Int)?;
+    assert!(rt; is_number(&space, registered, true));
+    let set = Set {
+        name: Arc::new(rt.alloc(), String::from_str(rt.alloc(), "rc")?)?,
+        is_certain: false,
+        kind: Kind::Int,
+    };
+    let none = space.empty();
+    let set = with_sets(rt.alloc(), &mut space, none, &[set])?;
+    assert!(rt; is_number(&space, set, false));
+    let none = space.empty();
+    assert!(rt; with_register(&mut space, none, Some("out"), &Kind::Int).is_err());
     Ok(())
 }
 

@@ -9,6 +9,8 @@ mod environments;
 #[cfg(test)]
 mod expressions;
 #[cfg(test)]
+mod inferred;
+#[cfg(test)]
 mod lattices;
 #[cfg(test)]
 mod others;

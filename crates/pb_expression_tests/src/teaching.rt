@@ -1,11 +1,26 @@
 // What tests teach of the expressions behind them: their trees are made by hand.
-use crate::forms::is_worth;
+use pb_eval::eval::eval;
 use pb_expr::narrow::narrow;
 use pb_expr::{Comparison, Expr, KindFault, Names, Path, Root, Status, Taught, Unfit, kind_of};
-use pb_value::{Case, Kind, Shape, Slot, Slots, Value, put_slot};
+use pb_value::{Case, Fields, Kind, Shape, Slot, Slots, Value, put_slot, read_json};
 use std::alloc::Global;
 use std::sync::Arc;
 use std::test::Fail;
+
+// The expression has that value where the variables are those.
+fn is_worth(alloc: Global, expr: &Expr, variables: &str, expected: &str) -> Result<(), Fail> {
+    let variables = match &read_json(alloc, variables.as_bytes())? {
+        Value::Rec(fields) => fields.clone()?,
+        _ => Err("no variables")?,
+    };
+    let fields: &Fields = &variables;
+    let found = eval(alloc, expr, fields)?;
+    if pb_eval::equal::equal(&found, &read_json(alloc, expected.as_bytes())?) {
+        Ok(())
+    } else {
+        Err(expected)?
+    }
+}
 
 fn text(alloc: Global, letters: &str) -> Result<String, Fail> {
     Ok(String::from_str(alloc, letters)?)

@@ -23,8 +23,8 @@ fn put(alloc: Global, slots: &mut Slots, name: &str, slot: Slot<Kind>) -> Result
     Ok(put_slot(slots, String::from_str(alloc, name)?, slot)?)
 }
 
-// A truth value, a number, a text, a value of any kind, a list of at most two texts; and a text that
-// may be missing.
+// A truth value, a number, a text, a value of any kind, a list of at most two texts; and a text
+// that may be missing.
 fn variables(alloc: Global) -> Result<Slots, Fail> {
     let mut slots = Slots::new(alloc);
     put(alloc, &mut slots, "truth", Slot::always(Kind::Bool))?;

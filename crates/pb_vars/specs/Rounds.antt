@@ -1,7 +1,7 @@
 -- What names of `vars` answer to a question, round after round: a round asks each value once, and
 -- takes the answers of the round before for the names that it reads.
-use Rattle.std.specs.Prelude.{ℕ, zero, suc, List, [], ◌∷◌, Bool, true, not, cond, Option, Some, None}
-use Rattle.std.specs.Prelude.{is_some, unwrap_or}
+use Rattle.std.specs.Prelude.{ℕ, zero, suc, List, [], ◌∷◌, Bool, true, not, cond, Option, Some}
+use Rattle.std.specs.Prelude.{None, is_some, unwrap_or}
 use Rattle.std.specs.Str.{bytes_eq}
 use Rattle.pb_language.specs.Expression.{Name, variable, Parts, no_parts, part}
 use Rattle.pb_language.specs.Expansion.{part_named}

@@ -1,1 +1,2 @@
+mod Led
 mod Same

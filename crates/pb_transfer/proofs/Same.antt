@@ -1,7 +1,7 @@
 -- Environments in which the same is known of each name.
 use Rattle.std.proofs.Common.{◌≡◌, Bool, true, false, cond, refl, sym, ap, ◌∙◌, subst}
 use Rattle.std.specs.Str.{bytes_eq}
-use Rattle.pb_semantics.specs.Kind.{KindData, Slots, Spot, nowhere, spot, slot_at, put_slot, is_there}
+use Rattle.pb_semantics.specs.Kind.{KindData, Slots, Spot, nowhere, spot, slot_at, is_there}
 use Rattle.pb_semantics.proofs.Bools.{untrue}
 use Rattle.pb_semantics.proofs.PutSlots.{at_put}
 use Rattle.pb_language.specs.Expression.{Name}

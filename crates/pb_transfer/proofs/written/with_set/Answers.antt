@@ -1,10 +1,8 @@
 use Rattle.std.proofs.Common.{rules, string_bytes}
-use Rattle.std.proofs.lemmas.Result.{IfOk-weaker}
 use Rattle.pb_value.specs.KindView.{is_always, kind_view}
-use Rattle.pb_language.specs.Wells.{WellSpot}
 use Rattle.pb_lattice.specs.Environments.{exit_of, spot_in}
 use Rattle.pb_lattice.proofs.Exits.{stands_well}
-use Rattle.pb_transfer.proofs.Same.{known_well, same_set, set_well}
+use Rattle.pb_transfer.proofs.Same.{known_well, set_well}
 use Rattle.pb_transfer.proofs.written.with_set.Goals as goal
 
 pub put-requires-clause-well : goal.put-requires-clause-well

@@ -1,6 +1,6 @@
 // With which results tasks may go on and fail.
 use crate::plays::plays_of;
-use pb_judgement::{Ends, Manner, ends_of, looped};
+use pb_judgement::{Ends, Manner, ends_of, looped, own_of};
 use pb_play::{Play, Step};
 use pb_task::Task;
 use pb_value::Kind;
@@ -89,5 +89,25 @@ fn what_a_loop_registers(rt: HostRuntime) -> Result<(), Fail> {
         }
         _ => return Err(Fail::from("no record")),
     }
+    Ok(())
+}
+
+// How many cases a result may be of.
+fn cases(kind: &Kind) -> usize {
+    match kind {
+        Kind::Result(cases, _) => cases.len(),
+        _ => 0,
+    }
+}
+
+#[test]
+fn own_results(rt: HostRuntime) -> Result<(), Fail> {
+    let plays = plays(rt.alloc())?;
+    let asked = Manner {
+        asks_failed: true,
+        ..ALONE
+    };
+    let own = own_of(rt.alloc(), &task_at(&plays, 1)?.work, asked)?;
+    assert!(rt; cases(&own.answered) == 1 && cases(&own.judged) == 2);
     Ok(())
 }

@@ -13,6 +13,8 @@ mod flows;
 #[cfg(test)]
 mod inventories;
 #[cfg(test)]
+mod outlooks;
+#[cfg(test)]
 mod plays;
 #[cfg(test)]
 mod rules;

@@ -1,7 +1,7 @@
 // The first rule that a book breaks.
 use pb_inventory::Inventory;
 use pb_play::{PlayFault, read_plays};
-use pb_rules::{Broken, Rule, first_broken_unread};
+use pb_rules::{Broken, Rule, first_broken};
 use pb_sig::Registry;
 use pb_value::read_json;
 use std::alloc::Global;
@@ -33,7 +33,7 @@ fn broken_in(alloc: Global, text: &str) -> Result<Option<(u32, Rule)>, Fail> {
         Err(_) => return Err("no JSON")?,
     };
     match read_plays(alloc, &registry, &value) {
-        Ok(plays) => Ok(told(first_broken_unread(alloc, &registry, &inventory, &plays)?)),
+        Ok(plays) => Ok(told(first_broken(alloc, &registry, &inventory, &plays)?)),
         Err(PlayFault::Refused(_)) => Err("no book")?,
         Err(PlayFault::NoMemory) => Err("no memory")?,
     }
@@ -150,5 +150,138 @@ fn steps_of_plays(rt: HostRuntime) -> Result<(), Fail> {
         past_deep(alloc, r#"{"ping":null},{"ping":null}"#)?,
         Some((27, Rule::Steps))
     );
+    Ok(())
+}
+
+// A play of one task that reads the first of a chain of names, the last of which has this value.
+fn with_chain(alloc: Global, last: &str) -> Result<Option<(u32, Rule)>, Fail> {
+    let book = format!(in alloc;
+        r#"[{{"hosts":"h1","vars":{{"a":"{{{{ b }}}}","b":"{{{{ c }}}}","c":"{{{{ d }}}}",
+        "d":"{{{{ e }}}}","e":"{{{{ f }}}}","f":"{{{{ g }}}}","g":"{{{{ h }}}}","i":1,"h":{last}}},
+        "tasks":[{{"debug":{{"msg":"{{{{ a }}}}"}}}}]}}]"#
+    )?;
+    broken_in(alloc, book.as_str())
+}
+
+#[test]
+fn chains_of_vars(rt: HostRuntime) -> Result<(), Fail> {
+    let alloc = rt.alloc();
+    // eight names, then nine of them, and a cycle
+    assert_eq!(rt; with_chain(alloc, "1")?, None);
+    assert_eq!(rt; with_chain(alloc, r#""{{ i }}""#)?, Some((2, Rule::Chains)));
+    assert_eq!(rt; with_chain(alloc, r#""{{ a }}""#)?, Some((2, Rule::Chains)));
+    Ok(())
+}
+
+// A block whose `vars` give `far` that value, round a task with that condition.
+fn with_far(alloc: Global, far: &str, condition: &str) -> Result<Option<(u32, Rule)>, Fail> {
+    let book = format!(in alloc;
+        r#"[{{"hosts":"h1","tasks":[{{"vars":{{"far":"{{{{ {far} }}}}"}},
+        "block":[{{"ping":null,"when":"{condition}"}}]}}]}}]"#
+    )?;
+    broken_in(alloc, book.as_str())
+}
+
+#[test]
+fn hosts_that_are_read(rt: HostRuntime) -> Result<(), Fail> {
+    let alloc = rt.alloc();
+    let known = "hostvars['h2'].x == 1";
+    assert_eq!(rt; with_far(alloc, known, "far")?, None);
+    let unknown = "hostvars['zz'].x == 1";
+    assert_eq!(rt; with_far(alloc, unknown, "far")?, Some((3, Rule::Known)));
+    assert_eq!(rt; with_far(alloc, unknown, "far is defined")?, Some((3, Rule::Known)));
+    // what is only tested names nothing, and a value that isn't read is no matter
+    assert_eq!(rt; with_far(alloc, "hostvars['zz'].x is defined", "far")?, None);
+    assert_eq!(rt; with_far(alloc, unknown, "true")?, None);
+    // places of groups
+    assert_eq!(rt; with_far(alloc, "groups['web'][0] == 'h1'", "far")?, None);
+    assert_eq!(rt; with_far(alloc, "groups['web'][1] == 'h1'", "far")?, Some((3, Rule::Known)));
+    Ok(())
+}
+
+// A task that fails by that condition, where `far` has that value.
+fn failed_by(alloc: Global, far: &str, condition: &str) -> Result<Option<(u32, Rule)>, Fail> {
+    let book = format!(in alloc;
+        r#"[{{"hosts":"h1","vars":{{"far":"{{{{ {far} }}}}"}},
+        "tasks":[{{"ping":null,"register":"out","failed_when":"{condition}"}}]}}]"#
+    )?;
+    broken_in(alloc, book.as_str())
+}
+
+#[test]
+fn results_are_judged_by_own_values(rt: HostRuntime) -> Result<(), Fail> {
+    let alloc = rt.alloc();
+    assert_eq!(rt; failed_by(alloc, "x == 1", "far")?, None);
+    let other = "hostvars['h2'].x == 1";
+    assert_eq!(rt; failed_by(alloc, other, "far")?, Some((2, Rule::Own)));
+    assert_eq!(rt; failed_by(alloc, other, "out.changed")?, None);
+    assert_eq!(rt; failed_by(alloc, "x", other)?, Some((2, Rule::Own)));
+    Ok(())
+}
+
+// Each of eight names reads the one before.
+const EIGHT: &str = r#""v1":1,"v2":"{{ v1 }}","v3":"{{ v2 }}","v4":"{{ v3 }}","v5":"{{ v4 }}",
+    "v6":"{{ v5 }}","v7":"{{ v6 }}","v8":"{{ v7 }}""#;
+
+// A play with these values of `vars` and these tasks.
+fn broken_with(alloc: Global, vars: &str, tasks: &str) -> Result<Option<(u32, Rule)>, Fail> {
+    let book = format!(in alloc;
+        r#"[{{"hosts":"h1","vars":{{{vars}}},"tasks":[{tasks}]}}]"#
+    )?;
+    broken_in(alloc, book.as_str())
+}
+
+#[test]
+fn chains_of_vars(rt: HostRuntime) -> Result<(), Fail> {
+    let alloc = rt.alloc();
+    let nine = format!(in alloc; r#"{EIGHT},"v9":"{{{{ v8 }}}}""#)?;
+    let closed = r#"{"ping":null},{"ping":null,"vars":{"b":"{{ a }}"}}"#;
+    let cycle = r#""a":"{{ b }}","b":"{{ a }}""#;
+    assert_eq!(rt; broken_with(alloc, EIGHT, r#"{"debug":{"msg":"{{ v8 }}"}}"#)?, None);
+    assert_eq!(rt;
+        broken_with(alloc, nine.as_str(), r#"{"ping":null}"#)?,
+        Some((2, Rule::Chains))
+    );
+    assert_eq!(rt;
+        broken_with(alloc, r#""a":"{{ b }}","b":1"#, closed)?,
+        Some((3, Rule::Chains))
+    );
+    assert_eq!(rt;
+        broken_with(alloc, cycle, r#"{"meta":"flush_handlers"}"#)?,
+        Some((2, Rule::Chains))
+    );
+    Ok(())
+}
+
+#[test]
+fn hosts_that_tasks_read(rt: HostRuntime) -> Result<(), Fail> {
+    let alloc = rt.alloc();
+    let known = r#"{"debug":{"msg":"{{ hostvars['h2'].a }} {{ groups['web'][0] }}"}}"#;
+    let spared = r#"{"ping":null,"when":"hostvars['zz'].a is defined or 'zz' in groups"},
+        {"debug":{"msg":"{{ hostvars['zz'].a | default(1) }}"}}"#;
+    let unknown = r#"{"ping":null},{"ping":null,"when":"hostvars['zz'].a == 1"}"#;
+    let past = r#"{"debug":{"msg":"{{ groups['web'][1] }}"}}"#;
+    let through = r#"{"ping":null},{"debug":{"msg":"{{ a }}"}}"#;
+    let far = r#""a":"{{ hostvars['zz'].a }}""#;
+    assert_eq!(rt; broken_with(alloc, "", known)?, None);
+    assert_eq!(rt; broken_with(alloc, "", spared)?, None);
+    assert_eq!(rt; broken_with(alloc, "", unknown)?, Some((3, Rule::Known)));
+    assert_eq!(rt; broken_with(alloc, "", past)?, Some((2, Rule::Known)));
+    assert_eq!(rt; broken_with(alloc, far, through)?, Some((3, Rule::Known)));
+    Ok(())
+}
+
+#[test]
+fn others_in_what_is_made_of_results(rt: HostRuntime) -> Result<(), Fail> {
+    let alloc = rt.alloc();
+    let when = r#"{"ping":null,"when":"'h1' in ansible_play_batch"}"#;
+    let batch = r#"{"ping":null},{"ping":null,"failed_when":"'h1' in ansible_play_batch"}"#;
+    let other = r#"{"ping":null,"changed_when":"hostvars['h2'].a == 1"}"#;
+    let through = r#"{"ping":null,"changed_when":"a == 1"}"#;
+    let far = r#""a":"{{ hostvars['h2'].a }}""#;
+    assert_eq!(rt; broken_with(alloc, "", when)?, None);
+    assert_eq!(rt; broken_with(alloc, "", batch)?, Some((3, Rule::Own)));
+    assert_eq!(rt; broken_with(alloc, "", other)?, Some((2, Rule::Own)));
+    assert_eq!(rt; broken_with(alloc, far, through)?, Some((2, Rule::Own)));
     Ok(())
 }

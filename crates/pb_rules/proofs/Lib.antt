@@ -7,3 +7,6 @@ pub mod Patterns
 pub mod Put
 pub mod Judged
 pub mod Modules
+pub mod InventoryNames
+pub mod TaskReads
+pub mod ScopesRound

@@ -1,14 +1,14 @@
 -- The rules in their order, and what they say of a book.
-use Rattle.std.specs.Prelude.{◌≡◌, ℕ, List, [], ◌∷◌, Bool, false, not, Option, None, option_map}
+use Rattle.std.specs.Prelude.{◌≡◌, ℕ, List, [], ◌∷◌, Bool, Option, None, option_map}
 use Rattle.pb_language.specs.Book.{Book, Registry}
 use Rattle.pb_language.specs.Expression.{Name}
 use Rattle.pb_language.specs.Program.{Inventory}
 use Rattle.pb_language.specs.Rules.{breaks_chains, breaks_give, breaks_known, breaks_names}
 use Rattle.pb_language.specs.Rules.{breaks_notify, breaks_order, breaks_parameters, too_many_steps}
-use Rattle.pb_language.specs.Rules.{rules_offence, vars_names, words_known}
-use Rattle.pb_language.specs.Sites.{Site, Thing, a_play, sites_of}
-use Rattle.pb_language.specs.Verdict.{Refusal, earlier}
-use Rattle.pb_rules.specs.Broken.{Asked, first_broken, refusal_of, rules_broken, sooner}
+use Rattle.pb_language.specs.Rules.{rules_offence, vars_names}
+use Rattle.pb_language.specs.Sites.{Site, sites_of}
+use Rattle.pb_language.specs.Verdict.{Refusal}
+use Rattle.pb_rules.specs.Broken.{Asked, first_broken, refusal_of, sooner}
 use Rattle.pb_rules.specs.declared.broken.Broken.{Broken}
 use Rattle.pb_rules.specs.declared.broken.Rule.{Rule}
 use Rattle.pb_rules.specs.declared.broken.Rule.TheVariants as rule
@@ -19,11 +19,6 @@ past_steps l = record { code = 13; line = l; host = None }
 -- V13, at the line of the play with which there are too many
 abbrev pub steps_broken : Option ℕ → Option Broken
 steps_broken o = option_map (λ l. record { line = l; rule = rule.Steps }) o
-
--- V06 of a play alone: a word of its pattern names nothing
-abbrev pub breaks_pattern : Inventory → Site → Thing → Bool
-breaks_pattern v s a_play = not (words_known v s.play.pattern)
-breaks_pattern v s x = false
 
 abbrev pub asked : Rule → (Site → Bool) → Asked
 asked r f = record { rule = r; breaks = f }
@@ -38,20 +33,6 @@ all_asked ms v given = asked rule.Parameters (breaks_parameters ms)
     ∷ asked rule.Order (λ s. breaks_order s s.thing)
     ∷ asked rule.Own breaks_give
     ∷ []
-
--- those of them that read no expression: V07, V08, V06 of plays, V05 and V12
-abbrev pub unread_asked : Registry → Inventory → List Name → List Asked
-unread_asked ms v given = asked rule.Parameters (breaks_parameters ms)
-    ∷ asked rule.Names (breaks_names given)
-    ∷ asked rule.Known (λ s. breaks_pattern v s s.thing)
-    ∷ asked rule.Notified breaks_notify
-    ∷ asked rule.Order (λ s. breaks_order s s.thing)
-    ∷ []
-
--- the first offence of a book against V13 and those, each rule as in `rules_offence`
-abbrev pub unread_offence : Registry → Inventory → Book → Option Refusal
-unread_offence ms v b = earlier (too_many_steps 0 b)
-    (rules_broken (unread_asked ms v (vars_names (sites_of b))) (sites_of b))
 
 -- the sooner of V13 and of the first rule that some line breaks is the offence of the book
 abbrev pub FirstIsTold : Type 0

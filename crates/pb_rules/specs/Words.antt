@@ -1,3 +1,3 @@
 -- The words of this crate that the contracts of others cite, from one place.
 pub use Rattle.pb_rules.specs.Broken.{code_of, first_broken, refusal_of, sooner}
-pub use Rattle.pb_rules.specs.Rules.{all_asked, steps_broken, unread_asked, unread_offence}
+pub use Rattle.pb_rules.specs.Rules.{all_asked, steps_broken}

@@ -1,21 +1,24 @@
 // The rules of a book that need no flow of environments, judged on the whole book.
 //
 //     let plays = read_plays(alloc, &registry, &value)?;
-//     if let Some(broken) = first_broken_unread(alloc, &registry, &inventory, &plays)? {
+//     if let Some(broken) = first_broken(alloc, &registry, &inventory, &plays)? {
 //         let Broken { line, rule } = broken; // `Rule::Parameters` is V07
 //     }
 #![tactic(auto)]
 
 pub mod broken;
+mod expressions;
+mod known;
 pub mod laws;
 mod names;
 mod notify;
 mod parameters;
 mod pattern;
+mod reads;
 pub mod rules;
 pub(crate) mod site;
 mod sites;
 mod steps;
 
 pub use broken::{Broken, Rule};
-pub use rules::first_broken_unread;
+pub use rules::first_broken;

@@ -1,15 +1,17 @@
 // A line of a book, with what stands round it.
 ghost use Rattle.std.specs.Prelude.{◌++◌, ◌∷◌, [], ◌≡◌, IfOk, option_map};
 ghost use Rattle.pb_language.specs.Plays.{append_expressions, append_parts};
-ghost use Rattle.pb_language.specs.Rules.{task_at_site};
+ghost use Rattle.pb_language.specs.Rules.{is_task_line, task_at_site};
 ghost use Rattle.pb_syntax.specs.Words.{exprs_view};
 ghost use Rattle.pb_template.specs.Words.{entries_view};
 ghost use Rattle.pb_task.specs.Words.{task_view};
+ghost use Rattle.pb_vars.specs.Words.{HaveSame, in_scope};
 ghost use Rattle.pb_rules.specs.Sites.{conditions_round, scope_round, site_view, task_of};
 
 use pb_play::{BlockHead, Play};
 use pb_task::Task;
 use pb_template::Entry;
+use pb_vars::InScope;
 use std::alloc::{AllocError, Global};
 use std::sync::Arc;
 
@@ -76,6 +78,19 @@ impl<'p> Around<'p> {
         };
         Ok(Arc::new(alloc, around)?)
     }
+
+    // The values of `vars` in scope there, the blocks' over the play's.
+    fn scope(&self, alloc: Global) -> Result<InScope<'p>, AllocError>
+        ensures { IfOk result (λ s. HaveSame (in_scope s) (scope_round self.now)) }
+    {
+        let nothing = InScope::nothing(alloc);
+        let mut scope = nothing.with(alloc, &self.play.vars)?;
+        for index in 0..self.blocks.len() {
+            let head: &'p BlockHead = self.blocks[index];
+            scope = scope.with(alloc, &head.vars)?;
+        }
+        Ok(scope)
+    }
 }
 
 impl<'p> Site<'p> {
@@ -115,6 +130,36 @@ impl<'p> Site<'p> {
             Thing::Task(task) => &task.vars,
             Thing::Handler(_, task) => &task.vars,
             Thing::Flush(_) | Thing::Gathering(_) => &[],
+        }
+    }
+
+    // Whether tasks run at the line.
+    pub(crate) fn is_task_line(&self) -> bool
+        ensures { result ≡ is_task_line (site_view self.now).thing }
+    {
+        match self.thing {
+            Thing::Play | Thing::Block(_) => false,
+            Thing::Flush(_) | Thing::Gathering(_) | Thing::Task(_) | Thing::Handler(_, _) => true,
+        }
+    }
+
+    // The values of `vars` in scope at the line, its own over those round it.
+    pub(crate) fn scope(&self, alloc: Global) -> Result<InScope<'p>, AllocError>
+        ensures { IfOk result (λ s. HaveSame (in_scope s) (site_view self.now).scope) }
+    {
+        match self.thing {
+            Thing::Play => {
+                let nothing = InScope::nothing(alloc);
+                nothing.with(alloc, self.vars())
+            }
+            Thing::Block(_)
+            | Thing::Flush(_)
+            | Thing::Gathering(_)
+            | Thing::Task(_)
+            | Thing::Handler(_, _) => {
+                let outer = self.around.scope(alloc)?;
+                outer.with(alloc, self.vars())
+            }
         }
     }
 }

@@ -189,13 +189,22 @@ fn hosts_that_are_read(rt: HostRuntime) -> Result<(), Fail> {
     assert_eq!(rt; with_far(alloc, known, "far")?, None);
     let unknown = "hostvars['zz'].x == 1";
     assert_eq!(rt; with_far(alloc, unknown, "far")?, Some((3, Rule::Known)));
-    assert_eq!(rt; with_far(alloc, unknown, "far is defined")?, Some((3, Rule::Known)));
+    assert_eq!(rt;
+        with_far(alloc, unknown, "far is defined")?,
+        Some((3, Rule::Known))
+    );
     // what is only tested names nothing, and a value that isn't read is no matter
-    assert_eq!(rt; with_far(alloc, "hostvars['zz'].x is defined", "far")?, None);
+    assert_eq!(rt;
+        with_far(alloc, "hostvars['zz'].x is defined", "far")?,
+        None
+    );
     assert_eq!(rt; with_far(alloc, unknown, "true")?, None);
     // places of groups
     assert_eq!(rt; with_far(alloc, "groups['web'][0] == 'h1'", "far")?, None);
-    assert_eq!(rt; with_far(alloc, "groups['web'][1] == 'h1'", "far")?, Some((3, Rule::Known)));
+    assert_eq!(rt;
+        with_far(alloc, "groups['web'][1] == 'h1'", "far")?,
+        Some((3, Rule::Known))
+    );
     Ok(())
 }
 
@@ -225,9 +234,7 @@ const EIGHT: &str = r#""v1":1,"v2":"{{ v1 }}","v3":"{{ v2 }}","v4":"{{ v3 }}","v
 
 // A play with these values of `vars` and these tasks.
 fn broken_with(alloc: Global, vars: &str, tasks: &str) -> Result<Option<(u32, Rule)>, Fail> {
-    let book = format!(in alloc;
-        r#"[{{"hosts":"h1","vars":{{{vars}}},"tasks":[{tasks}]}}]"#
-    )?;
+    let book = format!(in alloc; r#"[{{"hosts":"h1","vars":{{{vars}}},"tasks":[{tasks}]}}]"#)?;
     broken_in(alloc, book.as_str())
 }
 
@@ -237,7 +244,10 @@ fn chains_of_vars(rt: HostRuntime) -> Result<(), Fail> {
     let nine = format!(in alloc; r#"{EIGHT},"v9":"{{{{ v8 }}}}""#)?;
     let closed = r#"{"ping":null},{"ping":null,"vars":{"b":"{{ a }}"}}"#;
     let cycle = r#""a":"{{ b }}","b":"{{ a }}""#;
-    assert_eq!(rt; broken_with(alloc, EIGHT, r#"{"debug":{"msg":"{{ v8 }}"}}"#)?, None);
+    assert_eq!(rt;
+        broken_with(alloc, EIGHT, r#"{"debug":{"msg":"{{ v8 }}"}}"#)?,
+        None
+    );
     assert_eq!(rt;
         broken_with(alloc, nine.as_str(), r#"{"ping":null}"#)?,
         Some((2, Rule::Chains))

@@ -3,11 +3,11 @@ use Rattle.std.proofs.Common.{◌≡◌, ◌∙◌, ℕ, zero, suc, ◌+◌, ◌
 use Rattle.std.proofs.lemmas.List.{drop_all}
 use Rattle.std.specs.Map.{lookup}
 use Rattle.pb_language.specs.Expression.{Name}
-use Rattle.pb_language.specs.Plays.{group_named, is_host}
+use Rattle.pb_language.specs.Plays.{is_host}
 use Rattle.pb_language.specs.Rules.{is_group}
 use Rattle.pb_language.specs.World.{HostVariables, member_of, name_at}
 use Rattle.pb_inventory.proofs.PatternHosts.{group-found}
-use Rattle.pb_inventory.specs.Numbered.{name_of, named}
+use Rattle.pb_inventory.specs.Numbered.{named}
 use Rattle.pb_inventory.specs.Views.{group_view}
 
 -- the next host, and those behind it

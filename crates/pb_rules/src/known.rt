@@ -1,5 +1,5 @@
 // Whether the inventory has the hosts and groups that expressions name.
-ghost use Rattle.std.specs.Prelude.{◌≡◌, IfOk, codes, is_some, string_bytes};
+ghost use Rattle.std.specs.Prelude.{◌≡◌, IfOk, is_some, string_bytes};
 ghost use Rattle.pb_semantics.specs.Words.{is_among};
 ghost use Rattle.pb_language.specs.Plays.{is_host};
 ghost use Rattle.pb_language.specs.Rules.{is_group, is_known_member, is_known_term};

@@ -72,8 +72,8 @@ fn first_at(
     sites: &[Site<'_>],
 ) -> Result<Option<Broken>, AllocError>
     ensures { IfOk result (λ o. (ms : Modules) → AreSound ms (tasks_at sites.now)
-        → o ≡ first_broken (all_asked ms (inventory_view known.now.inventory.now) (names_in given.now))
-        (map site_view sites.now)) }
+        → o ≡ first_broken (all_asked ms (inventory_view known.now.inventory.now)
+        (names_in given.now)) (map site_view sites.now)) }
 {
     let mut first = None;
     for site in sites {
@@ -109,8 +109,8 @@ fn rule_at(
     site: &Site<'_>,
 ) -> Result<Option<Rule>, AllocError>
     ensures { IfOk result (λ o. (ms : Modules) → IsResolvedThere ms (task_of site.now.thing)
-        → o ≡ site_broken (all_asked ms (inventory_view known.now.inventory.now) (names_in given.now))
-        (site_view site.now)) }
+        → o ≡ site_broken (all_asked ms (inventory_view known.now.inventory.now)
+        (names_in given.now)) (site_view site.now)) }
 {
     if breaks_parameters(site) {
         return Ok(Some(Rule::Parameters));

@@ -1,0 +1,9 @@
+pub mod WalksUp
+pub mod SameVisits
+pub mod Agreeing
+pub mod SameWalks
+pub mod SameOffence
+pub mod SameBudget
+pub mod SameWrites
+pub mod SameLaters
+pub mod Settles

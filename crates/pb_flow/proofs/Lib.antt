@@ -11,3 +11,4 @@ pub mod Linked
 pub mod Leads
 pub mod SameEdges
 pub mod SameSteps
+pub mod Sounds

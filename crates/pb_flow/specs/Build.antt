@@ -8,10 +8,14 @@ use Rattle.pb_language.specs.Plays.{ended_row, gathering_task, handlers_at, plac
 use Rattle.pb_language.specs.Plays.{section_row, sections_row, task_at}
 use Rattle.pb_language.specs.Task.{Handlers, Row, Task, end, flush, task}
 use Rattle.pb_play.specs.Plays.{handler_view, head_view, steps_view}
+use Rattle.pb_play.specs.Sound.{AreSound, handler_tasks, tasks_in}
 use Rattle.pb_play.specs.declared.play.Block.{Block}
+use Rattle.pb_play.specs.declared.play.Handler.{Handler}
+use Rattle.pb_play.specs.declared.play.Play.{Play}
 use Rattle.pb_play.specs.declared.play.Step.{Step}
+use Rattle.pb_task.specs.declared.task.Task.{Task as ReadTask}
 use Rattle.pb_flow.specs.Flow.{tasks_of}
-use Rattle.pb_flow.specs.Nodes.{around_view, node_task, nodes_links, visited_view}
+use Rattle.pb_flow.specs.Nodes.{AreVisitedSound, around_view, node_task, nodes_links, visited_view}
 use Rattle.pb_flow.specs.declared.build.Scene.{Scene}
 use Rattle.pb_flow.specs.declared.build.Tail.{Tail}
 use Rattle.pb_flow.specs.declared.graph.Around.{Around}
@@ -79,3 +83,15 @@ all_sections_row ms vars s p play = sections_row (handlers_from ms vars s)
 abbrev pub block_alone : Block Step → Steps
 block_alone b = block_step (head_view b.head) (steps_view b.body.items)
     (steps_view b.rescue.items) (steps_view b.always.items) no_steps
+
+-- where the handlers and those tasks are sound, the nodes that are put are
+pub record StaySound (hs : List Handler) (ts : List ReadTask) (old new : Tail) : Type 0 where
+  pub sound : (ms : Registry) (line : Option ℕ) → AreSound ms (handler_tasks hs) → AreSound ms ts
+      → AreVisitedSound ms line old.nodes.items → AreVisitedSound ms line new.nodes.items
+
+abbrev pub block_tasks : Block Step → List ReadTask
+block_tasks b = tasks_in b.body.items ++ (tasks_in b.rescue.items ++ tasks_in b.always.items)
+
+abbrev pub sections_tasks : Play → List ReadTask
+sections_tasks p =
+    tasks_in p.pre_tasks.items ++ (tasks_in p.tasks.items ++ tasks_in p.post_tasks.items)

@@ -1,11 +1,13 @@
 -- What the nodes of a graph stand for.
-use Rattle.std.specs.Prelude.{ℕ, suc, List, [], ◌∷◌, ◌++◌, cond, map}
+use Rattle.std.specs.Prelude.{◌≡◌, ℕ, suc, List, [], ◌∷◌, ◌++◌, All, Option, Some}
+use Rattle.std.specs.Prelude.{cond, map}
 use Rattle.pb_language.specs.Book.{Registry, TaskData}
 use Rattle.pb_language.specs.Expression.{Expressions, no_expressions, Parts}
 use Rattle.pb_language.specs.Links.{Link, goes, fails, passes, link_to}
 use Rattle.pb_language.specs.Plays.{Surroundings, append_expressions, append_parts, gathering_task}
 use Rattle.pb_language.specs.Plays.{task_at}
 use Rattle.pb_language.specs.Task.{Task}
+use Rattle.pb_play.specs.Sound.{IsSound}
 use Rattle.pb_play.specs.declared.play.BlockHead.{BlockHead}
 use Rattle.pb_syntax.specs.ExprView.{exprs_view}
 use Rattle.pb_task.specs.Tasks.{task_view}
@@ -54,3 +56,11 @@ node_links ms vars o n =
 abbrev pub nodes_links : Registry → Parts → ℕ → List Node → List Link
 nodes_links ms vars o [] = []
 nodes_links ms vars o (n ∷ ns) = node_links ms vars o n ++ nodes_links ms vars (suc o) ns
+
+-- each task that is visited is sound, and facts are gathered at that line
+abbrev pub IsVisitedSound : Registry → Option ℕ → Visited → Type 0
+IsVisitedSound ms line (visited.Gathering l) = line ≡ Some l
+IsVisitedSound ms line (visited.Task t) = IsSound ms t.now
+
+abbrev pub AreVisitedSound : Registry → Option ℕ → List Node → Type 0
+AreVisitedSound ms line ns = All (λ n. IsVisitedSound ms line n.visited) ns

@@ -1,6 +1,6 @@
 // The nodes of a play, put one in front of the other, from its end to its start.
 ghost use Rattle.std.specs.Prelude.{◌*◌, ◌++◌, ◌+◌, ◌<◌, ◌≡◌, ◌≤◌, ◌∷◌, ◌||◌, IfOk, None, OnOk};
-ghost use Rattle.std.specs.Prelude.{Some, [], cond, false, length, reverse, suc, true};
+ghost use Rattle.std.specs.Prelude.{Option, Some, [], cond, false, length, reverse, suc, true, ℕ};
 ghost use Rattle.pb_semantics.specs.Limits.{most_play_steps};
 ghost use Rattle.pb_language.specs.Book.{Registry, no_steps};
 ghost use Rattle.pb_language.specs.Expression.{Parts};
@@ -9,10 +9,12 @@ ghost use Rattle.pb_language.specs.Plays.{inside, is_given, places_in, play_surr
 ghost use Rattle.pb_language.specs.Sites.{gathering_steps, section_steps, sections_steps, steps_in};
 ghost use Rattle.pb_template.specs.Entries.{entries_view};
 ghost use Rattle.pb_play.specs.Plays.{head_view, play_view, step_view, steps_view};
-ghost use Rattle.pb_flow.specs.Build.{IsPut, all_sections_row, block_alone, edges_from};
-ghost use Rattle.pb_flow.specs.Build.{ended_steps_row, flush_row, gathering_row, one_section_row};
-ghost use Rattle.pb_flow.specs.Build.{steps_row, tail_links, tail_tasks, task_of};
-ghost use Rattle.pb_flow.specs.Nodes.{around_view};
+ghost use Rattle.pb_play.specs.Sound.{step_tasks, tasks_in};
+ghost use Rattle.pb_flow.specs.Build.{IsPut, StaySound, all_sections_row, block_alone, block_tasks};
+ghost use Rattle.pb_flow.specs.Build.{edges_from, ended_steps_row, flush_row, gathering_row};
+ghost use Rattle.pb_flow.specs.Build.{one_section_row, sections_tasks, steps_row, tail_links};
+ghost use Rattle.pb_flow.specs.Build.{tail_tasks, task_of};
+ghost use Rattle.pb_flow.specs.Nodes.{AreVisitedSound, IsVisitedSound, around_view};
 ghost use Rattle.pb_flow.specs.Places.{section_places, sections_places};
 
 use crate::graph::{Around, Exits, Node, Visited};
@@ -86,6 +88,9 @@ impl<'p> Tail<'p> {
             ≡ edges_from is_handler self.new.front
             (task_of ms vars around.now.value self.new.place visited.entry) to
             ++ tail_links ms vars self.old) }
+        ensures sound { OnOk result ((ms : Registry) (line : Option ℕ)
+            → IsVisitedSound ms line visited.entry → AreVisitedSound ms line self.old.nodes.items
+            → AreVisitedSound ms line self.new.nodes.items) }
     {
         let node = Node {
             visited,
@@ -116,6 +121,7 @@ fn put_flush<'p>(
     ensures put { IfOk result (λ at. (ms : Registry) (vars : Parts)
         → IsPut ms vars (flush_row ms vars scene.now tail.new.place)
         (record { ok = after; failed = None }) tail.old tail.new at) }
+    ensures sound { OnOk result (StaySound scene.now.handlers.now [] tail.old tail.new) }
 {
     let handlers = scene.handlers;
     let mut next = after;
@@ -154,6 +160,8 @@ fn put_steps<'p>(
     ensures put { IfOk result (λ at. (ms : Registry) (vars : Parts)
         → IsPut ms vars (steps_row ms vars scene.now around.now.value tail.new.place
         (steps_view steps.now)) to tail.old tail.new at) }
+    ensures sound { OnOk result
+        (StaySound scene.now.handlers.now (tasks_in steps.now) tail.old tail.new) }
 {
     let mut next = to.ok;
     for index in (0..steps.len()).rev() {
@@ -187,6 +195,8 @@ fn put_step<'p>(
     ensures put { IfOk result (λ at. (ms : Registry) (vars : Parts)
         → IsPut ms vars (steps_row ms vars scene.now around.now.value tail.new.place
         (step_view step.now no_steps)) to tail.old tail.new at) }
+    ensures sound { OnOk result
+        (StaySound scene.now.handlers.now (step_tasks step.now) tail.old tail.new) }
 {
     match step {
         Step::Task(task) => tail.put(Visited::Task(task), around, false, to),
@@ -216,6 +226,8 @@ fn put_block<'p>(
     ensures put { IfOk result (λ at. (ms : Registry) (vars : Parts)
         → IsPut ms vars (steps_row ms vars scene.now around.now.value tail.new.place
         (block_alone block.now)) to tail.old tail.new at) }
+    ensures sound { OnOk result
+        (StaySound scene.now.handlers.now (block_tasks block.now) tail.old tail.new) }
 {
     let always = around_always(scene.alloc, around, block)?;
     let rescue = around_rescue(scene.alloc, around, block)?;
@@ -337,6 +349,8 @@ fn put_section<'p>(
     ensures put { IfOk result (λ at. (ms : Registry) (vars : Parts)
         → IsPut ms vars (one_section_row ms vars scene.now forces tail.new.place
         (steps_view steps.now)) (record { ok = after; failed = None }) tail.old tail.new at) }
+    ensures sound { OnOk result
+        (StaySound scene.now.handlers.now (tasks_in steps.now) tail.old tail.new) }
 {
     if !is_given(steps) {
         return Ok(after);
@@ -368,6 +382,8 @@ fn put_ended<'p>(
     ensures put { IfOk result (λ at. (ms : Registry) (vars : Parts)
         → IsPut ms vars (ended_steps_row ms vars scene.now false tail.new.place
         (steps_view steps.now)) (record { ok = after; failed = None }) tail.old tail.new at) }
+    ensures sound { OnOk result
+        (StaySound scene.now.handlers.now (tasks_in steps.now) tail.old tail.new) }
 {
     let flush = put_flush(tail, scene, after)?;
     let to = Exits {
@@ -398,6 +414,8 @@ fn put_forced<'p>(
     ensures put { IfOk result (λ at. (ms : Registry) (vars : Parts)
         → IsPut ms vars (ended_steps_row ms vars scene.now true tail.new.place
         (steps_view steps.now)) (record { ok = after; failed = None }) tail.old tail.new at) }
+    ensures sound { OnOk result
+        (StaySound scene.now.handlers.now (tasks_in steps.now) tail.old tail.new) }
 {
     let behind = tail.place;
     let failed = put_flush(tail, scene, None)?;
@@ -426,6 +444,8 @@ pub(crate) fn put_sections<'p>(
     ensures put { IfOk result (λ at. (ms : Registry) (vars : Parts)
         → IsPut ms vars (all_sections_row ms vars scene.now tail.new.place (play_view play.now))
         (record { ok = after; failed = None }) tail.old tail.new at) }
+    ensures sound { OnOk result
+        (StaySound scene.now.handlers.now (sections_tasks play.now) tail.old tail.new) }
 {
     let forces = play.force_handlers;
     let post_tasks = put_section(tail, scene, &play.post_tasks, forces, after)?;
@@ -447,6 +467,8 @@ pub(crate) fn put_gathering<'p>(
     ensures put { IfOk result (λ at. (ms : Registry) (vars : Parts)
         → IsPut ms vars (gathering_row ms vars scene.now tail.new.place gathering)
         (record { ok = after; failed = None }) tail.old tail.new at) }
+    ensures sound { OnOk result ((ms : Registry) → AreVisitedSound ms gathering tail.old.nodes.items
+        → AreVisitedSound ms gathering tail.new.nodes.items) }
 {
     let to = Exits {
         ok: after,

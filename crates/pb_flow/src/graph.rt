@@ -5,11 +5,12 @@ ghost use Rattle.pb_language.specs.Book.{Registry};
 ghost use Rattle.pb_language.specs.Plays.{play_row};
 ghost use Rattle.pb_language.specs.Sites.{steps_of};
 ghost use Rattle.pb_play.specs.Plays.{play_view};
+ghost use Rattle.pb_play.specs.Sound.{AreSound, play_tasks};
 ghost use Rattle.pb_template.specs.Entries.{entries_view};
 ghost use Rattle.pb_flow.specs.Ahead.{all_lead_on};
 ghost use Rattle.pb_flow.specs.Exits.{exits_at, line_at, node_at, place_at};
 ghost use Rattle.pb_flow.specs.Flow.{begins_at, row_links, tasks_of};
-ghost use Rattle.pb_flow.specs.Nodes.{node_task, nodes_links, visited_view};
+ghost use Rattle.pb_flow.specs.Nodes.{AreVisitedSound, node_task, nodes_links, visited_view};
 
 use crate::build::{Scene, Tail, put_gathering, put_sections};
 use crate::steps::count_of;
@@ -90,6 +91,8 @@ impl<'p> Graph<'p> {
         ensures links { IfOk result (λ g. (ms : Registry)
             → nodes_links ms (entries_view play.now.vars.items) 1 g.tasks.items
             ≡ row_links (play_row ms (play_view play.now))) }
+        ensures sound { IfOk result (λ g. (ms : Registry) → AreSound ms (play_tasks play.now)
+            → AreVisitedSound ms play.now.gathering g.tasks.items) }
     {
         let (begin, tasks) = nodes_of(alloc, play)?;
         Ok(Graph { begin, tasks })
@@ -165,6 +168,8 @@ fn nodes_of<'p>(alloc: Global, play: &'p Play) -> Result<(Option<u32>, Vec<Node<
     ensures links { IfOk result (λ g. (ms : Registry)
         → nodes_links ms (entries_view play.now.vars.items) 1 g.1.items
         ≡ row_links (play_row ms (play_view play.now))) }
+    ensures sound { IfOk result (λ g. (ms : Registry) → AreSound ms (play_tasks play.now)
+        → AreVisitedSound ms play.now.gathering g.1.items) }
 {
     let scene = Scene::of(alloc, play)?;
     let mut tail = Tail::behind(alloc, count_of(play));

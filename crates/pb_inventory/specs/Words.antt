@@ -2,5 +2,6 @@
 pub use Rattle.pb_inventory.specs.Offences.{FileOffence, inventory_in, not_json, offence_of}
 pub use Rattle.pb_inventory.specs.Offences.{refused}
 pub use Rattle.pb_inventory.specs.Inventory.{inventory_view}
+pub use Rattle.pb_inventory.specs.Numbered.{name_of}
 pub use Rattle.pb_inventory.specs.Views.{group_view, layered}
 pub use Rattle.pb_inventory.specs.Patterns.{hosts_found, names_at, no_hosts, patterns_words}

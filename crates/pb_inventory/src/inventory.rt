@@ -128,8 +128,8 @@ impl Inventory {
         }
     }
 
-    // The place of the host of that name.
-    pub(crate) fn place_of(&self, name: &str) -> Option<usize>
+    /// The place of the host of that name in host order, or none where there is no such host.
+    pub fn place_of(&self, name: &str) -> Option<usize>
         ensures known { is_some result ≡ is_host name.now (inventory_view self.now).hosts }
         ensures placed { IfSome result (λ p. p < length (inventory_view self.now).hosts) }
         ensures named { IfSome result (λ p.

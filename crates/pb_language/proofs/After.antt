@@ -12,7 +12,7 @@ use Rattle.pb_language.specs.Knows.{WellScope}
 use Rattle.pb_language.specs.Task.{Attempts, Action, call_of, debug, set_fact, assertion, failure_of, Task}
 use Rattle.pb_language.specs.Narrow.{results_of}
 use Rattle.pb_language.specs.Cases.{judged_cases, perhaps_failed, slots_of, ended_kind, changed_slots, message_slots, ok_case, failure_case, answered_cases, either_status, ended_cases, skipped_slots, skipped_cases, action_name, is_conditional, all_results, going_cases, failing_cases, item_kind, registered_kind, listed_kind, Sets, no_sets, sets, parts_set, fact_prefix, after_prefix, with_stripped, stripped_slots, facts_set, gathered, is_setup, may_go_on_failed, is_certain_to_run, action_sets, set_spot, with_sets, with_register, append_sets, is_plain, are_plain, is_lawful_shape, shape_slots}
-use Rattle.pb_language.specs.Setting.{Setting, group_slots, with_failure_slot, named_slots, scope_at, start_scope, loop_kind, with_item, item_scope, action_scope, with_own_result}
+use Rattle.pb_language.specs.Setting.{Setting, host_list, group_slots, with_failure_slot, named_slots, scope_at, start_scope, loop_kind, with_item, item_scope, action_scope, with_own_result}
 use Rattle.pb_language.specs.Judgement.{task_kind, task_sets, going_slots, failing_slots, task_writes, register_writes, has_going, has_case}
 use Rattle.pb_language.specs.Wells.{WellSpot, WellSets}
 use Rattle.pb_language.proofs.WithSlot.{well_with}
@@ -24,7 +24,7 @@ use Rattle.pb_language.proofs.Claims.{AfterClaim}
 -- the names that are always there
 pub well_groups : (gs : List Group) → Well (recs (group_slots gs))
 well_groups [] = (refl, tt)
-well_groups (g ∷ gs) = well_with g.name true (lists (hosts g.hosts) (length g.hosts)) (group_slots gs) tt (well_groups gs)
+well_groups (g ∷ gs) = well_with g.name true (host_list g.hosts) (group_slots gs) tt (well_groups gs)
 
 well_failure : (d : ℕ) (env : Slots) → Well (recs env) → Well (recs (with_failure_slot d env))
 well_failure zero env w = w
@@ -35,7 +35,7 @@ well_named st d env w =
     well_with (codes "inventory_hostname") true (hosts (st.this ∷ [])) _ tt
     (well_with (codes "groups") true (recs (group_slots st.groups)) _ (well_groups st.groups)
     (well_with (codes "group_names") true (lists texts (length st.memberships)) _ tt
-    (well_with (codes "ansible_play_batch") true (lists (hosts st.play_hosts) (length st.play_hosts)) _ tt (well_failure d env w))))
+    (well_with (codes "ansible_play_batch") true (host_list st.play_hosts) _ tt (well_failure d env w))))
 
 -- scopes
 pub well_scope : (st : Setting) (laters : List Later) (place : ℕ) (own : Slots) → ((g : Name) → Well (recs (view_of g st.views))) → Well (recs own) → WellScope (scope_at st laters place own)

@@ -13,7 +13,7 @@ use Rattle.pb_language.specs.Narrow.{results_of}
 use Rattle.pb_language.specs.Knows.{WellScope}
 use Rattle.pb_language.specs.Task.{Action, call_of, debug, set_fact, assertion, failure_of, Task}
 use Rattle.pb_language.specs.Cases.{judged_cases, Sets, no_sets, sets, append_sets, parts_set, action_sets, all_results, going_cases, failing_cases, answered_cases, looped_kind, listed_kind, registered_kind, item_kind, is_certain_to_run, with_register, set_spot, with_sets}
-use Rattle.pb_language.specs.Setting.{Setting, group_slots, with_failure_slot, named_slots, start_scope, loop_kind, with_item, item_scope, action_scope, with_own_result, own_scope, give_scope, until_scope}
+use Rattle.pb_language.specs.Setting.{Setting, host_list, group_slots, with_failure_slot, named_slots, start_scope, loop_kind, with_item, item_scope, action_scope, with_own_result, own_scope, give_scope, until_scope}
 use Rattle.pb_language.specs.Judgement.{live_if, has_case, has_going, task_kind, task_sets, going_slots, failing_slots, going_exit, failing_exit, register_writes, task_writes}
 use Rattle.pb_language.specs.Wells.{WellSpot, WellSets, WellViews}
 use Rattle.pb_language.specs.Ordered.{SpotLe, SlotsLe, KnownLe, ScopeLe, seen, SettingLe, ExitLe, SetsLe}
@@ -36,7 +36,7 @@ named_up st d ss ts l =
     same_with (codes "inventory_hostname") (hosts (st.this ∷ [])) _ _ tt
     (same_with (codes "groups") (recs (group_slots st.groups)) _ _ (well_groups st.groups)
     (same_with (codes "group_names") (lists texts (length st.memberships)) _ _ tt
-    (same_with (codes "ansible_play_batch") (lists (hosts st.play_hosts) (length st.play_hosts)) _ _ tt (failure_up d ss ts l))))
+    (same_with (codes "ansible_play_batch") (host_list st.play_hosts) _ _ tt (failure_up d ss ts l))))
 
 item_kind_up : (k m : KindData) → below k m ≡ true → below (item_kind k) (item_kind m) ≡ true
 item_kind_up k anything h = refl

@@ -6,6 +6,7 @@ use Rattle.pb_semantics.specs.Data.{Data, Items, Fields, text, list, rec, no_ite
 use Rattle.pb_semantics.specs.Data.{field}
 use Rattle.pb_semantics.specs.Kind.{KindData, Slots, Cases, texts, hosts, lists, recs, no_slots}
 use Rattle.pb_semantics.specs.Kind.{slot}
+use Rattle.pb_semantics.specs.Join.{add_names}
 use Rattle.pb_language.specs.Expression.{Name, Expression}
 use Rattle.pb_language.specs.World.{Group}
 use Rattle.pb_language.specs.Scope.{Scope, View, Later, nothing, with_slot}
@@ -27,10 +28,13 @@ pub record Setting : Type 0 where
   -- what active hosts have from each place on; nothing under `free`
   pub laters : List Later
 
+-- a list of hosts, each one of these; a kind has their names in the order of the bytes
+abbrev pub host_list : List Name → KindData
+host_list ns = lists (hosts (add_names ns [])) (length ns)
+
 abbrev pub group_slots : List Group → Slots
 group_slots [] = no_slots
-group_slots (g ∷ gs) =
-    with_slot g.name true (lists (hosts g.hosts) (length g.hosts)) (group_slots gs)
+group_slots (g ∷ gs) = with_slot g.name true (host_list g.hosts) (group_slots gs)
 
 -- inside a `rescue` part the failure's text can be read
 abbrev pub with_failure_slot : ℕ → Slots → Slots
@@ -43,8 +47,8 @@ named_slots st d env =
     with_slot (codes "inventory_hostname") true (hosts (st.this ∷ []))
     (with_slot (codes "groups") true (recs (group_slots st.groups))
     (with_slot (codes "group_names") true (lists texts (length st.memberships))
-    (with_slot (codes "ansible_play_batch") true
-    (lists (hosts st.play_hosts) (length st.play_hosts)) (with_failure_slot d env))))
+    (with_slot (codes "ansible_play_batch") true (host_list st.play_hosts)
+    (with_failure_slot d env))))
 
 -- what is known before any test
 abbrev pub scope_at : Setting → List Later → ℕ → Slots → Scope

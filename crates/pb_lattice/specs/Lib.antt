@@ -6,4 +6,5 @@ pub mod Trees
 pub mod Arena
 pub mod Shared
 pub mod Environments
+pub mod Lost
 pub mod Words

@@ -1,6 +1,6 @@
 // Environments that share their parts in one table: a copy is a number, putting a slot costs the
 // depth of a tree, and a join goes only where the two differ.
-ghost use Rattle.std.specs.Prelude.{◌≡◌, ◌↔◌, true, IfOk, IsTrue};
+ghost use Rattle.std.specs.Prelude.{◌≡◌, ◌↔◌, length, true, IfOk, IsTrue};
 ghost use Rattle.pb_semantics.specs.Well.{Well};
 ghost use Rattle.pb_semantics.specs.Words.{is_among, no_slots};
 ghost use Rattle.pb_language.specs.Judgement.{Exit, live};
@@ -10,6 +10,7 @@ ghost use Rattle.pb_value.specs.Words.{is_always, kind_view, spot_view};
 ghost use Rattle.pb_lattice.specs.Arena.{names_of};
 ghost use Rattle.pb_lattice.specs.Environments.{IsKept, Stands, exit_of, is_dead, is_over};
 ghost use Rattle.pb_lattice.specs.Environments.{put_in, spot_in};
+ghost use Rattle.pb_lattice.specs.Lost.{lost_marks};
 ghost use Rattle.pb_lattice.specs.Shared.{Shared};
 ghost use Rattle.pb_lattice.specs.Trees.{IsAscending};
 
@@ -78,6 +79,41 @@ impl Environments {
     {
         let nodes = Nodes::new(alloc)?;
         Ok(Environments { names, nodes })
+    }
+
+    /// The table over the same names in which no environment stands but the empty one.
+    ///
+    /// # Errors
+    ///
+    /// Want of memory.
+    pub fn emptied(self, alloc: Global) -> Result<Environments, AllocError>
+        ensures { IfOk result (λ s. s.names ≡ self.names) }
+    {
+        Environments::new(alloc, self.names)
+    }
+
+    /// The names, in the order of their bytes.
+    pub fn names(&self) -> &[String]
+        ensures names { names_of result.now ≡ self.now.names }
+        ensures ascending { IsAscending (names_of result.now) }
+    {
+        self.names.as_slice()
+    }
+
+    /// Marks each name that is certainly known in the first environment and not in the second. The
+    /// marks stand beside the table's names. It goes only where the two differ.
+    pub fn mark_lost(&self, before: Environment, after: Environment, mark: u32, marks: &mut [u32])
+        requires before { Stands self.now before }
+        requires after { Stands self.now after }
+        requires beside { length marks.old ≡ length self.now.names }
+        ensures { marks.new ≡ lost_marks mark (exit_of self.now before) (exit_of self.now after)
+            self.now.names marks.old }
+    {
+        match (before.root, after.root) {
+            (Some(low), Some(high)) => tree::mark_lost(&self.nodes, low, high, mark, marks),
+            (Some(low), None) => tree::mark_lost(&self.nodes, low, self.nodes.bare(), mark, marks),
+            _ => {}
+        }
     }
 
     /// The environment in which nothing is known.

@@ -1,9 +1,12 @@
 // Trees of what is known of names, in one table: a copy of a tree is a number, and a tree with one
 // name changed shares all that is beside the path to the name.
-ghost use Rattle.std.specs.Prelude.{◌≡◌, ◌&&◌, ◌<◌, ◌||◌, false, length, not, true, IfOk, IsTrue};
+ghost use Rattle.std.specs.Prelude.{◌≡◌, ◌&&◌, ◌<◌, ◌||◌, List, false, length, not, true, IfOk, IsTrue};
 ghost use Rattle.pb_semantics.specs.Words.{below as below_of, is_among, join as join_of, slot_at};
 ghost use Rattle.pb_semantics.specs.Well.{Well};
 ghost use Rattle.pb_value.specs.Words.{is_always, kind_view, spot_view};
+ghost use Rattle.pb_language.specs.Judgement.{live};
+ghost use Rattle.pb_language.specs.Expression.{Name};
+ghost use Rattle.pb_lattice.specs.Lost.{is_surely, lost_marks};
 ghost use Rattle.pb_lattice.specs.Trees.{IsAscending, WellTree, are_alike, bare, fits, slots_over};
 ghost use Rattle.pb_lattice.specs.Trees.{tree_below};
 ghost use Rattle.pb_lattice.specs.Arena.{IsGrown, IsMade, IsNew, are_made_below, are_parts_below};
@@ -356,5 +359,48 @@ pub(crate) fn put(
     } else {
         let right = put(nodes, right, &names[half..], name, slot)?;
         nodes.add(Part::Fork(left, right), None)
+    }
+}
+
+// Marks each name that is certainly there in the first tree and not in the second. The marks stand
+// beside the names that the trees are over.
+pub(crate) fn mark_lost(nodes: &Nodes, before: u32, after: u32, mark: u32, marks: &mut [u32])
+    requires before { before < length nodes.now }
+    requires after { after < length nodes.now }
+    ensures { (ns : List Name) → IsAscending ns → length ns ≡ length marks.old
+        → fits (tree_at nodes.now before) ns ≡ true → fits (tree_at nodes.now after) ns ≡ true
+        → marks.new ≡ lost_marks mark (live (slots_over (tree_at nodes.now before) ns))
+        (live (slots_over (tree_at nodes.now after) ns)) ns marks.old }
+{
+    if before == after {
+        return;
+    }
+    match nodes.part(before) {
+        Part::Bare => {}
+        Part::Known(slot) => {
+            if slot.presence.is_always() && !is_certain(nodes, after) {
+                if let Some(first) = marks.first_mut() {
+                    *first = mark;
+                }
+            }
+        }
+        Part::Fork(left, right) => {
+            let (first, rest) = nodes.halves(after);
+            let half = marks.len() / 2;
+            let (low, high) = marks.split_at_mut(half);
+            mark_lost(nodes, *left, first, mark, low);
+            mark_lost(nodes, *right, rest, mark, high);
+        }
+    }
+}
+
+// Whether the tree is that of one name that is certainly there.
+fn is_certain(nodes: &Nodes, place: u32) -> bool
+    requires { place < length nodes.now }
+    ensures { result ≡ is_surely (tree_at nodes.now place) }
+{
+    match nodes.part(place) {
+        Part::Known(slot) => slot.presence.is_always(),
+        _ => false,
     }
 }

@@ -7,7 +7,7 @@ use Rattle.pb_semantics.proofs.Bools.{and-right, untrue}
 use Rattle.pb_language.specs.Expression.{Expression, Name}
 use Rattle.pb_language.specs.Judgement.{Exit, dead, live}
 use Rattle.pb_language.specs.Scope.{taught_spot, with_slot}
-use Rattle.pb_language.specs.Setting.{Setting, group_slots, named_slots, with_failure_slot}
+use Rattle.pb_language.specs.Setting.{Setting, group_slots, host_list, named_slots, with_failure_slot}
 use Rattle.pb_language.proofs.WithSlot.{at_with}
 use Rattle.pb_syntax.specs.ExprView.{expr_view}
 use Rattle.pb_syntax.specs.declared.expr.Expr.{Expr}
@@ -31,7 +31,7 @@ with_over n m a k ss ts u h =
 pub named_over : (n : Name) (st : Setting) (d : ℕ) (env : Slots) → slot_at n (named_slots st d env) ≡ taught_spot (slot_at n (named_slots st 0 no_slots)) (slot_at n (with_failure_slot d env))
 named_over n st d env =
     let u = slot_at n (with_failure_slot d env) in
-    let b : KindData = lists (hosts st.play_hosts) (length st.play_hosts) in
+    let b : KindData = host_list st.play_hosts in
     let m : KindData = lists texts (length st.memberships) in
     let g : KindData = recs (group_slots st.groups) in
     let w1 = with_over n (codes "ansible_play_batch") true b (with_failure_slot d env) no_slots u refl in

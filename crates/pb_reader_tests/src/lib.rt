@@ -11,6 +11,8 @@ mod fits;
 #[cfg(test)]
 mod flows;
 #[cfg(test)]
+mod hosts;
+#[cfg(test)]
 mod inventories;
 #[cfg(test)]
 mod outlooks;

@@ -7,3 +7,6 @@ pub mod SameBudget
 pub mod SameWrites
 pub mod SameLaters
 pub mod Settles
+pub mod NamedRows
+pub mod NamedWalks
+pub mod WellProp

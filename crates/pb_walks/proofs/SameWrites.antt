@@ -70,7 +70,7 @@ same_settled (w ∷ ws) (x ∷ xs) vs us a v =
     (plays_same w.plays x.plays (view_of w.host vs) (view_of w.host us) a.0.plays (v.slots w.host) ∙ ap (λ h. plays_below x.plays (view_of h us)) a.0.host) (same_settled ws xs vs us a.1 v)
 
 -- what a view becomes
-visits_written : (vs us : List Visit) (ss ts : Slots) → AllVisitsAgree vs us → SameSlots ss ts → SameSlots (with_visits vs ss) (with_visits us ts)
+pub visits_written : (vs us : List Visit) (ss ts : Slots) → AllVisitsAgree vs us → SameSlots ss ts → SameSlots (with_visits vs ss) (with_visits us ts)
 visits_written [] [] ss ts a x = x
 visits_written [] (u ∷ us) ss ts a x = absurd a
 visits_written (v ∷ vs) [] ss ts a x = absurd a

@@ -1,3 +1,4 @@
 pub mod Agree
 pub mod Laws
+pub mod Notified
 pub mod Words

@@ -5,6 +5,7 @@
 ghost use Rattle.pb_walks.specs.Laws.{AllWalkedAgree, KnownViewsAgree, LatersOfAgree};
 ghost use Rattle.pb_walks.specs.Laws.{NextViewsAgree, RoundsSettle, SameBudget, SameOffence};
 ghost use Rattle.pb_walks.specs.Laws.{SameSettled, ValuesAreVisits, VerdictIsWalked, WalksGoUp};
+ghost use Rattle.pb_walks.specs.Notified.{AgreeingNameHandlers, RuledNameHandlers};
 
 /// A walk goes up with where it begins, and with what hosts' variables look like to others.
 pub fn walks_go_up()
@@ -45,4 +46,11 @@ pub fn rounds_settle()
 /// The verdict on all ways is that of any walks that agree with those under the fourth table.
 pub fn verdict_is_walked()
     ensures { VerdictIsWalked }
+{}
+
+/// Wherever a host of a book comes that keeps the rules, each text that a task notifies names a
+/// handler; so it is in walks that agree with those.
+pub fn handlers_are_named()
+    ensures ruled { RuledNameHandlers }
+    ensures agreeing { AgreeingNameHandlers }
 {}

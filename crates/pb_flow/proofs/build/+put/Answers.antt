@@ -11,6 +11,7 @@ use Rattle.pb_flow.proofs.Counts.{left, less-left, places-sum, steps-sum, sum-le
 use Rattle.pb_flow.proofs.Joins.{row-front}
 use Rattle.pb_flow.proofs.Puts.{put-joined}
 use Rattle.pb_flow.proofs.Sizes.{twice}
+use Rattle.pb_flow.proofs.Sounds.{stay-block, stay-step, task-alone}
 use Rattle.pb_flow.proofs.build.+put.Goals as goal
 
 pub put_steps-put_step-requires : goal.put_steps-put_step-requires
@@ -43,6 +44,7 @@ put_steps-loop-index-preserved t c =
     record {
       front = omega (arith, sum-left (steps_in n 0) (steps-sum n) ss i j s one lt c.index-steps-index.is, h.front);
       place = omega (arith, sum-left (places_in n) (places-sum n) ss i j s one lt c.index-steps-index.is, h.place);
+      sound = stay-step c.args.scene.now.handlers.now ss i j s c.args.tail.now c.loop-index.tail c.put_step.new.tail one lt c.index-steps-index.is inv.sound h.sound;
       put = λ ms vars.
           let a = around_view ms vars c.args.around.now.value in
           let hs = handlers_from ms vars c.args.scene.now in
@@ -121,3 +123,17 @@ put_block-returns-clause-put t c =
     c.deref-7.ensures.value c.deref-6.ensures.value c.deref-4.ensures.value c.deref-5.ensures.value
     refl refl refl refl c.in_ok-failed.ensures.place c.in_ok-ok.ensures.place c.in_ok-saved.ensures.place e
     c.failure_of-failed.ensures (c.in_ok-failed.ensures.put ms vars) (c.in_ok-ok.ensures.put ms vars) (c.in_ok-saved.ensures.put ms vars) (p ms vars))
+
+pub put_block-returns-clause-sound : goal.put_block-returns-clause-sound
+put_block-returns-clause-sound t c =
+    let hs = c.args.scene.now.handlers.now in
+    let before = rw c.deref-4.ensures.value at c.in_ok-failed.ensures.sound in
+    let again = rw c.deref-5.ensures.value at c.in_ok-ok.ensures.sound in
+    let saved = rw c.deref-6.ensures.value at c.in_ok-saved.ensures.sound in
+    on-ok c.put_steps-4.result _ _ c.put_steps-4.ensures.sound (λ h.
+    stay-block hs c.args.block.now c.args.tail.now c.put_steps.new.tail c.put_steps-2.new.tail c.put_steps-3.new.tail c.put_steps-4.new.tail
+    before (record { sound = again.sound }) saved (rw c.deref-7.ensures.value at h))
+
+pub put_step-returns-in-Task-clause-sound : goal.put_step-returns-in-Task-clause-sound
+put_step-returns-in-Task-clause-sound t c =
+    on-ok c.put.result _ _ c.put.ensures.sound (λ f. record { sound = λ ms line a b. f ms line (task-alone ms c.args.step.now c.in-Task.task c.in-Task.is b) })

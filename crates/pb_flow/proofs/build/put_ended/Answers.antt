@@ -1,12 +1,14 @@
-use Rattle.std.proofs.Common.{◌≡◌, ◌+◌, None, length, sym, subst, arith}
+use Rattle.std.proofs.Common.{◌≡◌, ◌+◌, None, [], length, sym, subst, arith}
 use Rattle.pb_language.specs.Plays.{places_in, row_of}
 use Rattle.pb_language.specs.Task.{end, flush}
 use Rattle.pb_play.specs.Plays.{steps_view}
+use Rattle.pb_play.specs.Sound.{tasks_in}
 use Rattle.pb_flow.specs.Build.{IsPut, handlers_from}
 use Rattle.pb_flow.specs.Nodes.{around_view}
-use Rattle.pb_flow.proofs.Blocks.{both-ok}
+use Rattle.pb_flow.proofs.Blocks.{both-ok, on-ok}
 use Rattle.pb_flow.proofs.Joins.{row-joined}
 use Rattle.pb_flow.proofs.Puts.{put-joined}
+use Rattle.pb_flow.proofs.Sounds.{stay-both, stay-more}
 use Rattle.pb_flow.proofs.build.put_ended.Goals as goal
 
 pub returns-clause-put : goal.returns-clause-put
@@ -24,3 +26,10 @@ returns-clause-put c =
     subst (λ r. IsPut ms vars r (record { ok = c.args.after; failed = None }) old new at) (sym (row-joined hs n s new.place ss (flush (hs (places_in n ss + new.place)) end)))
     (put-joined ms vars (row_of hs n s new.place ss end) (flush (hs (places_in n ss + new.place)) end) (record { ok = c.args.after; failed = None }) old mid new c.in_ok-flush.flush at
     (subst (λ k. IsPut ms vars (flush (hs k) end) (record { ok = c.args.after; failed = None }) old mid c.in_ok-flush.flush) at_flush (c.in_ok-flush.ensures.put ms vars)) (p ms vars)))
+
+pub returns-clause-sound : goal.returns-clause-sound
+returns-clause-sound c =
+    let hs = c.args.scene.now.handlers.now in
+    let ts = tasks_in c.args.steps.now in
+    on-ok c.put_steps.result _ _ c.put_steps.ensures.sound
+    (stay-both hs ts c.args.tail.now c.put_flush.new.tail c.put_steps.new.tail (stay-more hs [] ts c.args.tail.now c.put_flush.new.tail (λ ms b. tt) c.in_ok-flush.ensures.sound))

@@ -1,15 +1,17 @@
-use Rattle.std.proofs.Common.{◌≡◌, ◌∙◌, ℕ, suc, ◌+◌, ◌-◌, ◌<◌, List, [], ◌∷◌, ◌++◌, Option, Some, None, cond, true, drop, length, map, append_assoc, append-nil, refl, ap, sym, subst, arith}
-use Rattle.pb_language.specs.Book.{HandlerData, Registry}
+use Rattle.std.proofs.Common.{◌≡◌, ◌∙◌, ℕ, suc, ◌+◌, ◌-◌, ◌<◌, [], ◌∷◌, ◌++◌, Option, Some, None, true, drop, length, map, append_assoc, append-nil, ap, sym, subst, arith}
+use Rattle.pb_language.specs.Book.{Registry}
 use Rattle.pb_language.specs.Expression.{Parts}
-use Rattle.pb_language.specs.Links.{Link, flush_entry, flush_links, goes, handler_places, link_to, passes}
-use Rattle.pb_language.specs.Plays.{Surroundings, handlers_at, task_at}
+use Rattle.pb_language.specs.Links.{flush_entry, flush_links, handler_places}
+use Rattle.pb_language.specs.Plays.{handlers_at, task_at}
 use Rattle.pb_language.specs.Task.{Handlers, Task, end, flush, handler}
 use Rattle.pb_play.specs.Plays.{handler_view}
+use Rattle.pb_play.specs.Sound.{IsSound}
 use Rattle.pb_play.specs.declared.play.Handler.{Handler}
 use Rattle.pb_syntax.proofs.Left.{drop-at}
 use Rattle.pb_flow.specs.Build.{IsPut, edges_from, tail_links, tail_tasks}
 use Rattle.pb_flow.specs.Nodes.{around_view}
 use Rattle.pb_flow.specs.declared.build.Tail.{Tail}
+use Rattle.pb_flow.proofs.Sounds.{stay-handler}
 use Rattle.pb_flow.proofs.build.put_flush.Goals as goal
 
 -- one more handler in front
@@ -40,6 +42,7 @@ loop-index-preserved c =
     record {
       front = omega (arith, e.front);
       place = omega (arith, e.place);
+      sound = stay-handler hs i l.index h c.args.tail.now l.tail c.put.new.self one lt c.index-handlers-index.is l.invariant.sound (λ ms line x. e.sound ms line (subst (λ (g : Handler). IsSound ms g.task) c.index-handlers-index.is x));
       put = λ ms vars.
           let a = around_view ms vars c.args.scene.now.around.value in
           let rest = handlers_at a l.index l.tail.place (map handler_view (drop l.index hs)) in

@@ -1,12 +1,14 @@
-use Rattle.std.proofs.Common.{◌≡◌, ◌+◌, None, length, refl, subst, arith}
+use Rattle.std.proofs.Common.{◌≡◌, ◌+◌, None, [], length, refl, subst, arith}
 use Rattle.pb_language.specs.Plays.{places_in, row_of}
 use Rattle.pb_language.specs.Task.{end, flush}
 use Rattle.pb_play.specs.Plays.{steps_view}
+use Rattle.pb_play.specs.Sound.{tasks_in}
 use Rattle.pb_flow.specs.Build.{IsPut, handlers_from}
 use Rattle.pb_flow.specs.Nodes.{around_view}
 use Rattle.pb_flow.specs.declared.build.Tail.{Tail}
-use Rattle.pb_flow.proofs.Blocks.{both-ok}
+use Rattle.pb_flow.proofs.Blocks.{both-ok, on-ok}
 use Rattle.pb_flow.proofs.Puts.{put-section}
+use Rattle.pb_flow.proofs.Sounds.{stay-both, stay-more}
 use Rattle.pb_flow.proofs.build.put_forced.Goals as goal
 
 pub returns-clause-put : goal.returns-clause-put
@@ -28,3 +30,13 @@ returns-clause-put c =
     (subst (λ k. IsPut ms vars (flush (hs k) end) (record { ok = None; failed = None }) old one c.in_ok-failed.failed) at_first (c.in_ok-failed.ensures.put ms vars))
     (subst (λ k. IsPut ms vars (flush (hs k) end) (record { ok = c.args.after; failed = None }) again two c.in_ok-ok.ok) at_second (c.in_ok-ok.ensures.put ms vars))
     (p ms vars))
+
+pub returns-clause-sound : goal.returns-clause-sound
+returns-clause-sound c =
+    let hs = c.args.scene.now.handlers.now in
+    let ts = tasks_in c.args.steps.now in
+    let old = c.args.tail.now in
+    let one = c.put_flush.new.tail in
+    let two = c.put_flush-2.new.tail in
+    on-ok c.put_steps.result _ _ c.put_steps.ensures.sound
+    (stay-both hs ts old two c.put_steps.new.tail (stay-more hs [] ts old two (λ ms b. tt) (stay-both hs [] old one two c.in_ok-failed.ensures.sound (record { sound = c.in_ok-ok.ensures.sound.sound }))))

@@ -1,15 +1,18 @@
-use Rattle.std.proofs.Common.{◌≡◌, ◌∙◌, suc, Some, None, length, map, ap, sym, arith}
+use Rattle.std.proofs.Common.{◌≡◌, ◌∙◌, suc, Some, None, length, map, subst, ap, sym, arith}
 use Rattle.std.proofs.lemmas.List.{length-map}
+use Rattle.std.proofs.lemmas.List.Elements.{All-nil}
 use Rattle.pb_language.specs.Sites.{gathering_steps, steps_of}
 use Rattle.pb_play.specs.Plays.{handler_view, play_view}
+use Rattle.pb_play.specs.Sound.{AreSound, handler_tasks}
 use Rattle.pb_template.specs.Entries.{entries_view}
 use Rattle.pb_language.specs.Book.{Registry}
 use Rattle.pb_language.specs.Plays.{play_row}
 use Rattle.pb_flow.specs.Build.{IsPut}
-use Rattle.pb_flow.specs.Nodes.{node_task, nodes_links}
+use Rattle.pb_flow.specs.Nodes.{AreVisitedSound, node_task, nodes_links}
 use Rattle.pb_flow.specs.Places.{play_places, sections_places}
 use Rattle.pb_flow.proofs.Sections.{play-begins, play-links, play-put, play-tasks}
 use Rattle.pb_flow.proofs.Sizes.{play-few}
+use Rattle.pb_flow.proofs.Sounds.{play-handlers, play-sections, sound-reverse}
 use Rattle.pb_flow.proofs.graph.nodes_of.Goals as goal
 
 pub behind-tail-requires-clause-places : goal.behind-tail-requires-clause-places
@@ -58,3 +61,11 @@ pub returns-clause-links : goal.returns-clause-links
 returns-clause-links c = λ ms.
     ap (nodes_links ms (entries_view c.args.play.now.vars.items) 1) c.into_nodes.ensures
     ∙ play-links ms (entries_view c.args.play.now.vars.items) (play_view c.args.play.now) c.behind-tail.result c.put_gathering.new.tail c.in_ok-begin.begin (ended c) c.behind-tail.ensures.nodes (whole c ms)
+
+pub returns-clause-sound : goal.returns-clause-sound
+returns-clause-sound c = λ ms s.
+    let play = c.args.play.now in
+    let handlers = subst (λ hs. AreSound ms (handler_tasks hs)) (sym c.in_ok-scene.ensures.handlers) (play-handlers ms play s) in
+    let none = subst (AreVisitedSound ms play.gathering) (sym c.behind-tail.ensures.nodes) (All-nil _) in
+    let first = c.in_ok-first.ensures.sound.sound ms play.gathering handlers (play-sections ms play s) none in
+    sound-reverse ms play.gathering c.put_gathering.new.tail.nodes.items _ c.into_nodes.ensures (c.in_ok-begin.ensures.sound ms first)

@@ -1,0 +1,9 @@
+pub mod Sames
+pub mod Rising
+pub mod Layers
+pub mod Places
+pub mod Searches
+pub mod Groups
+pub mod Casting
+pub mod Named
+pub mod Known

@@ -1,0 +1,6 @@
+pub mod Equal
+pub mod Tables
+pub mod Shown
+pub mod Casts
+pub mod Sights
+pub mod Words

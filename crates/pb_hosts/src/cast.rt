@@ -1,0 +1,67 @@
+// The hosts of a play, and what is always there for each of them.
+ghost use Rattle.std.specs.Prelude.{◌≡◌, ◌<◌, length};
+ghost use Rattle.std.specs.List.{All};
+ghost use Rattle.pb_inventory.specs.Words.{inventory_view};
+
+use pb_inventory::{Inventory, PatternFault};
+use pb_play::Play;
+use std::alloc::{AllocError, Global};
+
+/// The hosts of a play.
+#[derive(Drop)]
+pub struct Cast<'s> {
+    pub inventory: &'s Inventory,
+    pub play: &'s Play,
+    /// Their places in host order, in the order in which the play's pattern finds them.
+    pub places: Vec<usize>,
+    ghost placed: { All (λ p. p < length (inventory_view inventory.now).hosts) places.items },
+}
+
+impl<'s> Cast<'s> {
+    ghost use Rattle.std.specs.Prelude.{[], IfOk, Some, option_map, slice_get};
+    ghost use Rattle.pb_semantics.specs.Words.{is_among};
+    ghost use Rattle.pb_language.specs.Plays.{pattern_hosts};
+    ghost use Rattle.pb_play.specs.Words.{play_view};
+    ghost use Rattle.pb_hosts.specs.Casts.{cast_hosts};
+
+    /// The hosts that the play's pattern finds.
+    ///
+    /// # Errors
+    ///
+    /// Want of memory, also where a word of the pattern names no group and no host.
+    pub fn of(
+        alloc: Global,
+        inventory: &'s Inventory,
+        play: &'s Play,
+    ) -> Result<Cast<'s>, AllocError>
+        ensures inventory { IfOk result (λ c. c.inventory ≡ inventory.entry) }
+        ensures play { IfOk result (λ c. c.play ≡ play.entry) }
+        ensures placed { IfOk result (λ c.
+            All (λ p. p < length (inventory_view inventory.entry.now).hosts) c.places.items) }
+        ensures hosts { IfOk result (λ c. cast_hosts c ≡ pattern_hosts
+            (inventory_view inventory.entry.now) [] (play_view play.entry.now).pattern) }
+    {
+        match inventory.hosts_of_each(alloc, &play.pattern) {
+            Ok(places) => Ok(Cast {
+                inventory,
+                play,
+                places,
+            }),
+            Err(PatternFault::Unknown | PatternFault::NoMemory) => Err(AllocError),
+        }
+    }
+
+    /// Whether the host at that place is one of them.
+    pub fn has(&self, host: usize) -> bool
+        requires { host < length (inventory_view self.now.inventory.now).hosts }
+        ensures { option_map (λ h. is_among h.name (cast_hosts self.now))
+            (slice_get (inventory_view self.now.inventory.now).hosts host) ≡ Some result }
+    {
+        for place in &self.places {
+            if *place == host {
+                return true;
+            }
+        }
+        false
+    }
+}

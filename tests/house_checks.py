@@ -4,7 +4,9 @@ import sys
 from pathlib import Path
 
 TOP = Path(__file__).resolve().parent.parent
-CITES_A_PROOF = re.compile(r"^\s*(pub |ghost )*use \S*\.proofs\.")
+CITES_A_PROOF = re.compile(r"^\s*(pub |ghost )*use \S*\.proofs\.[^{]*(\{([^}]*)\})?")
+# The proof that a ghost field has one value at most.
+FIELD_PROOF = re.compile(r"\bby \{[^}]*\}")
 COLUMNS = 100
 IS_ONE_TEXT = re.compile(r'^\s*(b"|r#").*;$')
 # At the margin, so that the methods of a trait, which is public, aren't meant.
@@ -19,11 +21,19 @@ def sources():
 
 
 def proofs_cited():
-    """What is cited of proofs/ by a file of src/ or specs/: there may be nothing, since what they cite is a definition."""
+    """What is cited of proofs/ by a file of src/ or specs/: only what the proofs of ghost fields name, since all else is a definition."""
     for path in sources():
-        for number, line in enumerate(path.read_text(encoding="utf-8").splitlines(), 1):
-            if CITES_A_PROOF.match(line):
+        text = path.read_text(encoding="utf-8")
+        in_proofs = " ".join(FIELD_PROOF.findall(text))
+        for number, line in enumerate(text.splitlines(), 1):
+            cited = CITES_A_PROOF.match(line)
+            names = (cited[3] or "").replace(",", " ").split() if cited else []
+            if cited and not (names and all(is_word_of(name, in_proofs) for name in names)):
                 yield f"{path.relative_to(TOP)}:{number}: {line.strip()}"
+
+
+def is_word_of(name, text):
+    return re.search(rf"\b{re.escape(name)}\b", text) is not None
 
 
 def long_lines():

@@ -1,6 +1,7 @@
 // Trees of what is known of names, in one table: a copy of a tree is a number, and a tree with one
 // name changed shares all that is beside the path to the name.
-ghost use Rattle.std.specs.Prelude.{◌≡◌, ◌&&◌, ◌<◌, ◌||◌, List, false, length, not, true, IfOk, IsTrue};
+ghost use Rattle.std.specs.Prelude.{◌≡◌, ◌&&◌, ◌<◌, ◌||◌, List, false, length, not, true, IfOk};
+ghost use Rattle.std.specs.Prelude.{IsTrue};
 ghost use Rattle.pb_semantics.specs.Words.{below as below_of, is_among, join as join_of, slot_at};
 ghost use Rattle.pb_semantics.specs.Well.{Well};
 ghost use Rattle.pb_value.specs.Words.{is_always, kind_view, spot_view};

@@ -49,6 +49,27 @@ fn is_list(slot: Option<&Slot<Kind>>, most: usize) -> bool {
     }
 }
 
+fn is_this<O: Outlook>(outlook: &O, name: &str) -> bool {
+    outlook.this() == name
+}
+
+fn is_member<O: Outlook>(outlook: &O, group: &str, index: usize, name: &str) -> bool {
+    match outlook.member(group, index) {
+        Some(member) => member == name,
+        None => false,
+    }
+}
+
+// Which is always there, as `port` isn't.
+fn has_batch_of_two<O: Outlook>(outlook: &O) -> bool {
+    is_list(outlook.always("ansible_play_batch"), 2) && outlook.always("port").is_none()
+}
+
+// A number, of which it isn't known that it lasts.
+fn has_port_of_another<O: Outlook>(outlook: &O, host: &str) -> bool {
+    is_number(outlook.other(host, "port")) && !outlook.lasts(host, 0, "port")
+}
+
 #[test]
 fn what_others_see(rt: HostRuntime) -> Result<(), Fail> {
     let inventory = inventory(rt.alloc())?;
@@ -76,9 +97,8 @@ fn what_a_host_sees(rt: HostRuntime) -> Result<(), Fail> {
     }
     assert!(rt; !cast.has(0) && cast.has(1) && cast.has(2));
     let seen = Seen::of(alloc, &cast, &groups, &views, None, 1)?;
-    assert!(rt; seen.this() == "w2" && seen.member("web", 1) == Some("w1"));
-    assert!(rt; is_list(seen.always("ansible_play_batch"), 2) && seen.always("port").is_none());
-    assert!(rt; is_number(seen.other("w1", "port")) && !seen.lasts("w1", 0, "port"));
+    assert!(rt; is_this(&seen, "w2") && is_member(&seen, "web", 1, "w1"));
+    assert!(rt; has_batch_of_two(&seen) && has_port_of_another(&seen, "w1"));
     Ok(())
 }
 
@@ -89,19 +109,20 @@ fn one_name(alloc: Global) -> Result<Vec<String>, Fail>
     Ok(vec![in alloc; name]?)
 }
 
+// Whether a host lasts with the name, of a table of the one name `port`.
+fn has(alloc: Global, from: u32, every: Option<u32>, place: u32, name: &str) -> Result<bool, Fail> {
+    let names = one_name(alloc)?;
+    let from = vec![in alloc; from]?;
+    let lasting = Lasting { from, every };
+    Ok(lasting.has(&names, place, name))
+}
+
 #[test]
 fn what_lasts(rt: HostRuntime) -> Result<(), Fail> {
-    let names = one_name(rt.alloc())?;
-    let from = vec![in rt.alloc(); 2]?;
-    let lasting = Lasting { from, every: None };
-    assert!(rt; lasting.has(&names, 2, "port") && !lasting.has(&names, 1, "port"));
-    assert!(rt; !lasting.has(&names, 2, "size"));
-    let from = vec![in rt.alloc(); NEVER]?;
-    let lasting = Lasting {
-        from,
-        every: Some(1),
-    };
-    assert!(rt; lasting.has(&names, 1, "port") && !lasting.has(&names, 0, "port"));
-    assert!(rt; !lasting.has(&names, 1, "ansible_failed_result"));
+    let alloc = rt.alloc();
+    assert!(rt; has(alloc, 2, None, 2, "port")? && !has(alloc, 2, None, 1, "port")?);
+    assert!(rt; !has(alloc, 2, None, 2, "size")?);
+    assert!(rt; has(alloc, NEVER, Some(1), 1, "port")? && !has(alloc, NEVER, Some(1), 0, "port")?);
+    assert!(rt; !has(alloc, NEVER, Some(1), 1, "ansible_failed_result")?);
     Ok(())
 }

@@ -24,3 +24,5 @@ mod rules;
 mod tasks;
 #[cfg(test)]
 mod vars;
+#[cfg(test)]
+mod walks;

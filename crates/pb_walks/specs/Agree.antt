@@ -27,7 +27,8 @@ pub record ViewsAgree (vs us : List View) : Type 0 where
 
 -- what hosts have at their later places, however that is listed
 abbrev pub LaterAgrees : List Later → List Later → Type 0
-LaterAgrees ls ms = (p : ℕ) (g x : Name) → is_later (later_of g ls) p x ≡ is_later (later_of g ms) p x
+LaterAgrees ls ms = (p : ℕ) (g x : Name)
+    → is_later (later_of g ls) p x ≡ is_later (later_of g ms) p x
 
 -- play by play; of a play that isn't listed nothing is said
 abbrev pub LatersAgree : List (List Later) → List (List Later) → Type 0

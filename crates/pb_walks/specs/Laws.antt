@@ -22,7 +22,8 @@ use Rattle.pb_walks.specs.Agree.{LatersAgree, SettingsAgree, ViewsAgree}
 abbrev pub WalksGoUp : Type 0
 WalksGoUp = (st su : Setting) (row : Row) (e f : Exit) → WellViews st.views → WellViews su.views
     → WellExit e → WellExit f → SettingLe st su → ExitLe e f
-    → ValuesLe row (values st row e) (values su row f) × ExitLe (walk st row e).well (walk su row f).well
+    → ValuesLe row (values st row e) (values su row f)
+    × ExitLe (walk st row e).well (walk su row f).well
 
 -- values that are below the walk's at each node, and above them, have the walk's visits
 abbrev pub ValuesAreVisits : Type 0

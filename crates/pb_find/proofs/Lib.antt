@@ -1,0 +1,5 @@
+mod Offences
+mod Writes
+mod Grows
+mod Finding
+mod Entering

@@ -1,0 +1,4 @@
+pub mod Ways
+pub mod Finds
+pub mod Written
+pub mod Words

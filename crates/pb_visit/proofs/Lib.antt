@@ -1,0 +1,11 @@
+mod Stripped
+mod Sets
+mod Facts
+mod Held
+mod Looped
+mod OnGround
+mod Ends
+mod Making
+mod Leading
+mod Round
+mod Placed

@@ -1,10 +1,6 @@
 // What the hosts of a play see of each other, and of what is always there.
-ghost use Rattle.std.specs.Prelude.{◌≡◌, ◌∷◌, [], IfOk, codes};
-ghost use Rattle.pb_lattice.specs.Words.{names_of};
-
 use crate::plays::plays_of;
-use pb_hosts::lasting::NEVER;
-use pb_hosts::{Cast, Lasting, Seen, Views, groups_kind};
+use pb_hosts::{Cast, Seen, Views, groups_kind};
 use pb_inventory::Inventory;
 use pb_outlook::Outlook;
 use pb_play::Play;
@@ -80,49 +76,41 @@ fn what_others_see(rt: HostRuntime) -> Result<(), Fail> {
     Ok(())
 }
 
-// Of the second host in host order, d1 before it.
+fn plays(alloc: Global) -> Result<Vec<Play>, Fail> {
+    match plays_of(alloc, BOOK) {
+        Ok(plays) => Ok(plays),
+        Err(_) => Err(Fail::from("no plays")),
+    }
+}
+
+// In host order d1 stands before the two.
+#[test]
+fn what_a_play_finds(rt: HostRuntime) -> Result<(), Fail> {
+    let inventory = inventory(rt.alloc())?;
+    let plays = plays(rt.alloc())?;
+    let play = only(&plays)?;
+    let cast = Cast::of(rt.alloc(), &inventory, play)?;
+    if inventory.hosts() != 3 {
+        return Err(Fail::from("not three hosts"));
+    }
+    assert!(rt; !cast.has(0) && cast.has(1) && cast.has(2));
+    Ok(())
+}
+
 #[test]
 fn what_a_host_sees(rt: HostRuntime) -> Result<(), Fail> {
     let alloc = rt.alloc();
     let inventory = inventory(alloc)?;
-    let plays = match plays_of(alloc, BOOK) {
-        Ok(plays) => plays,
-        Err(_) => return Err(Fail::from("no plays")),
-    };
-    let cast = Cast::of(alloc, &inventory, only(&plays)?)?;
+    let plays = plays(alloc)?;
+    let play = only(&plays)?;
+    let cast = Cast::of(alloc, &inventory, play)?;
     let views = Views::of(alloc, &inventory)?;
     let groups = groups_kind(alloc, &inventory)?;
     if inventory.hosts() != 3 {
         return Err(Fail::from("not three hosts"));
     }
-    assert!(rt; !cast.has(0) && cast.has(1) && cast.has(2));
     let seen = Seen::of(alloc, &cast, &groups, &views, None, 1)?;
     assert!(rt; is_this(&seen, "w2") && is_member(&seen, "web", 1, "w1"));
     assert!(rt; has_batch_of_two(&seen) && has_port_of_another(&seen, "w1"));
-    Ok(())
-}
-
-fn one_name(alloc: Global) -> Result<Vec<String>, Fail>
-    ensures { IfOk result (λ ns. names_of ns.items ≡ codes "port" ∷ []) }
-{
-    let name = String::from_str(alloc, "port")?;
-    Ok(vec![in alloc; name]?)
-}
-
-// Whether a host lasts with the name, of a table of the one name `port`.
-fn has(alloc: Global, from: u32, every: Option<u32>, place: u32, name: &str) -> Result<bool, Fail> {
-    let names = one_name(alloc)?;
-    let from = vec![in alloc; from]?;
-    let lasting = Lasting { from, every };
-    Ok(lasting.has(&names, place, name))
-}
-
-#[test]
-fn what_lasts(rt: HostRuntime) -> Result<(), Fail> {
-    let alloc = rt.alloc();
-    assert!(rt; has(alloc, 2, None, 2, "port")? && !has(alloc, 2, None, 1, "port")?);
-    assert!(rt; !has(alloc, 2, None, 2, "size")?);
-    assert!(rt; has(alloc, NEVER, Some(1), 1, "port")? && !has(alloc, NEVER, Some(1), 0, "port")?);
-    assert!(rt; !has(alloc, NEVER, Some(1), 1, "ansible_failed_result")?);
     Ok(())
 }

@@ -96,27 +96,86 @@ fn knows(space: &Environments, values: &[Environment], node: usize) -> bool
     }
 }
 
-#[test]
-fn what_is_known_on_the_way(rt: HostRuntime) -> Result<(), Fail> {
-    let alloc = rt.alloc();
-    let inventory = inventory(alloc)?;
-    let plays = plays(alloc)?;
-    let play = only(&plays)?;
-    let cast = Cast::of(alloc, &inventory, play)?;
-    let views = Views::of(alloc, &inventory)?;
-    let groups = groups_kind(alloc, &inventory)?;
+// What is known at each node, from the start of the way, where nothing is.
+fn walked<O: Outlook>(
+    alloc: Global,
+    route: &Route<'_>,
+    outlook: &O,
+    space: &mut Environments,
+) -> Result<Vec<Environment>, Fail>
+    ensures { IfOk result (λ vs. All (Stands space.new) vs.items) }
+{
+    let entry = space.empty();
+    Ok(walk(alloc, route, outlook, entry, space)?)
+}
+
+// Whether the name is known from the second task on.
+fn knows_what_is_written<O: Outlook>(
+    alloc: Global,
+    route: &Route<'_>,
+    outlook: &O,
+) -> Result<bool, Fail> {
+    let mut space = table(alloc)?;
+    let values = walked(alloc, route, outlook, &mut space)?;
+    Ok(
+        values.len() == 4
+            && !knows(&space, &values, 1)
+            && knows(&space, &values, 2)
+            && knows(&space, &values, 3),
+    )
+}
+
+fn second_is_unfit<O: Outlook>(
+    alloc: Global,
+    route: &Route<'_>,
+    outlook: &O,
+) -> Result<bool, Fail> {
+    let mut space = table(alloc)?;
+    let values = walked(alloc, route, outlook, &mut space)?;
+    match values.get(2) {
+        Some(at) => is_unfit(alloc, route, 1, outlook, &space, *at),
+        None => Err(Fail::from("no second task")),
+    }
+}
+
+fn is_unfit_with_nothing<O: Outlook>(
+    alloc: Global,
+    route: &Route<'_>,
+    task: usize,
+    outlook: &O,
+) -> Result<bool, Fail> {
+    let space = table(alloc)?;
+    let none = space.empty();
+    is_unfit(alloc, route, task, outlook, &space, none)
+}
+
+// All of that.
+fn is_as_told<O: Outlook>(alloc: Global, route: &Route<'_>, outlook: &O) -> Result<bool, Fail> {
+    Ok(
+        knows_what_is_written(alloc, route, outlook)?
+            && !second_is_unfit(alloc, route, outlook)?
+            && is_unfit_with_nothing(alloc, route, 1, outlook)?
+            && !is_unfit_with_nothing(alloc, route, 0, outlook)?,
+    )
+}
+
+// For the first host.
+fn is_told<'s>(alloc: Global, inventory: &'s Inventory, play: &'s Play) -> Result<bool, Fail> {
+    let cast = Cast::of(alloc, inventory, play)?;
+    let views = Views::of(alloc, inventory)?;
+    let groups = groups_kind(alloc, inventory)?;
     if inventory.hosts() != 1 {
         return Err(Fail::from("not one host"));
     }
     let seen = Seen::of(alloc, &cast, &groups, &views, None, 0)?;
     let route = route_of(alloc, play)?;
-    let mut space = table(alloc)?;
-    let entry = space.empty();
-    let values = walk(alloc, &route, &seen, entry, &mut space)?;
-    assert!(rt; values.len() == 4 && !knows(&space, &values, 1));
-    assert!(rt; knows(&space, &values, 2) && knows(&space, &values, 3));
-    assert!(rt; is_unfit(alloc, &route, 1, &seen, &space, space.empty())?);
-    assert!(rt; !is_unfit(alloc, &route, 0, &seen, &space, space.empty())?);
-    assert!(rt; !is_unfit(alloc, &route, 1, &seen, &space, values[2])?);
+    is_as_told(alloc, &route, &seen)
+}
+
+#[test]
+fn what_is_known_on_the_way(rt: HostRuntime) -> Result<(), Fail> {
+    let inventory = inventory(rt.alloc())?;
+    let plays = plays(rt.alloc())?;
+    assert!(rt; is_told(rt.alloc(), &inventory, only(&plays)?)?);
     Ok(())
 }

@@ -1,2 +1,2 @@
 mod Led
-mod Same
+pub mod Same

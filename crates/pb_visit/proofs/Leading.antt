@@ -1,72 +1,19 @@
 -- What is known after a task of what it makes.
-use Rattle.std.proofs.Common.{◌≡◌, ◌∙◌, Bool, true, false, cond, Some, None, refl, sym, ap, subst}
-use Rattle.std.specs.Str.{bytes_eq}
-use Rattle.pb_semantics.specs.Kind.{KindData, Slots, Spot, nowhere, spot, slot_at, is_there}
+use Rattle.std.proofs.Common.{◌≡◌, ◌∙◌, Bool, true, false, Some, None, refl, sym, ap, subst}
+use Rattle.pb_semantics.specs.Kind.{KindData, Slots}
 use Rattle.pb_semantics.proofs.Bools.{untrue}
-use Rattle.pb_language.specs.Cases.{Sets, no_sets, sets, set_spot, with_register, with_sets, failing_cases}
-use Rattle.pb_language.specs.Expression.{Name}
+use Rattle.pb_language.specs.Cases.{with_register, with_sets, failing_cases}
 use Rattle.pb_language.specs.Judgement.{Exit, dead, live, going_exit, failing_exit, going_slots, failing_slots, has_case, has_going, live_if, task_sets}
-use Rattle.pb_language.specs.Scope.{with_spot}
 use Rattle.pb_language.specs.Setting.{Setting}
 use Rattle.pb_language.specs.Task.{Task}
 use Rattle.pb_language.specs.Walk.{failing_from, going_from}
-use Rattle.pb_language.proofs.ChangesUp.{at_spot}
-use Rattle.pb_lattice.specs.Environments.{IsKept, is_dead}
-use Rattle.pb_lattice.specs.Shared.{Shared}
+use Rattle.pb_lattice.specs.Environments.{is_dead}
 use Rattle.pb_value.specs.KindView.{kind_view}
 use Rattle.pb_outlook.specs.Standing.{known_of}
 use Rattle.pb_transfer.specs.Written.{AreSame, sets_view, where_led}
+use Rattle.pb_transfer.proofs.Same.{led_sets, same_through}
 use Rattle.pb_visit.specs.Made.{IsFailing, IsGoing}
 use Rattle.pb_visit.specs.declared.transfer.Made.{Made}
-
-pub same_own : (e : Exit) → AreSame e e
-same_own dead = tt
-same_own (live ss) = λ n. refl
-
-same_through : (e f g : Exit) → AreSame e f → AreSame f g → AreSame e g
-same_through dead dead dead h i = tt
-same_through dead dead (live us) h i = i
-same_through (live ss) (live ts) (live us) h i = λ n. h n ∙ i n
-same_through (live ss) (live ts) dead h i = i
-same_through dead (live ts) dead h i = tt
-same_through dead (live ts) (live us) h i = h
-same_through (live ss) dead dead h i = h
-same_through (live ss) dead (live us) h i = λ n. untrue h
-
--- what is set is somewhere
-set_there : (a : Bool) (s : Spot) (k : KindData) → is_there (set_spot a s k) ≡ true
-set_there true s k = refl
-set_there false nowhere k = refl
-set_there false (spot b j) k = refl
-
-set_nowhere : {A : Type 0} (a : Bool) (s : Spot) (k : KindData) → set_spot a s k ≡ nowhere → A
-set_nowhere a s k e = untrue (sym (ap is_there e) ∙ set_there a s k)
-
-abbrev SameAt : Slots → Slots → Type 0
-SameAt ss ts = (n : Name) → slot_at n ss ≡ slot_at n ts
-
-set_same : (n : Name) (a : Bool) (k : KindData) (ss ts : Slots) → SameAt ss ts → SameAt (with_spot n (set_spot a (slot_at n ss) k) ss) (with_spot n (set_spot a (slot_at n ts) k) ts)
-set_same n a k ss ts h p =
-    at_spot p n (set_spot a (slot_at n ss) k) ss (λ e. set_nowhere a (slot_at n ss) k e)
-    ∙ ap (λ s. cond (bytes_eq p n) (set_spot a s k) (slot_at p ss)) (h n) ∙ ap (λ s. cond (bytes_eq p n) (set_spot a (slot_at n ts) k) s) (h p)
-    ∙ sym (at_spot p n (set_spot a (slot_at n ts) k) ts (λ e. set_nowhere a (slot_at n ts) k e))
-
-same_sets : (r : Sets) (ss ts : Slots) → SameAt ss ts → SameAt (with_sets r ss) (with_sets r ts)
-same_sets no_sets ss ts h = h
-same_sets (sets n a k r) ss ts h = same_sets r (with_spot n (set_spot a (slot_at n ss) k) ss) (with_spot n (set_spot a (slot_at n ts) k) ts) (set_same n a k ss ts h)
-
-led_sets : (r : Sets) (e f : Exit) → AreSame e f → AreSame (where_led (with_sets r) e) (where_led (with_sets r) f)
-led_sets r dead dead h = tt
-led_sets r dead (live ts) h = h
-led_sets r (live ss) dead h = h
-led_sets r (live ss) (live ts) h = same_sets r ss ts h
-
--- what is kept twice is kept
-pub kept_through : (s t u : Shared) → IsKept s t → IsKept t u → IsKept s u
-kept_through s t u h i = record {
-  names = i.names ∙ h.names;
-  stays = λ e x. let a = h.stays e x in let b = i.stays e a.0 in (b.0, b.1 ∙ a.1);
-}
 
 -- no way leads on
 same_dead : (d e : Exit) → is_dead d ≡ true → is_dead e ≡ true → AreSame d e

@@ -8,7 +8,8 @@ use Rattle.pb_transfer.specs.declared.written.Set.{Set}
 use Rattle.pb_visit.specs.Made.{IsGoing}
 use Rattle.pb_visit.specs.Station.{station_task}
 use Rattle.pb_visit.specs.declared.transfer.Made.{Made}
-use Rattle.pb_visit.proofs.Leading.{goes_nowhere, goes_somewhere, kept_through}
+use Rattle.pb_transfer.proofs.Same.{kept_through}
+use Rattle.pb_visit.proofs.Leading.{goes_nowhere, goes_somewhere}
 use Rattle.pb_visit.proofs.transfer.goes.Goals as goal
 
 pub returns-in_default-clause-stands : goal.returns-in_default-clause-stands

@@ -1,5 +1,6 @@
-mod Offences
-mod Writes
+pub mod Offences
+pub mod Writes
 mod Grows
 mod Finding
-mod Entering
+pub mod Entering
+mod Counting

@@ -10,6 +10,9 @@ use Rattle.pb_visit.specs.Station.{station_task}
 use Rattle.pb_visit.specs.declared.station.Station.{Station}
 use Rattle.pb_way.specs.Visited.{nodes_visits}
 
+abbrev pub Visits : Type 0
+Visits = List Visit
+
 -- where no way leads
 abbrev pub nothing_known : Environment
 nothing_known = record { root = None }

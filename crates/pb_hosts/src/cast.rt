@@ -1,10 +1,16 @@
 // The hosts of a play, and what is always there for each of them.
-ghost use Rattle.std.specs.Prelude.{◌≡◌, ◌<◌, length};
+ghost use Rattle.std.specs.Prelude.{◌≡◌, ◌<◌, length, true};
 ghost use Rattle.std.specs.List.{All};
-ghost use Rattle.pb_inventory.specs.Words.{inventory_view};
+ghost use Rattle.pb_language.specs.Setting.{host_list};
+ghost use Rattle.pb_inventory.specs.Words.{inventory_view, names_at};
+ghost use Rattle.pb_value.specs.Words.{kind_view};
+ghost use Rattle.pb_hosts.specs.Equal.{same_kind};
+ghost use Rattle.pb_hosts.specs.Tables.{host_names};
 
+use crate::names::hosts_list;
 use pb_inventory::{Inventory, PatternFault};
 use pb_play::Play;
+use pb_value::Kind;
 use std::alloc::{AllocError, Global};
 
 /// The hosts of a play.
@@ -14,7 +20,11 @@ pub struct Cast<'s> {
     pub play: &'s Play,
     /// Their places in host order, in the order in which the play's pattern finds them.
     pub places: Vec<usize>,
+    // The kind of a list of them.
+    list: Kind,
     ghost placed: { All (λ p. p < length (inventory_view inventory.now).hosts) places.items },
+    ghost listed: { same_kind (kind_view list)
+        (host_list (names_at (host_names (inventory_view inventory.now)) places.items)) ≡ true },
 }
 
 impl<'s> Cast<'s> {
@@ -42,13 +52,40 @@ impl<'s> Cast<'s> {
             (inventory_view inventory.entry.now) [] (play_view play.entry.now).pattern) }
     {
         match inventory.hosts_of_each(alloc, &play.pattern) {
-            Ok(places) => Ok(Cast {
-                inventory,
-                play,
-                places,
-            }),
+            Ok(places) => Cast::at(alloc, inventory, play, places),
             Err(PatternFault::Unknown | PatternFault::NoMemory) => Err(AllocError),
         }
+    }
+
+    // Those at these places.
+    fn at(
+        alloc: Global,
+        inventory: &'s Inventory,
+        play: &'s Play,
+        places: Vec<usize>,
+    ) -> Result<Cast<'s>, AllocError>
+        requires { All (λ p. p < length (inventory_view inventory.now).hosts) places.items }
+        ensures inventory { IfOk result (λ c. c.inventory ≡ inventory.entry) }
+        ensures play { IfOk result (λ c. c.play ≡ play.entry) }
+        ensures placed { IfOk result (λ c.
+            All (λ p. p < length (inventory_view inventory.entry.now).hosts) c.places.items) }
+        ensures hosts { IfOk result (λ c. cast_hosts c
+            ≡ names_at (host_names (inventory_view inventory.entry.now)) places.items) }
+    {
+        let list = hosts_list(alloc, inventory, &places)?;
+        Ok(Cast {
+            inventory,
+            play,
+            places,
+            list,
+        })
+    }
+
+    /// The kind of a list of them.
+    pub fn list(&self) -> &Kind
+        ensures { kind_view result.now ≡ host_list (cast_hosts self.now) }
+    {
+        &self.list
     }
 
     /// Whether the host at that place is one of them.

@@ -17,7 +17,7 @@ ghost use Rattle.pb_hosts.specs.Tables.{host_names};
 
 use crate::cast::Cast;
 use crate::lasting::Lasting;
-use crate::names::{groups_record, hosts_list, one_host, texts_list};
+use crate::names::{groups_record, one_host, texts_list};
 use crate::views::Views;
 use pb_inventory::Inventory;
 use pb_outlook::Outlook;
@@ -111,9 +111,13 @@ fn always_slots(
     ensures { IfOk result (λ m. slots_view m.entries
         ≡ named_slots (setting_in cast.now [] [] name.now) 0 no_slots) }
 {
-    let batch = hosts_list(alloc, cast.inventory, &cast.places)?;
     let mut slots = Slots::new(alloc);
-    put(alloc, &mut slots, "ansible_play_batch", batch)?;
+    put(
+        alloc,
+        &mut slots,
+        "ansible_play_batch",
+        cast.list().clone()?,
+    )?;
     put(
         alloc,
         &mut slots,

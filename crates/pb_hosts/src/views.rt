@@ -14,6 +14,10 @@ use pb_inventory::Inventory;
 use pb_value::below::find;
 use pb_value::{Fields, Kind, Slot, Slots, put_slot};
 use std::alloc::{AllocError, Global};
+use std::sync::Arc;
+
+/// The most variables that are known of all hosts together, each as often as a host has it.
+pub const MOST_VARIABLES: usize = 1_048_576;
 
 /// What is known of the variables of each host of an inventory, as other hosts see them.
 #[derive(Drop)]
@@ -39,7 +43,8 @@ impl<'i> Views<'i> {
     ///
     /// # Errors
     ///
-    /// Want of memory.
+    /// Want of memory, also where the layers of all hosts have more than `MOST_VARIABLES`
+    /// variables.
     pub fn of(alloc: Global, inventory: &'i Inventory) -> Result<Views<'i>, AllocError>
         ensures inventory { IfOk result (λ v. v.inventory ≡ inventory.entry) }
         ensures known { IfOk result (λ v. ViewsAgree (views_view v)
@@ -47,6 +52,9 @@ impl<'i> Views<'i> {
         ensures views { IfOk result (λ v. views_view v
             ≡ known_views (inventory_view inventory.entry.now).hosts) }
     {
+        if variables_in(inventory) > MOST_VARIABLES {
+            return Err(AllocError);
+        }
         let mut hosts = Vec::with_capacity(alloc, inventory.hosts())?;
         for host in 0..inventory.hosts() {
             hosts.push(known_of(alloc, inventory, host)?)?;
@@ -63,6 +71,14 @@ impl<'i> Views<'i> {
             (host_names (inventory_view inventory.entry.now)) (slots_of_each hosts.items) }
     {
         Views { inventory, hosts }
+    }
+
+    /// What is known of the variables of each host, in host order.
+    pub fn into_hosts(self) -> Vec<Slots>
+        ensures all { length result.items ≡ length (inventory_view self.entry.inventory.now).hosts }
+        ensures views { views_view self.entry ≡ views_with self.entry.inventory.now result.items }
+    {
+        self.hosts
     }
 
     /// What is known of the variables of the host at that place.
@@ -94,6 +110,23 @@ impl<'i> Views<'i> {
             None => None,
         }
     }
+}
+
+// How many variables the layers of all hosts have; those of a layer count for each host.
+fn variables_in(inventory: &Inventory) -> usize {
+    let mut count: usize = 0;
+    for host in 0..inventory.hosts() {
+        count = count.saturating_add(variables_of(inventory.vars_of(host)));
+    }
+    count
+}
+
+fn variables_of(layers: &[Arc<Fields>]) -> usize {
+    let mut count: usize = 0;
+    for layer in layers {
+        count = count.saturating_add(layer.len());
+    }
+    count
 }
 
 /// What the inventory says of the variables of the host.

@@ -1,0 +1,18 @@
+use Rattle.std.proofs.Common.{◌≡◌, ◌∙◌, ap, subst, true}
+use Rattle.pb_language.specs.Setting.{host_list}
+use Rattle.pb_inventory.specs.Inventory.{inventory_view}
+use Rattle.pb_inventory.specs.Patterns.{names_at}
+use Rattle.pb_value.specs.KindView.{kind_view}
+use Rattle.pb_hosts.specs.Equal.{same_kind}
+use Rattle.pb_hosts.specs.Tables.{host_names}
+use Rattle.pb_hosts.proofs.Sames.{own_kind}
+use Rattle.pb_hosts.proofs.cast.Cast.at.Goals as goal
+
+pub invariant_of-result : goal.invariant_of-result
+invariant_of-result c =
+    let names = host_names (inventory_view c.args.inventory.now) in
+    let list = kind_view c.in_ok-list.list in
+    record {
+      placed = c.requires;
+      listed = subst (λ k. same_kind list k ≡ true) (c.in_ok-list.ensures ∙ ap (λ ps. host_list (names_at names ps)) c.deref.ensures.value) (own_kind list);
+    }

@@ -1,0 +1,5 @@
+mod Visits
+mod Order
+mod Marks
+mod Sinces
+mod Lasted

@@ -1,0 +1,17 @@
+pub mod Chained
+pub mod HostDrops
+pub mod HostFinds
+pub mod HostLasts
+pub mod HostLater
+pub mod HostSeen
+pub mod HostTables
+pub mod HostWalks
+pub mod HostWays
+pub mod HostWrites
+pub mod Joined
+pub mod Lasted
+pub mod LaterTables
+pub mod Putting
+pub mod Rounded
+pub mod Settling
+pub mod Viewed

@@ -1,0 +1,160 @@
+// What the ways of all hosts come to: the first fault, whether the kinds settle, and the budget.
+ghost use Rattle.std.specs.Prelude.{◌≡◌, All, IfOk, option_map};
+ghost use Rattle.pb_language.specs.Program.{Program};
+ghost use Rattle.pb_language.specs.Verdict.{flow_verdict, found_laters, offence_verdict};
+ghost use Rattle.pb_language.specs.Verdict.{settled_verdict};
+ghost use Rattle.pb_language.specs.Tables.{views_after};
+ghost use Rattle.pb_inventory.specs.Words.{inventory_view};
+ghost use Rattle.pb_lattice.specs.Words.{IsAscending, names_of};
+ghost use Rattle.pb_walks.specs.Words.{ViewsAgree};
+ghost use Rattle.pb_hosts.specs.Words.{views_view};
+ghost use Rattle.pb_tables.specs.Outcomes.{AlwaysNamesHandlers, host_offence, outcome_verdict};
+ghost use Rattle.pb_tables.specs.Rounds.{AreAfter};
+ghost use Rattle.pb_tables.specs.Scenes.{AreScenes};
+ghost use Rattle.pb_tables.specs.Tabled.{AreTables, IsStage};
+
+use crate::laters::laters_of;
+use crate::round::{Round, round_of};
+use crate::scene::Scene;
+use crate::table::{Stage, Tables};
+use pb_find::FaultAt;
+use pb_hosts::{Views, groups_kind};
+use pb_inventory::Inventory;
+use pb_lattice::Environments;
+use std::alloc::{AllocError, Global};
+
+// In so many rounds the kinds of hosts' variables are worked out.
+const ROUNDS: usize = 4;
+
+/// A fault of a host at a line.
+#[derive(Drop)]
+pub struct HostFault {
+    /// The host's name.
+    pub host: String,
+    pub fault: FaultAt,
+}
+
+/// What the ways of all hosts come to.
+#[derive(Drop)]
+pub struct Outcome<'i> {
+    /// The least line, then the first host, then the least code.
+    pub fault: Option<HostFault>,
+    /// Each write is below what the last round says that others see.
+    pub is_settled: bool,
+    /// The most module calls.
+    pub calls: u64,
+    /// What hosts' variables look like to others, by the last round.
+    pub views: Views<'i>,
+}
+
+/// What the ways of all hosts through all plays come to, in four rounds of the kinds that hosts see
+/// of each other, or until a round changes nothing. The names are those of all variables.
+///
+/// # Errors
+///
+/// Want of memory, also where a name that is known or written isn't among the names.
+pub fn outcome_of<'i>(
+    alloc: Global,
+    inventory: &'i Inventory,
+    scenes: &[Scene<'i>],
+    names: Vec<String>,
+) -> Result<Outcome<'i>, AllocError>
+    requires ascending { IsAscending (names_of names.items) }
+    requires scenes { All (λ s. s.cast.inventory.now ≡ inventory.now) scenes.now }
+    ensures inventory { IfOk result (λ o. o.views.inventory ≡ inventory.entry) }
+    ensures verdict { IfOk result (λ o. (ps : Program)
+        → AreScenes inventory.entry.now ps scenes.now
+        → AlwaysNamesHandlers (inventory_view inventory.entry.now) ps
+        → outcome_verdict o ≡ flow_verdict ps (inventory_view inventory.entry.now)) }
+    ensures views { IfOk result (λ o. (ps : Program)
+        → AreScenes inventory.entry.now ps scenes.now
+        → ViewsAgree (views_view o.views) (views_after 4 (inventory_view inventory.entry.now) ps
+        (found_laters ps (inventory_view inventory.entry.now)))) }
+{
+    let groups = groups_kind(alloc, inventory)?;
+    let space = Environments::new(alloc, copies(alloc, &names)?)?;
+    let stage = Stage {
+        inventory,
+        scenes,
+        groups: &groups,
+        names: &names,
+    };
+    let views = Views::of(alloc, inventory)?;
+    let (laters, space) = laters_of(alloc, &stage, &views, space)?;
+    last_round(alloc, &stage, Tables { views, laters }, space)
+}
+
+// What the round comes to that changes nothing, or the one after the last.
+fn last_round<'i>(
+    alloc: Global,
+    stage: &Stage<'i, '_>,
+    tables: Tables<'i>,
+    space: Environments,
+) -> Result<Outcome<'i>, AllocError>
+    requires stage { IsStage stage.now }
+    requires inventory { tables.views.inventory ≡ stage.now.inventory }
+    requires tables { AreTables stage.now tables }
+    requires names { space.names ≡ names_of stage.now.names.now }
+    requires first { (ps : Program) → AreScenes stage.now.inventory.now ps stage.now.scenes.now
+        → AreAfter 0 stage.now tables ps }
+    ensures inventory { IfOk result (λ o. o.views.inventory ≡ stage.now.inventory) }
+    ensures verdict { IfOk result (λ o. (ps : Program)
+        → AreScenes stage.now.inventory.now ps stage.now.scenes.now
+        → AlwaysNamesHandlers (inventory_view stage.now.inventory.now) ps
+        → outcome_verdict o ≡ flow_verdict ps (inventory_view stage.now.inventory.now)) }
+    ensures views { IfOk result (λ o. (ps : Program)
+        → AreScenes stage.now.inventory.now ps stage.now.scenes.now
+        → ViewsAgree (views_view o.views) (views_after 4
+        (inventory_view stage.now.inventory.now) ps
+        (found_laters ps (inventory_view stage.now.inventory.now)))) }
+{
+    let mut tables = tables;
+    let mut space = space;
+    for _round in 0..ROUNDS {
+        let (round, emptied) = round_of(alloc, stage, &tables, space)?;
+        if round.is_same {
+            return Ok(outcome_in(round, tables));
+        }
+        space = emptied;
+        tables = tables_after(round, tables);
+    }
+    let (round, _) = round_of(alloc, stage, &tables, space)?;
+    Ok(outcome_in(round, tables))
+}
+
+// What is found in a round, with what others see in it.
+fn outcome_in<'i>(round: Round<'i>, tables: Tables<'i>) -> Outcome<'i>
+    ensures verdict { outcome_verdict result ≡ offence_verdict
+        (option_map host_offence round.entry.fault)
+        (settled_verdict round.entry.is_settled round.entry.calls) }
+    ensures views { result.views ≡ tables.entry.views }
+{
+    Outcome {
+        fault: round.fault,
+        is_settled: round.is_settled,
+        calls: round.calls,
+        views: tables.views,
+    }
+}
+
+// The tables of the round after that one.
+fn tables_after<'i>(round: Round<'i>, tables: Tables<'i>) -> Tables<'i>
+    ensures views { result.views ≡ round.entry.next }
+    ensures laters { result.laters ≡ tables.entry.laters }
+{
+    Tables {
+        views: round.next,
+        laters: tables.laters,
+    }
+}
+
+// Copies of the names, for the environments.
+fn copies(alloc: Global, names: &[String]) -> Result<Vec<String>, AllocError>
+    ensures { IfOk result (λ v. names_of v.items ≡ names_of names.now) }
+{
+    let mut copies = Vec::with_capacity(alloc, names.len())?;
+    for name in names {
+        copies.push(name.clone()?)?;
+    }
+    Ok(copies)
+}

@@ -2,4 +2,3 @@ pub mod RunTexts
 pub mod Commands
 mod Verdicts
 mod Refusals
-mod ReadyRuns

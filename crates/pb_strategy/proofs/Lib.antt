@@ -1,8 +1,3 @@
-pub mod OneHost
-pub mod Alone
-pub mod FoundModules
-pub mod PlainModules
-pub mod ReadyRuns
 pub mod Histories
 pub mod Tallies
 pub mod HostFields

@@ -1,5 +1,3 @@
-pub mod Built
-pub mod Readiness
 pub mod Events
 pub mod Passes
 pub mod History

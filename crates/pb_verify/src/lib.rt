@@ -8,11 +8,16 @@
 //     }
 #![tactic(auto)]
 
+mod budget;
+mod built;
 pub mod checked;
-mod names;
+mod environment;
+mod reads;
 pub mod refusal;
-mod scenes;
+mod results;
+mod rules;
 pub mod verify;
+mod walk;
 
 pub use checked::Checked;
 pub use refusal::{Code, Refusal};

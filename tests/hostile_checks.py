@@ -17,7 +17,7 @@ from pathlib import Path
 sys.dont_write_bytecode = True
 
 from check import TIMES, Outcome, bytes_of, outcome_of, short
-from hostile_files import NO_JSON, NotBuilt, accepted, hostile, hostile_files, refused, silent
+from hostile_files import NO_JSON, accepted, hostile, hostile_files, refused, silent
 
 TESTS = Path(__file__).resolve().parent
 PROGRAM = TESTS.parent / "crates/pb_cli/out/pb_cli"
@@ -41,12 +41,12 @@ HOST = rb"(?!-\n)[A-Za-z0-9._-]{1,253}"  # none of these files has a host `-`
 VERDICTS = [
     (0, rb"accepted budget (0|[1-9]\d*)\n"),
     (1, rb"refused (S0[1-5]|I0[1-5]|P01|V11) line 0 host -\n"),
-    (1, rb"refused (P0[2-9]|N00|V0[5-9]|V1[023]) line " + LINE + rb" host -\n"),
+    (1, rb"refused (P0[2-9]|V0[5-9]|V1[023]) line " + LINE + rb" host -\n"),
     (1, rb"refused V0[1-4] line " + LINE + rb" host " + HOST + rb"\n"),
 ]
 
 # The first letters of the codes that a change of this file can lead to, where the others are sound.
-LETTERS = {"book": "PNV", "inventory": "INV", "signatures": "SPNV"}
+LETTERS = {"book": "PV", "inventory": "IV", "signatures": "SPV"}
 
 
 def verdict_on(place):
@@ -112,7 +112,7 @@ REPLACEMENTS = b'"\\{}[]:,7e \x00\x1f\x7f\x80\xff'
 
 
 def changes():
-    yield hostile("the whole files", NotBuilt(0, accepted(CALLS_OF_A_HOST * HOSTS)), **WHOLE)
+    yield hostile("the whole files", accepted(CALLS_OF_A_HOST * HOSTS), **WHOLE)
     yield hostile("the plain book", accepted(PLAIN_CALLS), **PLAIN)
     for name, files in [("whole", WHOLE), ("plain", PLAIN)]:
         for place, content in files.items():
@@ -162,7 +162,6 @@ def all_checks():
 class Found:
     tried: int = 0
     untried: int = 0
-    not_built: int = 0
     large: int = 0  # that want more than the memory
     failures: list = field(default_factory=list)
 
@@ -187,8 +186,6 @@ def found_by(worker, program):
             outcome, wanted = tried_with_more(program, check)
         if wanted:
             found.failures.append(f"{check.id}\n  wanted: {wanted}\n  got: {outcome}\n  of: {files_of(check)}")
-        elif isinstance(check.judge, NotBuilt) and check.judge.verdict(outcome):
-            found.not_built += 1
     return found
 
 
@@ -233,7 +230,6 @@ def main():
         print(f"FAILED: hostile, {said}")
     if untried:
         print(f"FAILED: hostile, {untried} more aren't tried")
-    print(f"told to be not built yet, as wanted: {sum(share.not_built for share in found)}")
     print(f"told to want more memory, and answered with more: {sum(share.large for share in found)}")
     failed = len(failures) + untried
     print(f"{sum(share.tried for share in found) - len(failures)} passed, {failed} failed")

@@ -1,6 +1,5 @@
 # Hostile files by name, each with the answer that the rules of the language give it.
 import json
-from dataclasses import dataclass
 
 from check import Check, bytes_of, exactly, short
 from program_checks import CHECK, ONE_HOST, SIGNED, broken_texts, module_of
@@ -60,19 +59,6 @@ def hostile_files():
 
 
 # What is wanted.
-
-
-@dataclass
-class NotBuilt:
-    """Wants to be told the line of the first form that can't be judged yet; or the verdict, once it can be judged."""
-
-    line: int
-    verdict: object
-
-    def __call__(self, outcome):
-        told = refused("N00", self.line)(outcome)
-        verdict = self.verdict(outcome)
-        return told and verdict and f"{told}; or, once it is built, {verdict}"
 
 
 def silent(judge):
@@ -185,15 +171,15 @@ def books_of_one_list():
         ("one list of small records", *in_message('[{"":0}', ',{"":0}', "]"), accepted(0)),
         ("one list of deep records", *in_message("[{}", "," + deep_record(MOST_LEVELS - 1), "]"), accepted(0)),
         ("one loop", *in_task('"loop":[0', ",0", "]"), refused("P08", 2)),
-        ("one list of conditions", *in_task('"when":[true', ",true", "]"), NotBuilt(2, accepted(1))),
-        ("one list of expressions", *in_task('"when":["1==1"', ',"1==1"', "]"), NotBuilt(2, accepted(1))),
-        ("one list of paths", *in_task('"when":["a.b"', ',"a.b"', "]"), NotBuilt(2, refused_on_host("V01", 2))),
-        ("one list of assertions", *in_assertion('["1==1"', ',"1==1"', "]"), NotBuilt(2, accepted(0))),
+        ("one list of conditions", *in_task('"when":[true', ",true", "]"), accepted(1)),
+        ("one list of expressions", *in_task('"when":["1==1"', ',"1==1"', "]"), accepted(1)),
+        ("one list of paths", *in_task('"when":["a.b"', ',"a.b"', "]"), refused_on_host("V01", 2)),
+        ("one list of assertions", *in_assertion('["1==1"', ',"1==1"', "]"), accepted(0)),
         ("one list of templates", *in_message('["{{1}}"', ',"{{1}}"', "]"), accepted(0)),
-        ("one list of templates in texts", *in_message('["{{1}}"', ',"x{{1}}"', "]"), NotBuilt(2, accepted(0))),
-        ("one list of notices", *in_task('"notify":["a"', ',"a"', "]"), NotBuilt(2, refused("V05", 2))),
-        ("one list of patterns", *in_play('"hosts":["all"', ',"all"', "]"), NotBuilt(1, accepted(1))),
-        ("one list of batches", *in_play('"hosts":"all","serial":[1', ",1", "]"), NotBuilt(1, accepted(1))),
+        ("one list of templates in texts", *in_message('["{{1}}"', ',"x{{1}}"', "]"), accepted(0)),
+        ("one list of notices", *in_task('"notify":["a"', ',"a"', "]"), refused("V05", 2)),
+        ("one list of patterns", *in_play('"hosts":["all"', ',"all"', "]"), accepted(1)),
+        ("one list of batches", *in_play('"hosts":"all","serial":[1', ",1", "]"), accepted(1)),
         ("numbers for plays", "[0", ",0", "]", refused("P02", 1)),
         ("deep records for plays", "[{}", "," + deep_record(MOST_JSON_LEVELS - 1), "]", refused("P02", 1)),
         ("plays", '[{"hosts":"all"}', ',{"hosts":"all"}', "]", many_plays),
@@ -210,7 +196,7 @@ def books_of_many_names():
         ("facts", TASKS + '{"set_fact":{"a":0', ',"f#":0', "}}" + END, accepted(0)),
         ("parameters", TASKS + '{"ping":{"a":0', ',"f#":0', "}}" + END, refused("V07", 2)),
         ("modules", TASKS + '{"a":0', ',"f#":0', "}" + END, refused("P05", 2)),
-        ("variables", *in_play('"hosts":"all","vars":{"a":0', ',"f#":0', "}"), NotBuilt(1, accepted(1))),
+        ("variables", *in_play('"hosts":"all","vars":{"a":0', ',"f#":0', "}"), accepted(1)),
         ("keywords", *in_play('"hosts":"all"', ',"f#":0', ""), refused("P03", 1)),
     ]
 
@@ -277,7 +263,7 @@ def without_end(judge):
 
 
 def largest_inventories():
-    later = NotBuilt(0, accepted(0))
+    later = accepted(0)
     variables = '{"all":{"hosts":["h1"],"vars":{'
     yield from many_digits(variables + '"v":', "}}}", refused("I01"), later)
     yield from without_end(refused("I01"))
@@ -330,19 +316,19 @@ def books_of_many():
     rows = [
         (
             *("plays", MOST_PLAYS, lambda count: {"book": listed(PLAY, count)}),
-            *(NotBuilt(3, accepted(MOST_PLAYS)), refused("P08", 2 * MOST_PLAYS + 1)),
+            *(accepted(MOST_PLAYS), refused("P08", 2 * MOST_PLAYS + 1)),
         ),
         (
             *("handlers", MOST_HANDLERS, lambda count: {"book": handled(count)}),
-            *(NotBuilt(1, accepted(1 + MOST_HANDLERS)), refused("P08", 2 + MOST_HANDLERS + 1)),
+            *(accepted(1 + MOST_HANDLERS), refused("P08", 2 + MOST_HANDLERS + 1)),
         ),
         (
             *("items", MOST_ITEMS, lambda count: {"book": looped(count)}),
-            *(NotBuilt(2, accepted(MOST_ITEMS)), refused("P08", 2)),
+            *(accepted(MOST_ITEMS), refused("P08", 2)),
         ),
         (
             *("hosts", MOST_HOSTS, lambda count: {"book": play, "inventory": hosts(count)}),
-            *(NotBuilt(0, accepted(MOST_HOSTS)), refused("I05")),
+            *(accepted(MOST_HOSTS), refused("I05")),
         ),
     ]
     for name, most, files_of, fine, past in rows:
@@ -381,11 +367,11 @@ def books_of_lines():
     past = refused("P08", MOST_LINES + 1)
     count, rest = divmod(MOST_LINES - 1, LINES_OF_A_TOWER)
     for part in ["block", "rescue"]:
-        fine = NotBuilt(2, accepted(count + 1))
+        fine = accepted(count + 1)
         yield hostile(f"{MOST_LINES} lines, blocks in {part}", fine, book=towers(count, part, rest - 1))
         yield hostile(f"{MOST_LINES + 1} lines, blocks in {part}", past, book=towers(count, part, rest))
     calls = MOST_LINES - 1 - MOST_BLOCKS
-    for number, judge in [(calls, NotBuilt(2, accepted(calls))), (calls + 1, past)]:
+    for number, judge in [(calls, accepted(calls)), (calls + 1, past)]:
         book = TASKS + tower(MOST_BLOCKS, "block", ",".join([PING] * number)) + END
         yield hostile(f"{number} tasks in one tower of blocks", judge, book=book)
 
@@ -423,13 +409,13 @@ def full_books():
 # Where a book may have a value: the book, the value's line, and the verdict where the value may stand.
 
 VALUE_PLACES = {
-    "a play's variable": ('[{"hosts":"all","tasks":[{"ping":null}],"vars":{"v":@}}]', 1, NotBuilt(1, accepted(1))),
-    "a block's variable": (TASKS + '{"block":[{"ping":null}],"vars":{"v":@}}' + END, 2, NotBuilt(2, accepted(1))),
-    "a task's variable": (TASKS + '{"ping":null,"vars":{"v":@}}' + END, 2, NotBuilt(2, accepted(1))),
-    "an item": (TASKS + '{"ping":null,"loop":[@]}' + END, 2, NotBuilt(2, accepted(1))),
+    "a play's variable": ('[{"hosts":"all","tasks":[{"ping":null}],"vars":{"v":@}}]', 1, accepted(1)),
+    "a block's variable": (TASKS + '{"block":[{"ping":null}],"vars":{"v":@}}' + END, 2, accepted(1)),
+    "a task's variable": (TASKS + '{"ping":null,"vars":{"v":@}}' + END, 2, accepted(1)),
+    "an item": (TASKS + '{"ping":null,"loop":[@]}' + END, 2, accepted(1)),
     "a fact": (TASKS + '{"set_fact":{"f":@}}' + END, 2, accepted(0)),
     "a message": (TASKS + '{"debug":{"msg":@}}' + END, 2, accepted(0)),
-    "a handler's message": ('[{"hosts":"all","handlers":[{"debug":{"msg":@}}]}]', 2, NotBuilt(1, accepted(0))),
+    "a handler's message": ('[{"hosts":"all","handlers":[{"debug":{"msg":@}}]}]', 2, accepted(0)),
 }
 
 
@@ -523,10 +509,10 @@ NUMBER_PLACES = {
         TASKS + '{"ping":null,"until":true,"retries":@}' + END,
         2,
         MOST_RETRIES,
-        NotBuilt(2, accepted(1 + MOST_RETRIES)),
+        accepted(1 + MOST_RETRIES),
     ),
-    "serial": ('[{"hosts":"all","serial":@}]', 1, MOST_BATCH, NotBuilt(1, accepted(0))),
-    "an item of serial": ('[{"hosts":"all","serial":["5%",@]}]', 1, MOST_BATCH, NotBuilt(1, accepted(0))),
+    "serial": ('[{"hosts":"all","serial":@}]', 1, MOST_BATCH, accepted(0)),
+    "an item of serial": ('[{"hosts":"all","serial":["5%",@]}]', 1, MOST_BATCH, accepted(0)),
 }
 
 
@@ -545,28 +531,28 @@ def whole_numbers():
 # Texts that are no values, and conditions: the book, the text's line, and the verdict where the text may stand.
 
 TEXT_PLACES = {
-    "a pattern": ('[{"hosts":"@"}]', 1, NotBuilt(1, refused("V06", 1))),
+    "a pattern": ('[{"hosts":"@"}]', 1, refused("V06", 1)),
     "a play's name": ('[{"hosts":"all","name":"@"}]', 1, accepted(0)),
-    "a block's name": (TASKS + '{"block":[],"name":"@"}' + END, 2, NotBuilt(2, accepted(0))),
+    "a block's name": (TASKS + '{"block":[],"name":"@"}' + END, 2, accepted(0)),
     "a task's name": (TASKS + '{"ping":null,"name":"@"}' + END, 2, accepted(1)),
     "a command": (TASKS + '{"command":"@"}' + END, 2, accepted(1)),
     "an argument": (TASKS + '{"command":{"cmd":"x","chdir":"@"}}' + END, 2, accepted(1)),
     "a notice": (
         '[{"hosts":"all","tasks":[{"ping":null,"notify":"@"}],"handlers":[{"ping":null,"name":"@"}]}]',
         2,
-        NotBuilt(1, accepted(2)),
+        accepted(2),
     ),
-    "a handler's name": ('[{"hosts":"all","handlers":[{"ping":null,"name":"@"}]}]', 2, NotBuilt(1, accepted(0))),
-    "a topic": ('[{"hosts":"all","handlers":[{"ping":null,"listen":["x","@"]}]}]', 2, NotBuilt(1, accepted(0))),
+    "a handler's name": ('[{"hosts":"all","handlers":[{"ping":null,"name":"@"}]}]', 2, accepted(0)),
+    "a topic": ('[{"hosts":"all","handlers":[{"ping":null,"listen":["x","@"]}]}]', 2, accepted(0)),
 }
 CONDITION_PLACES = {
     "when": (TASKS + '{"ping":null,"when":"@"}' + END, 2, accepted(1)),
-    "a block's when": (TASKS + '{"block":[{"ping":null}],"when":"@"}' + END, 2, NotBuilt(2, accepted(1))),
-    "a handler's when": ('[{"hosts":"all","handlers":[{"ping":null,"when":"@"}]}]', 2, NotBuilt(1, accepted(0))),
-    "changed_when": (TASKS + '{"ping":null,"changed_when":["@"]}' + END, 2, NotBuilt(2, accepted(1))),
-    "failed_when": (TASKS + '{"ping":null,"failed_when":["@"]}' + END, 2, NotBuilt(2, accepted(1))),
-    "until": (TASKS + '{"ping":null,"until":"@"}' + END, 2, NotBuilt(2, accepted(4))),
-    "that": (TASKS + '{"assert":{"that":"@"}}' + END, 2, NotBuilt(2, accepted(0))),
+    "a block's when": (TASKS + '{"block":[{"ping":null}],"when":"@"}' + END, 2, accepted(1)),
+    "a handler's when": ('[{"hosts":"all","handlers":[{"ping":null,"when":"@"}]}]', 2, accepted(0)),
+    "changed_when": (TASKS + '{"ping":null,"changed_when":["@"]}' + END, 2, accepted(1)),
+    "failed_when": (TASKS + '{"ping":null,"failed_when":["@"]}' + END, 2, accepted(1)),
+    "until": (TASKS + '{"ping":null,"until":"@"}' + END, 2, accepted(4)),
+    "that": (TASKS + '{"assert":{"that":"@"}}' + END, 2, accepted(0)),
 }
 
 
@@ -578,7 +564,7 @@ def texts():
     for place, (book, line, fine) in CONDITION_PLACES.items():
         yield from sizes_at(place, book, comparison, MOST_EXPRESSION, fine, refused("P08", line))
     when, line, _ = CONDITION_PLACES["when"]
-    undefined = NotBuilt(line, refused_on_host("V01", line))
+    undefined = refused_on_host("V01", line)
     too_long = refused("P08", line)
     most = MOST_EXPRESSION // len("|join")
     for filters, judge in [(most, undefined), (most + 1, too_long)]:
@@ -600,8 +586,8 @@ def comparison(size):
 ODD_PLACES = {
     "a text of the book": ("book", TASKS + '{"ping":null,"name":"@"}' + END, accepted(1)),
     "a name of the book": ("book", TASKS + '{"debug":{"msg":{"@":0}}}' + END, accepted(0)),
-    "a text of the inventory": ("inventory", '{"all":{"hosts":["h1"],"vars":{"v":"@"}}}', NotBuilt(0, accepted(0))),
-    "a name of the inventory": ("inventory", '{"all":{"hosts":["h1"],"vars":{"@":0}}}', NotBuilt(0, accepted(0))),
+    "a text of the inventory": ("inventory", '{"all":{"hosts":["h1"],"vars":{"v":"@"}}}', accepted(0)),
+    "a name of the inventory": ("inventory", '{"all":{"hosts":["h1"],"vars":{"@":0}}}', accepted(0)),
     "a text of the signatures": ("signatures", '[{"name":"@"}]', refused("S02")),
     "a name of the signatures": ("signatures", '[{"@":0}]', refused("S02")),
 }
@@ -648,7 +634,7 @@ def repeated_keys():
     inventories = {
         "lists of hosts": ('{"all":{"hosts":[5],"hosts":["h1"]}}', accepted(0)),
         "lists of hosts, the last wrong": ('{"all":{"hosts":["h1"],"hosts":[5]}}', refused("I02")),
-        "groups in a cycle": ('{"a":{"children":["a"]},"all":["h1"],"a":{}}', NotBuilt(0, accepted(0))),
+        "groups in a cycle": ('{"a":{"children":["a"]},"all":["h1"],"a":{}}', accepted(0)),
         "_meta": ('{"all":["h1"],"_meta":{"hostvars":[]},"_meta":{}}', accepted(0)),
     }
     signatures = {
@@ -667,7 +653,7 @@ def repeated_keys():
 def deep_inventories():
     """Levels in a variable, in one with a reserved name, which is passed over, and in a key that is passed over."""
     variables = '{"all":{"hosts":["h1"],"vars":{"%s":@}}}'
-    fine = {MOST_LEVELS: NotBuilt(0, accepted(0)), MOST_LEVELS + 1: refused("I05")}
+    fine = {MOST_LEVELS: accepted(0), MOST_LEVELS + 1: refused("I05")}
     yield from levels_at("a variable", variables % "v", fine, refused("I05"))
     yield from levels_at("a reserved variable", variables % "item", {}, accepted(0))
     yield from levels_at("another key", '{"all":{"hosts":["h1"],"x":@}}', {}, accepted(0))
@@ -686,7 +672,7 @@ def levels_at(place, inventory, judges, judge_of_deepest):
 
 def tangled_inventories():
     """Groups of which each has the next as a child, or all that follow; and the same with a way back to the first."""
-    fine = NotBuilt(0, accepted(1))
+    fine = accepted(1)
     most = MOST_GROUPS - GROUPS_ALWAYS_THERE
     rows = [
         ("1024 groups in a chain", chained(most), fine),

@@ -2,3 +2,4 @@ pub mod RunTexts
 pub mod Commands
 mod Verdicts
 mod Refusals
+mod ReadyRuns

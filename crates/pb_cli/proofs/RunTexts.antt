@@ -24,12 +24,12 @@ names_from hs i name e =
 
 -- what is left after one line more
 pub run_lines-next : (r : RunState) (i : ℕ) (name : List ℕ) (recap : Recap) (text line : List ℕ)
-    → option_map name_in (slice_get (inventory_view r.checked.inventory).hosts i) ≡ Some name → recap ≡ recap_of r.recaps i → i < length r.recaps
+    → option_map name_in (slice_get (inventory_view r.runnable.inventory).hosts i) ≡ Some name → recap ≡ recap_of r.recaps i → i < length r.recaps
     → line ≡ recap_line name recap → run_lines r ≡ text ++ recap_lines (drop i (host_names r)) (drop i r.recaps)
     → run_lines r ≡ (text ++ line) ++ recap_lines (drop (i + 1) (host_names r)) (drop (i + 1) r.recaps)
 run_lines-next r i name recap text line named counted within is so_far =
     let left : recap_lines (drop i (host_names r)) (drop i r.recaps) ≡ line ++ recap_lines (drop (i + 1) (host_names r)) (drop (i + 1) r.recaps) =
-    rw (names_from (inventory_view r.checked.inventory).hosts i name named, drop_more r.recaps i nothing within, is, counted) refl in
+    rw (names_from (inventory_view r.runnable.inventory).hosts i name named, drop_more r.recaps i nothing within, is, counted) refl in
     so_far ∙ ap (λ x. text ++ x) left ∙ sym (append_assoc text line _)
 
 -- what a test finds from here on: at the next recap, or after it

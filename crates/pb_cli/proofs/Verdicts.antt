@@ -6,6 +6,7 @@ use Rattle.pb_semantics.specs.Gives.{FaultGives}
 use Rattle.pb_language.specs.Book.{Book as BookData}
 use Rattle.pb_language.specs.BookForm as language
 use Rattle.pb_language.specs.Program.{Inventory}
+use Rattle.pb_language.specs.Judged.{judged}
 use Rattle.pb_language.specs.Verdict.{accepted}
 use Rattle.pb_semantics.specs.Signature.{ModuleData}
 use Rattle.pb_sig.specs.Offences.{offence_of}
@@ -19,7 +20,6 @@ use Rattle.pb_book.specs.Faults.{offence_of as book_offence}
 use Rattle.pb_book.specs.declared.fault.BookFault.{BookFault}
 use Rattle.pb_book.specs.declared.fault.BookFault.TheVariants as book
 use Rattle.pb_verify.specs.Judges.{refused_verdict}
-use Rattle.pb_verify.specs.Built.{built_verdict}
 use Rattle.pb_verify.specs.declared.checked.Accepted.{Accepted}
 use Rattle.pb_verify.specs.declared.refusal.Code.{Code}
 use Rattle.pb_verify.specs.declared.verify.VerifyFault.{VerifyFault}
@@ -74,11 +74,11 @@ Tells-book ms i (book.Refused o) w says = rw says refl
 Tells-book ms i book.NoMemory w says = Tells-no_memory (book_found ms i w)
 
 -- where all are
-pub Tells-refused : (ms : List ModuleData) (i : Inventory) (b : BookData) (e : VerifyFault) (w : Result BookData language.Offence) → w ≡ Ok b → FaultGives (refused_verdict e) (built_verdict ms i b) → Tells (Err (of_verify e)) (book_found ms i w)
+pub Tells-refused : (ms : List ModuleData) (i : Inventory) (b : BookData) (e : VerifyFault) (w : Result BookData language.Offence) → w ≡ Ok b → FaultGives (refused_verdict e) (judged ms i b) → Tells (Err (of_verify e)) (book_found ms i w)
 Tells-refused ms i b (verify.Refused r) w read judges = rw read judges
 Tells-refused ms i b verify.NoMemory w read judges = Tells-no_memory (book_found ms i w)
 
-pub Tells-accepted : (ms : List ModuleData) (i : Inventory) (b : BookData) (a : Accepted) (w : Result BookData language.Offence) → w ≡ Ok b → built_verdict ms i b ≡ accepted a.budget → Tells (Ok a) (book_found ms i w)
+pub Tells-accepted : (ms : List ModuleData) (i : Inventory) (b : BookData) (a : Accepted) (w : Result BookData language.Offence) → w ≡ Ok b → judged ms i b ≡ accepted a.budget → Tells (Ok a) (book_found ms i w)
 Tells-accepted ms i b a w read judges = rw read judges
 
 -- what is said of the book is said of the files

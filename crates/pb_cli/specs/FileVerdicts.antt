@@ -8,6 +8,7 @@ use Rattle.pb_semantics.specs.Signature.{ModuleData}
 use Rattle.pb_language.specs.Book.{Book}
 use Rattle.pb_language.specs.BookForm as language
 use Rattle.pb_language.specs.Inventories as offence
+use Rattle.pb_language.specs.Judged.{judged}
 use Rattle.pb_language.specs.Program.{Inventory}
 use Rattle.pb_language.specs.Verdict.{Verdict, accepted, refused as refused_at}
 use Rattle.pb_sig.specs.Registered.{registry_of}
@@ -24,17 +25,18 @@ use Rattle.pb_play.specs.Faults.{offence_view}
 use Rattle.pb_book.specs.Reading.{book_in}
 use Rattle.pb_book.specs.declared.fault.BookFault.{BookFault}
 use Rattle.pb_book.specs.declared.fault.BookFault.TheVariants as book
-use Rattle.pb_verify.specs.Built.{built_verdict}
 use Rattle.pb_verify.specs.Meaning.{refusal_of}
 use Rattle.pb_verify.specs.declared.checked.Accepted.{Accepted}
 use Rattle.pb_verify.specs.declared.refusal.Code.{Code}
 use Rattle.pb_strategy.specs.Scripts.{script_fault, script_in}
+use Rattle.pb_strategy.specs.declared.runnable.RunFault.{RunFault}
+use Rattle.pb_strategy.specs.declared.runnable.RunFault.TheVariants as run
 use Rattle.pb_strategy.specs.declared.script.ScriptFault.{ScriptFault}
 use Rattle.pb_strategy.specs.declared.script.ScriptFault.TheVariants as script
 use Rattle.pb_verify.specs.declared.refusal.Code.TheVariants.{S01, S02, S03, S04, S05, I01, I02}
 use Rattle.pb_verify.specs.declared.refusal.Code.TheVariants.{I03, I04, I05, P01, P02, P03, P04}
 use Rattle.pb_verify.specs.declared.refusal.Code.TheVariants.{P05, P06, P07, P08, P09, A01, A02}
-use Rattle.pb_verify.specs.declared.refusal.Code.TheVariants.{A03}
+use Rattle.pb_verify.specs.declared.refusal.Code.TheVariants.{A03, N00}
 use Rattle.pb_verify.specs.declared.verify.VerifyFault.{VerifyFault}
 use Rattle.pb_verify.specs.declared.verify.VerifyFault.TheVariants as verify
 use Rattle.pb_cli.specs.declared.judge.Fault.{Fault}
@@ -77,6 +79,14 @@ of_book book.NoMemory = NoMemory
 abbrev pub of_verify : VerifyFault → Fault
 of_verify (verify.Refused r) = Refused r
 of_verify verify.NoMemory = NoMemory
+
+-- a form that can't be run yet, at its line
+abbrev pub not_built : ℕ → Fault
+not_built l = Refused (record { code = N00; line = l; host = None })
+
+abbrev pub of_run : RunFault → Fault
+of_run (run.NotBuilt l) = not_built l
+of_run run.NoMemory = NoMemory
 
 abbrev pub of_script : ScriptFault → Fault
 of_script script.NotJson = refused A01
@@ -126,7 +136,7 @@ pub data Found : Type 0 where
 
 abbrev pub book_found : List ModuleData → Inventory → Result Book language.Offence → Found
 book_found ms i (Err o) = wrong_book o
-book_found ms i (Ok b) = verdict (built_verdict ms i b)
+book_found ms i (Ok b) = verdict (judged ms i b)
 
 abbrev pub found_by : List ModuleData → Result Inventory Code → Result Book language.Offence
     → Found

@@ -51,7 +51,7 @@ recap_line name r =
 
 -- the names of a run's hosts, in host order
 abbrev pub host_names : RunState → List (List ℕ)
-host_names r = map (λ h. h.name) (inventory_view r.checked.inventory).hosts
+host_names r = map (λ h. h.name) (inventory_view r.runnable.inventory).hosts
 
 -- a line for each of these hosts, with its recap
 abbrev pub recap_lines : List (List ℕ) → List Recap → List ℕ

@@ -4,9 +4,8 @@ ghost use Rattle.pb_semantics.specs.Words.{most_inventory_bytes};
 ghost use Rattle.pb_sig.specs.Words.{builtins, modules_of};
 ghost use Rattle.pb_inventory.specs.Words.{inventory_view};
 ghost use Rattle.pb_task.specs.Words.{number_of};
-ghost use Rattle.pb_plain.specs.Words.{book_of};
 ghost use Rattle.pb_sig.specs.Signatures.{most_signature_bytes};
-ghost use Rattle.pb_book.specs.Words.{book_in};
+ghost use Rattle.pb_book.specs.Words.{book_in, book_view};
 ghost use Rattle.pb_cli.specs.FileVerdicts.{Judges, Tells, book_code, book_found};
 ghost use Rattle.pb_cli.specs.FileVerdicts.{inventory_verdict, is_first_looked_into};
 ghost use Rattle.pb_cli.specs.FileVerdicts.{is_looked_into, modules_verdict, refused};
@@ -14,7 +13,7 @@ ghost use Rattle.pb_cli.specs.FileVerdicts.{is_looked_into, modules_verdict, ref
 use pb_book::{Book, BookFault};
 use pb_inventory::{Inventory, InventoryFault};
 use pb_sig::{Registry, SignatureFault};
-use pb_strategy::ScriptFault;
+use pb_strategy::{RunFault, ScriptFault};
 use pb_verify::verify::verify;
 use pb_verify::{Checked, Code, Refusal, VerifyFault};
 use std::alloc::{AllocError, Global};
@@ -138,6 +137,24 @@ impl From<VerifyFault> for Fault {
     }
 }
 
+impl From<RunFault> for Fault {
+    ghost use Rattle.std.specs.Prelude.{◌≡◌};
+    ghost use Rattle.pb_cli.specs.FileVerdicts.{of_run};
+
+    ghost from_gives = { λ e f. f ≡ of_run e };
+
+    fn from(fault: RunFault) -> Fault {
+        match fault {
+            RunFault::NotBuilt(line) => Fault::Refused(Refusal {
+                code: Code::N00,
+                line,
+                host: None,
+            }),
+            RunFault::NoMemory => Fault::NoMemory,
+        }
+    }
+}
+
 /// A refusal of a file as a whole.
 pub fn whole(code: Code) -> Fault
     ensures { result ≡ refused code }
@@ -164,7 +181,7 @@ pub fn judge(
     ensures read { IfOk result
         (λ c. inventory_verdict inventory.now ≡ Ok (inventory_view c.inventory)) }
     ensures book_read { IfOk result
-        (λ c. book_in (modules_of c.registry) book.now ≡ Ok (book_of c.book)) }
+        (λ c. book_in (modules_of c.registry) book.now ≡ Ok (book_view c.book)) }
     ensures modules { IfOk result (λ c. modules_verdict (option_map (λ s. s.now) signatures.entry)
         ≡ Ok (modules_of c.registry)) }
     ensures apart { is_first_looked_into (option_map (λ s. s.now) signatures.entry) inventory.now
@@ -186,7 +203,7 @@ fn judge_signed(
     ensures read { IfOk result
         (λ c. inventory_verdict inventory.now ≡ Ok (inventory_view c.inventory)) }
     ensures book_read { IfOk result
-        (λ c. book_in (modules_of c.registry) book.now ≡ Ok (book_of c.book)) }
+        (λ c. book_in (modules_of c.registry) book.now ≡ Ok (book_view c.book)) }
     ensures modules { IfOk result
         (λ c. modules_verdict (Some signatures.now) ≡ Ok (modules_of c.registry)) }
     ensures apart { is_looked_into most_signature_bytes signatures.now ≡ false
@@ -202,7 +219,7 @@ fn judge_unsigned(alloc: Global, book: &[u8], inventory: &[u8]) -> Result<Checke
     ensures read { IfOk result
         (λ c. inventory_verdict inventory.now ≡ Ok (inventory_view c.inventory)) }
     ensures book_read { IfOk result
-        (λ c. book_in (modules_of c.registry) book.now ≡ Ok (book_of c.book)) }
+        (λ c. book_in (modules_of c.registry) book.now ≡ Ok (book_view c.book)) }
     ensures modules { IfOk result (λ c. modules_of c.registry ≡ builtins) }
     ensures apart { is_looked_into most_inventory_bytes inventory.now ≡ false
         → result ≡ Err Fault.NoMemory → ⊥ }
@@ -223,7 +240,7 @@ fn judge_read(
         (book_in (modules_of registry) book.now)) }
     ensures kept { IfOk result (λ c. c.inventory ≡ inventory) }
     ensures book_read { IfOk result
-        (λ c. book_in (modules_of c.registry) book.now ≡ Ok (book_of c.book)) }
+        (λ c. book_in (modules_of c.registry) book.now ≡ Ok (book_view c.book)) }
     ensures modules { IfOk result (λ c. c.registry ≡ registry) }
 {
     let book = Book::read(alloc, book, &registry)?;

@@ -4,15 +4,15 @@ ghost use Rattle.std.specs.Prelude.{◌+◌, ◌<◌, ◌^◌, ◌≡◌, IfOk, 
 ghost use Rattle.pb_strategy.specs.Words.{answers_in};
 ghost use Rattle.pb_cli.specs.Outcomes.{ChecksAs, IsAnsweredBy, IsOutcome, IsWholeRun};
 ghost use Rattle.pb_cli.specs.Outcomes.{JudgesFiles, LineSays, Prints, RunSays, RunsAnswers};
-ghost use Rattle.pb_cli.specs.Outcomes.{RunsAs};
-ghost use Rattle.pb_cli.specs.Outcomes.{RunsBy, RunsFiles, VerdictSays, usage_status};
+ghost use Rattle.pb_cli.specs.Outcomes.{RunsAccepted, RunsAs, RunsBy, RunsFiles, VerdictSays};
+ghost use Rattle.pb_cli.specs.Outcomes.{usage_status};
 ghost use Rattle.pb_cli.specs.Texts.{not_built_line};
 
 use crate::judge::{Fault, judge};
 use crate::texts::{recap_text, refusal_text, status_of, verdict_text};
 use crate::words::{LineFault, Options, Source};
 use pb_strategy::drive::drive;
-use pb_strategy::{Run, Runner, ScriptRunner};
+use pb_strategy::{Run, Runnable, Runner, ScriptRunner};
 use pb_verify::Checked;
 use std::alloc::{AllocError, Global};
 use std::mem;
@@ -179,21 +179,34 @@ fn verdict_of(alloc: Global, bytes: &Bytes) -> Result<Checked, Fault>
 }
 
 /// The run of an accepted book to its end, with the answers of the file; else the verdict's
-/// refusal, and after it that of the answers.
+/// refusal, then that of a form that can't be run yet, and then that of the answers.
 pub fn run_of(alloc: Global, bytes: &Bytes, forks: u16) -> Result<Run, Fault>
     ensures { RunsFiles forks bytes.now result }
 {
     let checked = verdict_of(alloc, bytes)?;
-    let run = scripted_run(alloc, &checked, forks, bytes.answers.as_slice());
-    leave(checked);
+    accepted_run(alloc, checked, forks, bytes.answers.as_slice())
+}
+
+// The run of what was accepted.
+fn accepted_run(alloc: Global, checked: Checked, forks: u16, answers: &[u8]) -> Result<Run, Fault>
+    ensures { RunsAccepted forks answers.now checked result }
+{
+    let runnable = Runnable::of(alloc, checked)?;
+    let run = scripted_run(alloc, &runnable, forks, answers);
+    leave(runnable);
     run
 }
 
-fn scripted_run(alloc: Global, checked: &Checked, forks: u16, answers: &[u8]) -> Result<Run, Fault>
-    ensures { RunsAnswers forks answers.now checked.now result }
+fn scripted_run(
+    alloc: Global,
+    runnable: &Runnable,
+    forks: u16,
+    answers: &[u8],
+) -> Result<Run, Fault>
+    ensures { RunsAnswers forks answers.now runnable.now result }
 {
     let mut runner = ScriptRunner::read(alloc, answers)?;
-    let run = ended_run(alloc, checked, forks, &mut runner);
+    let run = ended_run(alloc, runnable, forks, &mut runner);
     leave(runner);
     Ok(run?)
 }
@@ -209,17 +222,17 @@ fn workers_of(forks: u16, hosts: usize) -> usize
 // none to give an answer out.
 fn ended_run(
     alloc: Global,
-    checked: &Checked,
+    runnable: &Runnable,
     forks: u16,
     runner: &mut ScriptRunner,
 ) -> Result<Run, AllocError>
     requires few { ⟦<ScriptRunner as Runner>⟧.calls runner.old < 2 ^ 63 }
-    ensures whole { IfOk result (IsWholeRun forks checked.now) }
-    ensures answered { IfOk result (λ r. IsAnsweredBy (answers_in runner.old) checked.now r) }
+    ensures whole { IfOk result (IsWholeRun forks runnable.now) }
+    ensures answered { IfOk result (λ r. IsAnsweredBy (answers_in runner.old) runnable.now r) }
     ensures made { IfOk result (λ r. ⟦<ScriptRunner as Runner>⟧.calls runner.new
         ≡ ⟦<ScriptRunner as Runner>⟧.calls runner.old + r.handed) }
 {
-    let mut run = Run::open(alloc, checked, workers_of(forks, checked.hosts()))?;
+    let mut run = Run::open(alloc, runnable, workers_of(forks, runnable.hosts()))?;
     drive(&mut run, runner)?;
     if runner.is_short() {
         return Err(AllocError);

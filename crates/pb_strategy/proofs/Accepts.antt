@@ -19,10 +19,10 @@ use Rattle.pb_plain.specs.Books.{plays_of, book_of}
 use Rattle.pb_plain.specs.Lines.{is_numbered}
 use Rattle.pb_plain.specs.Meaning.{plain_tasks, are_plain_plays}
 use Rattle.pb_plain.specs.declared.book.Play.{Play}
-use Rattle.pb_verify.specs.Built.{is_lone}
-use Rattle.pb_verify.specs.Judges.{run_of_accepted}
-use Rattle.pb_verify.specs.declared.checked.Accepted.{Accepted}
-use Rattle.pb_verify.proofs.Lone.{Alone-lone}
+use Rattle.pb_strategy.specs.Built.{is_lone}
+use Rattle.pb_strategy.specs.Readiness.{run_of_ready}
+use Rattle.pb_strategy.specs.declared.runnable.Ready.{Ready}
+use Rattle.pb_strategy.proofs.Alone.{Alone-lone}
 use Rattle.pb_strategy.specs.Events.{event_data}
 use Rattle.pb_strategy.specs.Standing.{tasks_in, first_name, host_of, opening_run, plain_after}
 use Rattle.pb_strategy.specs.declared.event.Event.{Event}
@@ -39,20 +39,20 @@ plays_run ms h forks es (p ∷ []) i a = plain_runs ms h p.line forks (plain_tas
 plays_run ms h forks es (p ∷ q ∷ ps) i a = untrue i
 
 -- the state of the machine over the plain tasks as one of the whole machine
-abbrev pub whole : Accepted → ℕ → PlainRun → State
+abbrev pub whole : Ready → ℕ → PlainRun → State
 whole a forks r = plain_state (modules_of a.registry) (host_of a) (line_in (plays_of a.book)) (plain_tasks (tasks_in (plays_of a.book))) forks r
 
-module _ (a : Accepted) (lone : is_lone (inventory_view a.inventory) ≡ true) (forks : ℕ) where
+module _ (a : Ready) (lone : is_lone (inventory_view a.inventory) ≡ true) (forks : ℕ) where
   -- on the one host of its inventory
   on_lone : (i : Inventory) (hs : List HostVariables) (h : HostVariables) → i ≡ lone_host h.name → hs ≡ h ∷ [] → (es : List machine.Event)
       → run (program_of (modules_of a.registry) i (book_of a.book)) i forks es
       ≡ plain_state (modules_of a.registry) (first_name hs) (line_in (plays_of a.book)) (plain_tasks (tasks_in (plays_of a.book))) forks (plain_run_from (modules_of a.registry) (first_name hs) forks (opening_run (plays_of a.book)) es)
   on_lone i hs h stands there es = rw (stands, there) (plays_run (modules_of a.registry) h.name forks es (plays_of a.book) a.book.numbered a.book.plain)
 
-  pub run_of_accepted-plain : (es : List Event) → run_of_accepted a forks (map event_data es) ≡ whole a forks (plain_after a forks es)
-  run_of_accepted-plain es =
+  pub run_of_ready-plain : (es : List Event) → run_of_ready a forks (map event_data es) ≡ whole a forks (plain_after a forks es)
+  run_of_ready-plain es =
       let there = Alone-lone (inventory_view a.inventory) lone in
       on_lone (inventory_view a.inventory) (inventory_view a.inventory).hosts there.host there.stands there.hosts (map event_data es)
 
-  pub enabled-plain : (es : List Event) (e : machine.Event) → enabled (run_of_accepted a forks (map event_data es)) e ≡ plain_is_enabled forks (plain_after a forks es) e
-  enabled-plain es e = ap (λ s. enabled s e) (run_of_accepted-plain es) ∙ plain_enabled (modules_of a.registry) (host_of a) (line_in (plays_of a.book)) (plain_tasks (tasks_in (plays_of a.book))) forks (plain_after a forks es) e
+  pub enabled-plain : (es : List Event) (e : machine.Event) → enabled (run_of_ready a forks (map event_data es)) e ≡ plain_is_enabled forks (plain_after a forks es) e
+  enabled-plain es e = ap (λ s. enabled s e) (run_of_ready-plain es) ∙ plain_enabled (modules_of a.registry) (host_of a) (line_in (plays_of a.book)) (plain_tasks (tasks_in (plays_of a.book))) forks (plain_after a forks es) e

@@ -16,7 +16,7 @@ use Rattle.pb_strategy.proofs.Jobs.{ticket_out-push}
 
 -- where no job is handed out: nothing is stopped, and each job that is out stays out
 pub record IsQuiet (r s : RunState) : Type 0 where
-  pub checked : s.checked ≡ r.checked
+  pub runnable : s.runnable ≡ r.runnable
   pub forks : s.forks ≡ r.forks
   pub handed : s.handed ≡ r.handed
   pub going_on : is_stopped s.history ≡ is_stopped r.history
@@ -24,13 +24,13 @@ pub record IsQuiet (r s : RunState) : Type 0 where
 
 turned : (q : Bool) (r : RunState) → IsQuiet r (cond q (after r Turn) r)
 turned true r = record {
-  checked = refl;
+  runnable = refl;
   forks = refl;
   handed = refl;
   going_on = is_stopped-more r.history Turn ∙ or-false (is_stopped r.history);
   out = λ k. ticket_out-push k r.history Turn;
 }
-turned false r = record { checked = refl; forks = refl; handed = refl; going_on = refl; out = λ k. refl }
+turned false r = record { runnable = refl; forks = refl; handed = refl; going_on = refl; out = λ k. refl }
 
 pub is_job-none : (t : Taken) → ((j : Job) → t ≡ taken.Job j → ⊥) → is_job t ≡ false
 is_job-none (taken.Job j) unlike = absurd (unlike j refl)
@@ -55,8 +55,8 @@ out_before k p es h answers out =
     (ap (λ o. cond (h == k) None o) (sym (ticket_out-push k es (Start h))) ∙ sym (ticket_out-push k (es ++ Start h ∷ []) (Give h answers)) ∙ out)
 
 -- what a Give leaves
-pub IsAfterGive-given : (h : ℕ) (answers : Vec Answer) (r s : RunState) → s.history ≡ r.history ++ Give h answers ∷ [] → s.checked ≡ r.checked → s.forks ≡ r.forks → s.handed ≡ r.handed → IsAfterGive h answers r s
-IsAfterGive-given h answers r s p a b n i = record { checked = a i; forks = b i; history = p i; recaps = s.recaps; handed = n i }
+pub IsAfterGive-given : (h : ℕ) (answers : Vec Answer) (r s : RunState) → s.history ≡ r.history ++ Give h answers ∷ [] → s.runnable ≡ r.runnable → s.forks ≡ r.forks → s.handed ≡ r.handed → IsAfterGive h answers r s
+IsAfterGive-given h answers r s p a b n i = record { runnable = a i; forks = b i; history = p i; recaps = s.recaps; handed = n i }
 
 module _ {R : Type 0} (answers : R → Call → Answer → R → Type 0) where
   -- one more call is answered

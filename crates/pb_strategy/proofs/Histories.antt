@@ -3,7 +3,7 @@ use Rattle.std.proofs.Common.{◌≡◌, ◌<◌, ◌≤◌, ℕ, arith, List, [
 use Rattle.pb_strategy.specs.History.{RunState, after, is_stop, is_stopped, is_turn, is_turned, is_over, has_no_plays}
 use Rattle.pb_strategy.specs.Inside.{IsMachine, IsRun, run_state, recaps_of, tickets_of, handed_of, is_phase_over, is_phase_stopped}
 use Rattle.pb_value.specs.View.{view}
-use Rattle.pb_verify.specs.declared.checked.Accepted.{Accepted}
+use Rattle.pb_strategy.specs.declared.runnable.Ready.{Ready}
 use Rattle.pb_strategy.specs.declared.host.HostState.{HostState}
 use Rattle.pb_strategy.specs.declared.recap.Recap.{Recap}
 use Rattle.pb_strategy.specs.declared.run.Phase.{Phase}
@@ -58,39 +58,39 @@ is_over-stopped r s going over = stop_over (is_over r) r s refl going over
 
 pub is_over-turn : (r : RunState) → is_over (after r Turn) ≡ true
 is_over-turn r =
-    rw (is_turned-more r.history Turn, or-true (is_turned r.history), or-true (has_no_plays (plays_of r.checked.book))) (or-true (is_stopped (r.history ++ Turn ∷ [])))
+    rw (is_turned-more r.history Turn, or-true (is_turned r.history), or-true (has_no_plays (plays_of r.runnable.book))) (or-true (is_stopped (r.history ++ Turn ∷ [])))
 
 -- what was within a history's length still is
 pub length-longer : (n : ℕ) (es : List Event) (e : Event) → n ≤ length es → n ≤ length (es ++ e ∷ [])
 length-longer n es e within = omega (arith, within, length_push es e)
 
-pub is_over-same : (r s : RunState) → r.checked ≡ s.checked → r.history ≡ s.history → is_over r ≡ is_over s
+pub is_over-same : (r s : RunState) → r.runnable ≡ s.runnable → r.history ≡ s.history → is_over r ≡ is_over s
 is_over-same r s book same = rw (book, same) refl
 
 -- a Stop leaves the book and the forks
-pub checked-stop : (r s : RunState) → (is_over r ≡ false → s ≡ after r Stop) → (is_over r ≡ true → s ≡ r) → (s.checked ≡ r.checked) × (s.forks ≡ r.forks)
-checked-stop r s going over = by (is_over r) refl where
-  by : (b : Bool) → is_over r ≡ b → (s.checked ≡ r.checked) × (s.forks ≡ r.forks)
+pub runnable-stop : (r s : RunState) → (is_over r ≡ false → s ≡ after r Stop) → (is_over r ≡ true → s ≡ r) → (s.runnable ≡ r.runnable) × (s.forks ≡ r.forks)
+runnable-stop r s going over = by (is_over r) refl where
+  by : (b : Bool) → is_over r ≡ b → (s.runnable ≡ r.runnable) × (s.forks ≡ r.forks)
   by false e = rw (going e) (refl, refl)
   by true e = rw (over e) (refl, refl)
 
 -- a run as its callers see it, by what may have changed
-pub RunState-same : (a : Accepted) (forks : ℕ) (es fs : List Event) (rs ss : List Recap) (m n : ℕ) → es ≡ fs → rs ≡ ss → m ≡ n
-    → ◌≡◌ {A = RunState} (record { checked = a; forks = forks; history = es; recaps = rs; handed = m }) (record { checked = a; forks = forks; history = fs; recaps = ss; handed = n })
-RunState-same a forks es fs rs ss m n p q r i = record { checked = a; forks = forks; history = p i; recaps = q i; handed = r i }
+pub RunState-same : (a : Ready) (forks : ℕ) (es fs : List Event) (rs ss : List Recap) (m n : ℕ) → es ≡ fs → rs ≡ ss → m ≡ n
+    → ◌≡◌ {A = RunState} (record { runnable = a; forks = forks; history = es; recaps = rs; handed = m }) (record { runnable = a; forks = forks; history = fs; recaps = ss; handed = n })
+RunState-same a forks es fs rs ss m n p q r i = record { runnable = a; forks = forks; history = p i; recaps = q i; handed = r i }
 
-pub IsMachine-same : (c d : Accepted) (m n : ℕ) (es fs : List Event) (hosts : List HostState) (p q : Phase) → d ≡ c → n ≡ m → fs ≡ es → q ≡ p → IsMachine c m es hosts p → IsMachine d n fs hosts q
+pub IsMachine-same : (c d : Ready) (m n : ℕ) (es fs : List Event) (hosts : List HostState) (p q : Phase) → d ≡ c → n ≡ m → fs ≡ es → q ≡ p → IsMachine c m es hosts p → IsMachine d n fs hosts q
 IsMachine-same c d m n es fs hosts p q a b e f i = rw (a, b, e, f) i
 
 same_tally : (es fs : List Event) (rs ss : List Recap) → fs ≡ es → ss ≡ rs → IsTally es rs → IsTally fs ss
 same_tally es fs rs ss p q t = rw (p, q) t
 
 -- after a Start or a Give, in the same phase
-pub IsRun-push : (a b : Inside) (e : Event) → IsRun a → is_stop e ≡ false → is_turn e ≡ false → b.checked ≡ a.checked → b.forks ≡ a.forks → b.fixed ≡ a.fixed → b.phase ≡ a.phase
+pub IsRun-push : (a b : Inside) (e : Event) → IsRun a → is_stop e ≡ false → is_turn e ≡ false → b.runnable ≡ a.runnable → b.forks ≡ a.forks → b.fixed ≡ a.fixed → b.phase ≡ a.phase
     → b.history.items ≡ a.history.items ++ e ∷ [] → length b.history.items < vec_capacity b.history
     → length (recaps_of b.hosts.items) ≡ length (recaps_of a.hosts.items) → IsTally b.history.items (recaps_of b.hosts.items)
     → handed_of b.hosts.items ≤ length b.history.items → ((k : ℕ) → get_or (tickets_of b.hosts.items) k None ≡ ticket_out k b.history.items)
-    → IsMachine a.checked a.forks (a.history.items ++ e ∷ []) b.hosts.items a.phase → IsRun b
+    → IsMachine a.runnable a.forks (a.history.items ++ e ∷ []) b.hosts.items a.phase → IsRun b
 IsRun-push a b e i unlike other book forks fixed same items room many tally handed tickets machine = record {
   room = λ _. room;
   stopped = rw (items, is_stopped-more a.history.items e, unlike, or-false (is_stopped a.history.items), same) i.stopped;
@@ -101,14 +101,14 @@ IsRun-push a b e i unlike other book forks fixed same items room many tally hand
   tickets = tickets;
   skipped = ap (λ f. view f.skipped) fixed ∙ i.skipped;
   unchanged = ap (λ f. view f.unchanged) fixed ∙ i.unchanged;
-  machine = IsMachine-same a.checked b.checked a.forks b.forks (a.history.items ++ e ∷ []) b.history.items b.hosts.items a.phase b.phase book forks items same machine;
+  machine = IsMachine-same a.runnable b.runnable a.forks b.forks (a.history.items ++ e ∷ []) b.history.items b.hosts.items a.phase b.phase book forks items same machine;
   forks = subst (λ n. 0 < n) (sym forks) i.forks;
 }
 
 -- where nothing has happened, but there is more room
-pub IsRun-same : (a b : Inside) → IsRun a → b.checked ≡ a.checked → b.forks ≡ a.forks → b.fixed ≡ a.fixed → b.phase ≡ a.phase → b.history.items ≡ a.history.items
+pub IsRun-same : (a b : Inside) → IsRun a → b.runnable ≡ a.runnable → b.forks ≡ a.forks → b.fixed ≡ a.fixed → b.phase ≡ a.phase → b.history.items ≡ a.history.items
     → (b.phase ≡ phase.Going → length b.history.items < vec_capacity b.history) → recaps_of b.hosts.items ≡ recaps_of a.hosts.items → handed_of b.hosts.items ≡ handed_of a.hosts.items
-    → tickets_of b.hosts.items ≡ tickets_of a.hosts.items → IsMachine a.checked a.forks a.history.items b.hosts.items a.phase → IsRun b
+    → tickets_of b.hosts.items ≡ tickets_of a.hosts.items → IsMachine a.runnable a.forks a.history.items b.hosts.items a.phase → IsRun b
 IsRun-same a b i book forks fixed same items room recaps handed tickets machine = record {
   room = room;
   stopped = ap is_stopped items ∙ i.stopped ∙ ap is_phase_stopped (sym same);
@@ -119,6 +119,6 @@ IsRun-same a b i book forks fixed same items room recaps handed tickets machine 
   tickets = λ k. ap (λ ts. get_or ts k None) tickets ∙ i.tickets k ∙ ap (ticket_out k) (sym items);
   skipped = ap (λ f. view f.skipped) fixed ∙ i.skipped;
   unchanged = ap (λ f. view f.unchanged) fixed ∙ i.unchanged;
-  machine = IsMachine-same a.checked b.checked a.forks b.forks a.history.items b.history.items b.hosts.items a.phase b.phase book forks items same machine;
+  machine = IsMachine-same a.runnable b.runnable a.forks b.forks a.history.items b.history.items b.hosts.items a.phase b.phase book forks items same machine;
   forks = subst (λ n. 0 < n) (sym forks) i.forks;
 }

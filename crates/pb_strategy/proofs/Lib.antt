@@ -1,3 +1,8 @@
+pub mod OneHost
+pub mod Alone
+pub mod FoundModules
+pub mod PlainModules
+pub mod ReadyRuns
 pub mod Histories
 pub mod Tallies
 pub mod HostFields

@@ -31,11 +31,11 @@ use Rattle.pb_plain.specs.declared.book.Task.{Task}
 use Rattle.pb_plain.specs.declared.book.Work.{Work}
 use Rattle.pb_plain.specs.declared.book.Work.TheVariants.{Module, Debug, SetFact}
 use Rattle.pb_inventory.specs.Inventory.{inventory_view}
-use Rattle.pb_verify.specs.Built.{is_lone}
-use Rattle.pb_verify.specs.Judges.{is_accepted, run_of_accepted}
-use Rattle.pb_verify.specs.declared.checked.Accepted.{Accepted}
-use Rattle.pb_verify.proofs.AcceptedRuns.{is_stuck-accepted}
-use Rattle.pb_verify.proofs.RuleModules.{module_named-found}
+use Rattle.pb_strategy.specs.Built.{is_lone}
+use Rattle.pb_strategy.specs.Readiness.{is_accepted, run_of_ready}
+use Rattle.pb_strategy.specs.declared.runnable.Ready.{Ready}
+use Rattle.pb_strategy.proofs.ReadyRuns.{is_stuck-accepted}
+use Rattle.pb_strategy.proofs.FoundModules.{module_named-found}
 use Rattle.pb_strategy.specs.Events.{answer_data, event_data, call_data, recap_data}
 use Rattle.pb_strategy.specs.Inside.{IsMachine, is_phase_ended, is_phase_stopped}
 use Rattle.pb_strategy.specs.Outcomes.{Makes, ComesTo, IsSettledHost, called_name}
@@ -55,7 +55,7 @@ use Rattle.pb_strategy.specs.declared.host.Stage.TheVariants as stage
 use Rattle.pb_strategy.specs.declared.outcome.Outcome.{Outcome}
 use Rattle.pb_strategy.specs.declared.run.Phase.{Phase}
 use Rattle.pb_strategy.specs.declared.run.Phase.TheVariants as phase
-use Rattle.pb_strategy.proofs.Accepts.{whole, run_of_accepted-plain, enabled-plain}
+use Rattle.pb_strategy.proofs.Accepts.{whole, run_of_ready-plain, enabled-plain}
 use Rattle.pb_strategy.proofs.PlainNext.{Starts, Starts-plain, Gives-plain, plain_is_enabled-other}
 use Rattle.pb_strategy.proofs.Standings.{nat_lt-suc, are_left-same, plain_task-at, begun, IsPending-start, IsAt-start, after_came-there, IsAt-give, IsAt-turn, IsAt-stop}
 
@@ -166,7 +166,7 @@ going_over false false b h = refl
 going_over false true b h = untrue h
 going_over true o b h = untrue h
 
-module _ (a : Accepted) (forks : ℕ) where
+module _ (a : Ready) (forks : ℕ) where
   abbrev here : List Event → PlainRun
   here es = plain_after a forks es
 
@@ -175,7 +175,7 @@ module _ (a : Accepted) (forks : ℕ) where
 
   -- the state of the whole machine after these events
   abbrev pub there : List Event → State
-  there es = run_of_accepted a forks (map event_data es)
+  there es = run_of_ready a forks (map event_data es)
 
   pub here_more : (es : List Event) (e : Event) → here (es ++ e ∷ []) ≡ goes (here es) (event_data e)
   here_more es e = ap (plain_run_from (modules_of a.registry) (host_of a) forks (opening_run (plays_of a.book))) (map_push event_data es e) ∙ plain_run_more (modules_of a.registry) (host_of a) forks (opening_run (plays_of a.book)) (map event_data es) (event_data e)
@@ -188,7 +188,7 @@ module _ (a : Accepted) (forks : ℕ) where
       ∙ sym (map_push event_data es e)
 
   pub never_stuck : is_accepted a ≡ true → is_lone (inventory_view a.inventory) ≡ true → (es : List Event) → (here es).is_stuck ≡ false
-  never_stuck h l es = ap (λ s. s.is_stuck) (sym (run_of_accepted-plain a l forks es)) ∙ is_stuck-accepted a l h forks (map event_data es)
+  never_stuck h l es = ap (λ s. s.is_stuck) (sym (run_of_ready-plain a l forks es)) ∙ is_stuck-accepted a l h forks (map event_data es)
 
   begins_at : (es : List Event) → enabled (there es) (start 0) ≡ true → is_accepted a ≡ true → is_lone (inventory_view a.inventory) ≡ true → Starts (modules_of a.registry) (host_of a) forks (here es) (goes (here es) (start 0))
   begins_at es on h l = Starts-plain (modules_of a.registry) (host_of a) forks (here es) (sym (enabled-plain a l forks es (start 0)) ∙ on) (ap (λ (r : PlainRun). r.is_stuck) (sym (here_more es (Start 0))) ∙ never_stuck h l (es ++ Start 0 ∷ []))
@@ -248,7 +248,7 @@ module _ (a : Accepted) (forks : ℕ) where
           let made = IsPending-start (host_of a) (tasks_in (plays_of a.book)) m.host now m.at (modules_of a.registry) forks ticket q cs t e simple_here made begins in
           let name = called_same (modules_of a.registry) t t.work refl (task_known (plays_of a.book) m.host.place t e (modules_of a.registry) m.known) in
           let inside : there (es ++ Start 0 ∷ []) ≡ whole a forks (record now { standing = inside begins.passes; handed = now.handed + call_count begins.passes }) =
-          run_of_accepted-plain a m.lone forks (es ++ Start 0 ∷ []) ∙ ap (whole a forks) (here_more es (Start 0) ∙ begins.after) in
+          run_of_ready-plain a m.lone forks (es ++ Start 0 ∷ []) ∙ ap (whole a forks) (here_more es (Start 0) ∙ begins.after) in
           made.1
           ∙ ap (λ n. pass_calls 0 (host_of a) n begins.passes now.handed) (name ∙ ap (λ (u : PlainTask). action_name (plain_action (modules_of a.registry) u.work)) same.0)
           ∙ sym (ap (job_calls 0 now.handed) inside ∙ running_calls (modules_of a.registry) (host_of a) now.place now.tasks begins.task begins.more begins.passes now.handed begins.tasks)

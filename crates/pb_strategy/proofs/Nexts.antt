@@ -13,8 +13,8 @@ use Rattle.pb_sig.specs.Modules.{modules_of}
 use Rattle.pb_inventory.specs.Inventory.{inventory_view}
 use Rattle.pb_plain.specs.Books.{plays_of, book_of}
 use Rattle.pb_plain.specs.Meaning.{plain_tasks}
-use Rattle.pb_verify.specs.declared.checked.Accepted.{Accepted}
-use Rattle.pb_verify.proofs.AcceptedRuns.{is_stuck-accepted, handed-accepted, are_distinct-hosts, judged-accepted}
+use Rattle.pb_strategy.specs.declared.runnable.Ready.{Ready}
+use Rattle.pb_strategy.proofs.ReadyRuns.{is_stuck-accepted, handed-accepted, are_distinct-hosts, judged-accepted}
 use Rattle.pb_strategy.specs.Events.{event_data, recap_data}
 use Rattle.pb_strategy.specs.Inside.{IsMachine, IsRun, recaps_of, run_state, is_phase_ended, is_phase_stopped}
 use Rattle.pb_strategy.specs.Jobs.{ticket_in}
@@ -30,12 +30,12 @@ use Rattle.pb_strategy.specs.declared.host.Stage.{Stage}
 use Rattle.pb_strategy.specs.declared.host.Stage.TheVariants as stage
 use Rattle.pb_strategy.specs.declared.run.Phase.{Phase}
 use Rattle.pb_strategy.specs.declared.run.Run.TheInside.{Inside}
-use Rattle.pb_strategy.proofs.Accepts.{line_in, whole, run_of_accepted-plain, enabled-plain}
+use Rattle.pb_strategy.proofs.Accepts.{line_in, whole, run_of_ready-plain, enabled-plain}
 use Rattle.pb_strategy.proofs.PlainNext.{next_start-plain, length-events}
 use Rattle.pb_strategy.proofs.Machines.{there}
 use Rattle.pb_strategy.proofs.Standings.{are_left-same, is_before-same, is_through-same}
 
-module _ (a : Accepted) (forks : ℕ) where
+module _ (a : Ready) (forks : ℕ) where
   abbrev goes : PlainRun → machine.Event → PlainRun
   goes r e = plain_step (modules_of a.registry) (host_of a) forks r e
 
@@ -98,7 +98,7 @@ busy_by stage.Waiting l e = cc
 busy_by (stage.Running t q) l e = (refl, refl)
 busy_by stage.Left l e = cc
 
-module _ (a : Accepted) (forks : ℕ) (es : List Event) (hosts : List HostState) (p : Phase) (m : IsMachine a forks es hosts p) where
+module _ (a : Ready) (forks : ℕ) (es : List Event) (hosts : List HostState) (p : Phase) (m : IsMachine a forks es hosts p) where
   abbrev now : PlainRun
   now = plain_after a forks es
 
@@ -117,7 +117,7 @@ module _ (a : Accepted) (forks : ℕ) (es : List Event) (hosts : List HostState)
 
   next_now : next_of (there a forks es) ≡ next_by a forks (is_phase_stopped p) (is_phase_ended p) (is_done m.host.stage left) (is_waiting m.host.stage && (left && nat_lt 0 forks))
   next_now =
-      ap next_of (run_of_accepted-plain a m.lone forks es)
+      ap next_of (run_of_ready-plain a m.lone forks es)
       ∙ next_whole a forks now (is_phase_stopped p) (is_phase_ended p) (is_done m.host.stage left) m.stopped m.ended through_now
       ∙ ap (next_by a forks (is_phase_stopped p) (is_phase_ended p) (is_done m.host.stage left)) begins_now
 
@@ -179,14 +179,14 @@ pub IsSound-run : (x : Inside) → IsRun x → IsSound (run_state x)
 IsSound-run x i =
     let m = i.machine in
     let at = m.at in
-    let state = run_of_accepted-plain x.checked m.lone x.forks x.history.items in
+    let state = run_of_ready-plain x.runnable m.lone x.forks x.history.items in
     let handed = sum_by-alone (λ h. h.calls) m.host x.hosts.items m.alone ∙ at.calls ∙ sym (ap (λ s. s.handed) state) in record {
       enabled = m.enabled;
-      never_stuck = is_stuck-accepted x.checked m.lone m.accepted x.forks (map event_data x.history.items);
+      never_stuck = is_stuck-accepted x.runnable m.lone m.accepted x.forks (map event_data x.history.items);
       recaps = ap (λ hs. map recap_data (recaps_of hs)) m.alone ∙ ap (λ r. r ∷ []) at.recap ∙ sym (ap (λ s. map (λ h. h.recap) s.hosts) state);
       handed = handed;
-      within = omega (arith, handed, handed-accepted x.checked m.lone m.accepted x.forks (map event_data x.history.items));
-      short = omega (arith, length-map x.history.items event_data, length-events (modules_of x.checked.registry) (inventory_view x.checked.inventory) (book_of x.checked.book) x.checked.budget x.forks (map event_data x.history.items) (are_distinct-hosts x.checked m.lone) (judged-accepted x.checked m.lone m.accepted) m.enabled);
+      within = omega (arith, handed, handed-accepted x.runnable m.lone m.accepted x.forks (map event_data x.history.items));
+      short = omega (arith, length-map x.history.items event_data, length-events (modules_of x.runnable.registry) (inventory_view x.runnable.inventory) (book_of x.runnable.book) x.runnable.budget x.forks (map event_data x.history.items) (are_distinct-hosts x.runnable m.lone) (judged-accepted x.runnable m.lone m.accepted) m.enabled);
     }
 
 -- the recap of a host is the machine's

@@ -15,10 +15,10 @@ use Rattle.pb_plain.specs.Lines.{names_known}
 use Rattle.pb_plain.specs.Meaning.{plain_tasks}
 use Rattle.pb_plain.specs.declared.book.Play.{Play}
 use Rattle.pb_plain.specs.declared.book.Task.{Task}
-use Rattle.pb_verify.specs.Built.{is_lone}
-use Rattle.pb_verify.specs.Judges.{is_accepted}
-use Rattle.pb_verify.specs.declared.checked.Accepted.{Accepted}
-use Rattle.pb_verify.proofs.Lone.{Alone-lone}
+use Rattle.pb_strategy.specs.Built.{is_lone}
+use Rattle.pb_strategy.specs.Readiness.{is_accepted}
+use Rattle.pb_strategy.specs.declared.runnable.Ready.{Ready}
+use Rattle.pb_strategy.proofs.Alone.{Alone-lone}
 use Rattle.pb_strategy.specs.Events.{recap_data}
 use Rattle.pb_strategy.specs.History.{has_no_plays}
 use Rattle.pb_strategy.specs.Inside.{IsMachine, is_phase_ended, is_phase_stopped}
@@ -61,7 +61,7 @@ opening_halted : (ps : List Play) → (opening_run ps).is_stopped ≡ false
 opening_halted [] = refl
 opening_halted (p ∷ ps) = refl
 
-module _ (a : Accepted) (forks : ℕ) (hosts : List HostState) (p : Phase) where
+module _ (a : Ready) (forks : ℕ) (hosts : List HostState) (p : Phase) where
   pub IsMachine-opening : ((h : HostVariables) → (inventory_view a.inventory).hosts ≡ h ∷ [] → (s : HostState) × ((hosts ≡ s ∷ []) × IsOpening (inventory_view a.inventory).groups h s))
       → is_phase_ended p ≡ has_no_plays (plays_of a.book) → is_phase_stopped p ≡ false → is_accepted a ≡ true → is_lone (inventory_view a.inventory) ≡ true → names_known (modules_of a.registry) (plays_of a.book) ≡ true → IsMachine a forks [] hosts p
   IsMachine-opening opening ended live accepted lone known =

@@ -10,7 +10,7 @@ use Rattle.pb_language.specs.Machine.{State, enabled, history, run_from, start, 
 use Rattle.pb_language.specs.plain.Machine.{PlainRun, plain_is_possible, is_inside, is_going}
 use Rattle.pb_language.proofs.PlainEval.{history_kept}
 use Rattle.pb_plain.specs.Books.{plays_of}
-use Rattle.pb_verify.specs.declared.checked.Accepted.{Accepted}
+use Rattle.pb_strategy.specs.declared.runnable.Ready.{Ready}
 use Rattle.pb_strategy.specs.Events.{event_data, event_view}
 use Rattle.pb_strategy.specs.History.{RunState, after, enabled_of, Follows, is_over, is_stopped, state_of}
 use Rattle.pb_strategy.specs.Inside.{IsMachine, IsRun, run_state, tickets_of, is_phase_ended, is_phase_over, is_phase_stopped}
@@ -44,7 +44,7 @@ inside_same stage.Waiting r x i e = rw i (and-false (is_going r) ∙ sym (and-fa
 inside_same (stage.Running k q) r x i e = rw (i.standing, i.going, i.left, e) (and-true (not x && true))
 inside_same stage.Left r x i e = rw i (and-false (is_going r) ∙ sym (and-false (not x)))
 
-module _ (a : Accepted) (forks : ℕ) (es : List Event) (hosts : List HostState) (p : Phase) (m : IsMachine a forks es hosts p) where
+module _ (a : Ready) (forks : ℕ) (es : List Event) (hosts : List HostState) (p : Phase) (m : IsMachine a forks es hosts p) where
   -- nothing is enabled once the run is over, and until then what the host may do
   enabled_now : (e : machine.Event) → enabled (there a forks es) e ≡ not (is_phase_over p) && plain_is_possible forks (plain_after a forks es) e
   enabled_now e = enabled-plain a m.lone forks es e ∙ ap (λ b. b && plain_is_possible forks (plain_after a forks es) e) (ap₂ (λ x o. not x && not o) m.stopped m.ended ∙ going_in p)
@@ -66,10 +66,10 @@ module _ (a : Accepted) (forks : ℕ) (es : List Event) (hosts : List HostState)
 
 module _ (x : Inside) (i : IsRun x) (r : RunState) (view : run_state x ≡ r) where
   pub enabled-stop : enabled (state_of r) stop ≡ not (is_over r)
-  enabled-stop = rw (← view) (stop_enabled x.checked x.forks x.history.items x.hosts.items x.phase i.machine ∙ ap not (sym i.over))
+  enabled-stop = rw (← view) (stop_enabled x.runnable x.forks x.history.items x.hosts.items x.phase i.machine ∙ ap not (sym i.over))
 
   pub enabled-give : (k : ℕ) (xs : List language.Answer) → enabled (state_of r) (give k xs) ≡ not (is_stopped r.history) && is_some (ticket_out k r.history)
-  enabled-give k xs = rw (← view) (give_enabled x.checked x.forks x.history.items x.hosts.items x.phase i.machine k xs ∙ ap₂ (λ b o. not b && is_some o) (sym i.stopped) (i.tickets k))
+  enabled-give k xs = rw (← view) (give_enabled x.runnable x.forks x.history.items x.hosts.items x.phase i.machine k xs ∙ ap₂ (λ b o. not b && is_some o) (sym i.stopped) (i.tickets k))
 
 -- in a run that isn't stopped, a job that is out can be answered
 pub is_some-answerable : (stopped : Bool) (ticket : ℕ) (out : Option ℕ) → (stopped ≡ true → false ≡ true) → is_ticket ticket out ≡ true → not stopped && is_some out ≡ true
@@ -116,7 +116,7 @@ enabled_more s (x ∷ es) e = rw (enabled_more (step s (event_data x)) es e) (fi
   first false xs ys = refl
 
 -- a run that followed events has those that were enabled, and one more that it follows then
-pub enabled_of-push : (a : Accepted) (forks : ℕ) (xs : List Event) (x : Event) (old new : RunState) → old.checked ≡ a → old.forks ≡ forks → map event_view old.history ≡ map event_view (enabled_of (there a forks []) xs)
+pub enabled_of-push : (a : Ready) (forks : ℕ) (xs : List Event) (x : Event) (old new : RunState) → old.runnable ≡ a → old.forks ≡ forks → map event_view old.history ≡ map event_view (enabled_of (there a forks []) xs)
     → Follows x old new → map event_view new.history ≡ map event_view (enabled_of (there a forks []) (xs ++ x ∷ []))
 enabled_of-push a forks xs x old new book same kept follows =
     let first = there a forks [] in

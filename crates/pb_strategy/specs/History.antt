@@ -8,8 +8,8 @@ use Rattle.pb_language.specs.Machine.{State, enabled, step}
 use Rattle.pb_inventory.specs.Inventory.{inventory_view}
 use Rattle.pb_plain.specs.Books.{plays_of}
 use Rattle.pb_plain.specs.declared.book.Play.{Play}
-use Rattle.pb_verify.specs.Judges.{run_of_accepted}
-use Rattle.pb_verify.specs.declared.checked.Accepted.{Accepted}
+use Rattle.pb_strategy.specs.Readiness.{run_of_ready}
+use Rattle.pb_strategy.specs.declared.runnable.Ready.{Ready}
 use Rattle.pb_strategy.specs.Events.{event_data, event_view, call_data}
 use Rattle.pb_strategy.specs.Passes.{job_calls}
 use Rattle.pb_strategy.specs.Recaps.{nothing}
@@ -22,7 +22,7 @@ use Rattle.pb_strategy.specs.declared.event.Taken.TheVariants as taken
 use Rattle.pb_strategy.specs.declared.recap.Recap.{Recap}
 
 pub record RunState : Type 0 where
-  pub checked : Accepted
+  pub runnable : Ready
   pub forks : ℕ
   pub history : List Event
   -- of each host, in host order
@@ -31,9 +31,9 @@ pub record RunState : Type 0 where
   pub handed : ℕ
 
 -- a run in which nothing has happened yet
-abbrev pub opened : Accepted → ℕ → RunState
+abbrev pub opened : Ready → ℕ → RunState
 opened a forks = record {
-  checked = a;
+  runnable = a;
   forks = forks;
   history = [];
   recaps = replicate
@@ -43,7 +43,7 @@ opened a forks = record {
 
 -- where the definitions' machine stands after these events
 abbrev pub state_after : RunState → List Event → State
-state_after r es = run_of_accepted r.checked r.forks (map event_data es)
+state_after r es = run_of_ready r.runnable r.forks (map event_data es)
 
 abbrev pub state_of : RunState → State
 state_of r = state_after r r.history
@@ -80,7 +80,7 @@ has_no_plays (p ∷ ps) = false
 
 -- the run has ended: its book has no play, or the one batch of its play is over
 abbrev pub is_ended : RunState → Bool
-is_ended r = has_no_plays (plays_of r.checked.book) || is_turned r.history
+is_ended r = has_no_plays (plays_of r.runnable.book) || is_turned r.history
 
 -- nothing happens any more
 abbrev pub is_over : RunState → Bool

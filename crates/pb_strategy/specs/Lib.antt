@@ -1,3 +1,5 @@
+pub mod Built
+pub mod Readiness
 pub mod Events
 pub mod Passes
 pub mod History

@@ -12,8 +12,8 @@ use Rattle.pb_strategy.specs.History.{RunState, state_after, state_of}
 
 -- the batches of the accepted book
 abbrev pub batches_of : RunState → List Batch
-batches_of r = all_batches (program_of (modules_of r.checked.registry)
-    (inventory_view r.checked.inventory) (book_of r.checked.book))
+batches_of r = all_batches (program_of (modules_of r.runnable.registry)
+    (inventory_view r.runnable.inventory) (book_of r.runnable.book))
 
 -- the recap of the host of that place; of none, nothing
 abbrev pub recap_in : ℕ → List Host → Recap
@@ -30,5 +30,5 @@ pub record IsSound (r : RunState) : Type 0 where
   pub never_stuck : (state_of r).is_stuck ≡ false
   pub recaps : map recap_data r.recaps ≡ map (λ h. h.recap) (state_of r).hosts
   pub handed : r.handed ≡ (state_of r).handed
-  pub within : r.handed ≤ r.checked.budget
+  pub within : r.handed ≤ r.runnable.budget
   pub short : length r.history ≤ occurrence_events (batches_of r) + length (batches_of r) + 1

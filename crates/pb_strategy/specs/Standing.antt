@@ -14,7 +14,7 @@ use Rattle.pb_plain.specs.Books.{plays_of}
 use Rattle.pb_plain.specs.Meaning.{plain_tasks}
 use Rattle.pb_plain.specs.declared.book.Play.{Play}
 use Rattle.pb_plain.specs.declared.book.Task.{Task}
-use Rattle.pb_verify.specs.declared.checked.Accepted.{Accepted}
+use Rattle.pb_strategy.specs.declared.runnable.Ready.{Ready}
 use Rattle.pb_strategy.specs.Events.{event_data, recap_data}
 use Rattle.pb_strategy.specs.OwnNames.{AreSame}
 use Rattle.pb_strategy.specs.Passes.{IsPending}
@@ -33,7 +33,7 @@ first_name [] = []
 first_name (h ∷ hs) = h.name
 
 -- the one host of what was accepted
-abbrev pub host_of : Accepted → Name
+abbrev pub host_of : Ready → Name
 host_of a = first_name (inventory_view a.inventory).hosts
 
 abbrev pub opening_run : List Play → PlainRun
@@ -41,7 +41,7 @@ opening_run [] = ended_opening
 opening_run (p ∷ ps) = plain_opening (plain_tasks p.tasks.items)
 
 -- the machine of its plain tasks after these events
-abbrev pub plain_after : Accepted → ℕ → List Event → PlainRun
+abbrev pub plain_after : Ready → ℕ → List Event → PlainRun
 plain_after a forks es = plain_run_from (modules_of a.registry) (host_of a) forks
     (opening_run (plays_of a.book)) (map event_data es)
 

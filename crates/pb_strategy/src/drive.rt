@@ -43,7 +43,7 @@ pub fn drive<R: Runner>(run: &mut Run, runner: &mut R) -> Result<(), AllocError>
 
     ensures sound { IsSound run.new }
     ensures driven { OnOk result (Drives R.answers run.old runner.old run.new runner.new) }
-    ensures book { (run.new.checked ≡ run.old.checked) × (run.new.forks ≡ run.old.forks) }
+    ensures book { (run.new.runnable ≡ run.old.runnable) × (run.new.forks ≡ run.old.forks) }
     ensures ends { OnOk result
         ((is_over run.new ≡ true) ⊎ ((k : ℕ) × (p : ℕ) × (ticket_out k run.new.history ≡ Some p))) }
 
@@ -76,7 +76,7 @@ pub fn drive<R: Runner>(run: &mut Run, runner: &mut R) -> Result<(), AllocError>
 fn step<R: Runner>(run: &mut Run, runner: &mut R, job: Job) -> Result<(), AllocError>
     requires { R.calls runner.old + length job.calls.items < 2 ^ 64 }
     ensures made { OnOk result (R.calls runner.new ≡ R.calls runner.old + length job.calls.items) }
-    ensures book { (run.new.checked ≡ run.old.checked) × (run.new.forks ≡ run.old.forks) }
+    ensures book { (run.new.runnable ≡ run.old.runnable) × (run.new.forks ≡ run.old.forks) }
     ensures given { OnOk result ((answers : Vec Answer)
         × (AreAnswered R.answers runner.old job.calls.items answers.items runner.new)
         × (IsAfterGive job.host answers run.old run.new)) }

@@ -1,7 +1,8 @@
 // The run of an accepted book, as a machine over events: jobs are handed out, and answers are given
 // back.
 //
-//     let mut run = Run::open(alloc, &checked, 5)?;
+//     let runnable = Runnable::of(alloc, checked)?; // of what the verifier accepted
+//     let mut run = Run::open(alloc, &runnable, 5)?;
 //     let mut runner = ScriptRunner::read(alloc, b"{\"web1\": [{\"ping\": \"pong\"}]}")?;
 //     drive(&mut run, &mut runner)?; // job after job, to the end
 //     for host in 0..run.hosts() {
@@ -13,9 +14,11 @@ pub mod answer;
 pub mod drive;
 pub mod event;
 mod host;
+mod lone;
 mod outcome;
 pub mod recap;
 pub mod run;
+pub mod runnable;
 pub mod script;
 
 pub use answer::{Answer, Call, Job, Why};
@@ -23,4 +26,5 @@ pub use drive::Runner;
 pub use event::{Event, GiveError, Given, Taken};
 pub use recap::Recap;
 pub use run::{Run, replay};
+pub use runnable::{RunFault, Runnable};
 pub use script::{ANSWERS_LIMIT, ScriptFault, ScriptRunner};

@@ -14,7 +14,8 @@ ghost use Rattle.pb_inventory.specs.Words.{inventory_view};
 ghost use Rattle.pb_template.specs.Words.{are_ascending, entry_names};
 ghost use Rattle.pb_plain.specs.Words.{are_known, are_ordered};
 ghost use Rattle.pb_plain.specs.Words.{names_known, plain_task, plays_of};
-ghost use Rattle.pb_verify.specs.Words.{is_accepted, is_lone};
+ghost use Rattle.pb_strategy.specs.Built.{is_lone};
+ghost use Rattle.pb_strategy.specs.Readiness.{is_accepted};
 ghost use Rattle.pb_strategy.specs.Events.{answer_data, event_view, recap_data, why_of};
 ghost use Rattle.pb_strategy.specs.History.{Follows, IsAfterJob, IsAfterTake, RunState, after};
 ghost use Rattle.pb_strategy.specs.History.{enabled_of, has_no_plays, is_ended, is_over};
@@ -36,8 +37,8 @@ use crate::event::{Event, GiveError, Given, Taken};
 use crate::host::{HostState, Pending, Stage};
 use crate::outcome::{FixedResults, Outcome, Started, finish, start};
 use crate::recap::Recap;
+use crate::runnable::Runnable;
 use pb_plain::Task;
-use pb_verify::Checked;
 use std::alloc::{AllocError, Global};
 use std::marker::Model;
 
@@ -53,7 +54,7 @@ enum Phase {
 /// each host, and how many calls were handed out.
 #[derive(Drop)]
 pub struct Run {
-    checked: Checked,
+    runnable: Runnable,
     forks: usize,
     history: Vec<Event>,
     hosts: Vec<HostState>,
@@ -89,18 +90,18 @@ impl Model for Run {
 
 impl Run {
     /// A run in which nothing has happened yet. At most `forks` hosts have a job out at one time.
-    pub fn open(alloc: Global, checked: &Checked, forks: usize) -> Result<Run, AllocError>
+    pub fn open(alloc: Global, runnable: &Runnable, forks: usize) -> Result<Run, AllocError>
         requires { 0 < forks }
         ensures sound { IfOk result (λ r. IsSound r) }
-        ensures opening { IfOk result (λ r. r ≡ opened checked.now forks) }
+        ensures opening { IfOk result (λ r. r ≡ opened runnable.now forks) }
     {
         let run = Run {
-            checked: checked.clone()?,
+            runnable: runnable.clone()?,
             forks,
             history: opening_history(alloc)?,
-            hosts: opening_hosts(alloc, checked)?,
+            hosts: opening_hosts(alloc, runnable)?,
             fixed: FixedResults::new(alloc)?,
-            phase: opening_phase(checked),
+            phase: opening_phase(runnable),
         };
         run.known();
         Ok(run)
@@ -132,7 +133,7 @@ impl Run {
             Phase::Ended => return Ok(Taken::Finished),
             Phase::Going => {}
         }
-        let tasks = tasks_of(&self.checked);
+        let tasks = tasks_of(&self.runnable);
         if let Some(host) = ready_host(&self.hosts, tasks, self.forks) {
             let job = self.begin(host)?;
             self.known();
@@ -162,7 +163,7 @@ impl Run {
     {
         let alloc = *self.history.allocator();
         let ticket = self.history.len();
-        let begun = begin_on(alloc, &self.checked, &self.hosts, host)?;
+        let begun = begin_on(alloc, &self.runnable, &self.hosts, host)?;
         self.history.reserve(2)?;
         self.history.push_reserved(Event::Start(host));
         let Begun { pending, calls } = begun;
@@ -192,7 +193,7 @@ impl Run {
         ensures done { OnOk result
             (self.new.history ≡ self.old.history ++ Event.Give job.host answers ∷ []) }
         ensures counted { OnOk result (IsOneMore job.host self.old.recaps self.new.recaps) }
-        ensures book { (self.new.checked ≡ self.old.checked) × (self.new.forks ≡ self.old.forks) }
+        ensures book { (self.new.runnable ≡ self.old.runnable) × (self.new.forks ≡ self.old.forks) }
         ensures handed { self.new.handed ≡ self.old.handed }
 
         ensures err { OnErr result (self.new ≡ self.old) }
@@ -249,7 +250,7 @@ impl Run {
         ensures done { OnOk result
             (self.new.history ≡ self.old.history ++ Event.Give host answers ∷ []) }
         ensures counted { OnOk result (IsOneMore host self.old.recaps self.new.recaps) }
-        ensures book { (self.new.checked ≡ self.old.checked) × (self.new.forks ≡ self.old.forks) }
+        ensures book { (self.new.runnable ≡ self.old.runnable) × (self.new.forks ≡ self.old.forks) }
         ensures handed { self.new.handed ≡ self.old.handed }
 
         ensures err { OnErr result (self.new ≡ self.old) }
@@ -259,7 +260,7 @@ impl Run {
             unreachable!()
         };
         let alloc = *self.history.allocator();
-        let Ok(found) = outcome_of(alloc, &self.checked, &self.fixed, state, &answers) else {
+        let Ok(found) = outcome_of(alloc, &self.runnable, &self.fixed, state, &answers) else {
             return Err(answers);
         };
         if self.history.reserve(2).is_err() {
@@ -298,20 +299,20 @@ impl Run {
 
     /// How many hosts the inventory has.
     pub fn hosts(&self) -> usize
-        ensures count { result ≡ length (inventory_view self.now.checked.inventory).hosts }
+        ensures count { result ≡ length (inventory_view self.now.runnable.inventory).hosts }
         ensures recaps { result ≡ length self.now.recaps }
     {
-        self.checked.hosts()
+        self.runnable.hosts()
     }
 
     /// The name of the host.
     pub fn host_name(&self, host: usize) -> &str
-        requires { host < length (inventory_view self.now.checked.inventory).hosts }
+        requires { host < length (inventory_view self.now.runnable.inventory).hosts }
         ensures { option_map (λ h. h.name)
-            (slice_get (inventory_view self.now.checked.inventory).hosts host)
+            (slice_get (inventory_view self.now.runnable.inventory).hosts host)
             ≡ Some result.now }
     {
-        self.checked.inventory().host_name(host)
+        self.runnable.inventory().host_name(host)
     }
 
     /// What the host's tasks came to so far, where each of its Gives counts once; zeros past the
@@ -336,16 +337,16 @@ fn recap_at(hosts: &[HostState], host: usize) -> Recap
 }
 
 // A run of a book without plays has ended.
-fn opening_phase(checked: &Checked) -> Phase
-    ensures accepted { is_accepted checked.now ≡ true }
-    ensures known { names_known (modules_of checked.now.registry) (plays_of checked.now.book)
+fn opening_phase(runnable: &Runnable) -> Phase
+    ensures accepted { is_accepted runnable.now ≡ true }
+    ensures known { names_known (modules_of runnable.now.registry) (plays_of runnable.now.book)
         ≡ true }
-    ensures over { is_phase_over result ≡ has_no_plays (plays_of checked.now.book) }
-    ensures ended { is_phase_ended result ≡ has_no_plays (plays_of checked.now.book) }
+    ensures over { is_phase_over result ≡ has_no_plays (plays_of runnable.now.book) }
+    ensures ended { is_phase_ended result ≡ has_no_plays (plays_of runnable.now.book) }
     ensures going { is_phase_stopped result ≡ false }
 {
-    let _ = checked.budget();
-    match checked.book().plays() {
+    let _ = runnable.budget();
+    match runnable.book().plays() {
         [] => Phase::Ended,
         _ => Phase::Going,
     }
@@ -359,18 +360,18 @@ fn opening_history(alloc: Global) -> Result<Vec<Event>, AllocError>
     Vec::with_capacity(alloc, 1)
 }
 
-fn opening_hosts(alloc: Global, checked: &Checked) -> Result<Vec<HostState>, AllocError>
+fn opening_hosts(alloc: Global, runnable: &Runnable) -> Result<Vec<HostState>, AllocError>
     ensures recaps { IfOk result (λ hs. recaps_of hs.items
-        ≡ replicate (length (inventory_view checked.now.inventory).hosts) nothing) }
+        ≡ replicate (length (inventory_view runnable.now.inventory).hosts) nothing) }
     ensures handed { IfOk result (λ hs. handed_of hs.items ≡ 0) }
     ensures tickets { IfOk result (λ hs. tickets_of hs.items
-        ≡ replicate (length (inventory_view checked.now.inventory).hosts) None) }
-    ensures lone { is_lone (inventory_view checked.now.inventory) ≡ true }
-    ensures opening { (h : HostVariables) → (inventory_view checked.now.inventory).hosts ≡ h ∷ []
+        ≡ replicate (length (inventory_view runnable.now.inventory).hosts) None) }
+    ensures lone { is_lone (inventory_view runnable.now.inventory) ≡ true }
+    ensures opening { (h : HostVariables) → (inventory_view runnable.now.inventory).hosts ≡ h ∷ []
         → IfOk result (λ hs. (s : HostState) × ((hs.items ≡ s ∷ [])
-        × IsOpening (inventory_view checked.now.inventory).groups h s)) }
+        × IsOpening (inventory_view runnable.now.inventory).groups h s)) }
 {
-    let inventory = checked.inventory();
+    let inventory = runnable.inventory();
     let count = inventory.hosts();
     let mut hosts = Vec::with_capacity(alloc, count)?;
     for host in 0..count {
@@ -381,12 +382,12 @@ fn opening_hosts(alloc: Global, checked: &Checked) -> Result<Vec<HostState>, All
 }
 
 // The tasks of the play that runs.
-fn tasks_of(checked: &Checked) -> &[Task]
-    ensures value { result.now ≡ tasks_in (plays_of checked.now.book) }
+fn tasks_of(runnable: &Runnable) -> &[Task]
+    ensures value { result.now ≡ tasks_in (plays_of runnable.now.book) }
     ensures ordered { are_ordered result.now ≡ true }
-    ensures known { are_known (modules_of checked.now.registry) result.now ≡ true }
+    ensures known { are_known (modules_of runnable.now.registry) result.now ≡ true }
 {
-    match checked.book().plays().first() {
+    match runnable.book().plays().first() {
         Some(play) => play.tasks.as_slice(),
         None => &[],
     }
@@ -434,7 +435,7 @@ fn ready_host(hosts: &[HostState], tasks: &[Task], forks: usize) -> Option<usize
 impl Run {
     // Follows one recorded event, where it is enabled.
     fn follow(&mut self, event: &Event) -> Result<(), AllocError>
-        ensures book { (self.new.checked ≡ self.old.checked) × (self.new.forks ≡ self.old.forks) }
+        ensures book { (self.new.runnable ≡ self.old.runnable) × (self.new.forks ≡ self.old.forks) }
         ensures followed { OnOk result (Follows event.now self.old self.new) }
     {
         match event {
@@ -460,7 +461,7 @@ impl Run {
     }
 
     fn give_again(&mut self, host: usize, answers: &Vec<Answer>) -> Result<(), AllocError>
-        ensures book { (self.new.checked ≡ self.old.checked) × (self.new.forks ≡ self.old.forks) }
+        ensures book { (self.new.runnable ≡ self.old.runnable) × (self.new.forks ≡ self.old.forks) }
         ensures followed { OnOk result (Follows (Event.Give host answers.now) self.old self.new) }
     {
         let Some(ticket) = ticket_of(&self.hosts, host) else {
@@ -489,7 +490,7 @@ impl Run {
         ensures { result ≡ enabled (state_of self.now) (start host) }
     {
         match self.phase {
-            Phase::Going => is_ready(&self.hosts, tasks_of(&self.checked), self.forks, host),
+            Phase::Going => is_ready(&self.hosts, tasks_of(&self.runnable), self.forks, host),
             Phase::Ended | Phase::Stopped => false,
         }
     }
@@ -499,7 +500,7 @@ impl Run {
         ensures { result ≡ enabled (state_of self.now) turn }
     {
         match self.phase {
-            Phase::Going => { are_through(&self.hosts, tasks_of(&self.checked).len()) }
+            Phase::Going => { are_through(&self.hosts, tasks_of(&self.runnable).len()) }
             Phase::Ended | Phase::Stopped => false,
         }
     }
@@ -521,17 +522,17 @@ impl Run {
 /// others, up to what values stand for.
 pub fn replay(
     alloc: Global,
-    checked: &Checked,
+    runnable: &Runnable,
     forks: usize,
     events: &[Event],
 ) -> Result<Run, AllocError>
     requires { 0 < forks }
-    ensures book { IfOk result (λ r. (r.checked ≡ checked.now) × (r.forks ≡ forks)) }
+    ensures book { IfOk result (λ r. (r.runnable ≡ runnable.now) × (r.forks ≡ forks)) }
     ensures events { IfOk result (λ r. map event_view r.history
         ≡ map event_view (enabled_of (state_after r []) events.now)) }
     ensures sound { IfOk result (λ r. IsSound r) }
 {
-    let mut run = Run::open(alloc, checked, forks)?;
+    let mut run = Run::open(alloc, runnable, forks)?;
     for event in events {
         run.follow(event)?;
     }
@@ -613,20 +614,20 @@ struct Begun {
 
 fn begin_on(
     alloc: Global,
-    checked: &Checked,
+    runnable: &Runnable,
     hosts: &[HostState],
     host: usize,
 ) -> Result<Begun, AllocError>
     requires there { (s : HostState) × ((slice_get hosts.now host ≡ Some s)
-        × (is_some (slice_get (tasks_in (plays_of checked.now.book)) s.place) ≡ true)) }
+        × (is_some (slice_get (tasks_in (plays_of runnable.now.book)) s.place) ≡ true)) }
     ensures few { IfOk result (λ b. length b.calls.items ≤ 1) }
     ensures made { IfOk result
         (λ b. (s : HostState) (t : Task) (ms : Modules) (p : ℕ) → slice_get hosts.now host ≡ Some s
-        → slice_get (tasks_in (plays_of checked.now.book)) s.place ≡ Some t
+        → slice_get (tasks_in (plays_of runnable.now.book)) s.place ≡ Some t
         → Makes b.pending b.calls.items t host s
         (plan_of (own_world (own_fields s.vars)) (plain_run ms p (plain_task t)) None)) }
 {
-    let (Some(state), Some(task)) = (hosts.get(host), task_of(checked, hosts, host)) else {
+    let (Some(state), Some(task)) = (hosts.get(host), task_of(runnable, hosts, host)) else {
         unreachable!()
     };
     let Started { pending, call } = start(alloc, task, host, state)?;
@@ -667,43 +668,43 @@ fn set_running(hosts: &mut Vec<HostState>, host: usize, stage: Stage, calls: usi
 }
 
 // The task that the host is at.
-fn task_of<'c>(checked: &'c Checked, hosts: &[HostState], host: usize) -> Option<&'c Task>
+fn task_of<'c>(runnable: &'c Runnable, hosts: &[HostState], host: usize) -> Option<&'c Task>
     ensures found { (s : HostState) → slice_get hosts.now host ≡ Some s
         → option_map (λ t. t.now) result
-        ≡ slice_get (tasks_in (plays_of checked.now.book)) s.place }
+        ≡ slice_get (tasks_in (plays_of runnable.now.book)) s.place }
     ensures ordered { IfSome result
         (λ t. are_ascending (entry_names t.now.arguments.items) ≡ true) }
 {
     match hosts.get(host) {
-        Some(state) => tasks_of(checked).get(state.place),
+        Some(state) => tasks_of(runnable).get(state.place),
         None => None,
     }
 }
 
 fn outcome_of(
     alloc: Global,
-    checked: &Checked,
+    runnable: &Runnable,
     fixed: &FixedResults,
     state: &HostState,
     answers: &[Answer],
 ) -> Result<Outcome, AllocError>
     requires running { is_some (ticket_in state.now.stage) ≡ true }
-    requires there { is_some (slice_get (tasks_in (plays_of checked.now.book)) state.now.place)
+    requires there { is_some (slice_get (tasks_in (plays_of runnable.now.book)) state.now.place)
         ≡ true }
     requires skipped { view fixed.now.skipped ≡ rec skip_fields }
     requires unchanged { view fixed.now.unchanged ≡ rec action_fields }
     ensures { IfOk result (λ o. (q : Pending) (ticket : ℕ) (t : Task)
         → state.now.stage ≡ Stage.Running ticket q
-        → slice_get (tasks_in (plays_of checked.now.book)) state.now.place ≡ Some t
-        → ComesTo (modules_of checked.now.registry) t q answers.now o) }
+        → slice_get (tasks_in (plays_of runnable.now.book)) state.now.place ≡ Some t
+        → ComesTo (modules_of runnable.now.registry) t q answers.now o) }
 {
     let Stage::Running { pending, .. } = &state.stage else {
         unreachable!()
     };
-    let Some(task) = tasks_of(checked).get(state.place) else {
+    let Some(task) = tasks_of(runnable).get(state.place) else {
         unreachable!()
     };
-    Ok(finish(alloc, task, pending, answers, checked.registry(), fixed)?)
+    Ok(finish(alloc, task, pending, answers, runnable.registry(), fixed)?)
 }
 
 // Makes room for what the host's task writes.

@@ -2,9 +2,8 @@
 // nothing, and the same call made again is done. tests/refused_checks.py refuses each allocation in
 // turn.
 use crate::runs::{ONE_PING, PONG, accepted, job_of, told};
-use pb_strategy::{Answer, Event, GiveError, Job, Run, Taken};
+use pb_strategy::{Answer, Event, GiveError, Job, Run, Runnable, Taken};
 use pb_value::read_json;
-use pb_verify::Checked;
 use std::alloc::Global;
 use std::test::Fail;
 
@@ -17,14 +16,14 @@ const DONE: &[u8] =
 
 // Each of these is asked a second time where memory was refused the first time.
 
-fn judged(alloc: Global, book: &[u8]) -> Option<Checked> {
+fn judged(alloc: Global, book: &[u8]) -> Option<Runnable> {
     accepted(alloc, book).or_else(|| accepted(alloc, book))
 }
 
-fn opened(alloc: Global, checked: &Checked) -> Result<Run, Fail> {
-    match Run::open(alloc, checked, 1) {
+fn opened(alloc: Global, runnable: &Runnable) -> Result<Run, Fail> {
+    match Run::open(alloc, runnable, 1) {
         Ok(run) => Ok(run),
-        Err(_) => Ok(Run::open(alloc, checked, 1)?),
+        Err(_) => Ok(Run::open(alloc, runnable, 1)?),
     }
 }
 
@@ -86,15 +85,15 @@ fn both_done(alloc: Global, run: &mut Run) -> Result<(usize, u64, u64), Fail> {
     }
 }
 
-fn told_of_both(alloc: Global, checked: &Checked) -> Result<(usize, u64, u64), Fail> {
-    both_done(alloc, &mut opened(alloc, checked)?)
+fn told_of_both(alloc: Global, runnable: &Runnable) -> Result<(usize, u64, u64), Fail> {
+    both_done(alloc, &mut opened(alloc, runnable)?)
 }
 
 #[test]
 fn a_command_and_a_debug(rt: HostRuntime) -> Result<(), Fail> {
-    let checked = judged(rt.alloc(), COMMAND_AND_DEBUG).ok_or("refused")?;
-    assert_eq!(rt; checked.budget(), 1);
-    assert_eq!(rt; told_of_both(rt.alloc(), &checked)?, (5, 2, 1));
+    let runnable = judged(rt.alloc(), COMMAND_AND_DEBUG).ok_or("refused")?;
+    assert_eq!(rt; runnable.budget(), 1);
+    assert_eq!(rt; told_of_both(rt.alloc(), &runnable)?, (5, 2, 1));
     Ok(())
 }
 
@@ -126,8 +125,8 @@ fn gives_or_stops<R: Eprint + AllocGlobal>(rt: &R, run: &mut Run) -> Result<bool
 
 #[test]
 fn a_refused_give_and_a_stop(rt: HostRuntime) -> Result<(), Fail> {
-    let checked = judged(rt.alloc(), ONE_PING).ok_or("refused")?;
-    let mut run = opened(rt.alloc(), &checked)?;
+    let runnable = judged(rt.alloc(), ONE_PING).ok_or("refused")?;
+    let mut run = opened(rt.alloc(), &runnable)?;
     assert!(rt; gives_or_stops(&rt, &mut run)?);
     Ok(())
 }

@@ -3,25 +3,32 @@ use pb_book::Book;
 use pb_inventory::Inventory;
 use pb_sig::Registry;
 use pb_strategy::drive::drive;
-use pb_strategy::{Answer, Event, GiveError, Given, Job, Run, ScriptRunner, Taken, replay};
+use pb_strategy::{
+    Answer, Event, GiveError, Given, Job, Run, Runnable, ScriptRunner, Taken, replay,
+};
 use pb_value::read_json;
 use pb_verify::Checked;
 use pb_verify::verify::verify;
 use std::alloc::Global;
 use std::test::Fail;
 
-const ONE_HOST: &[u8] = b"{\"all\":{\"hosts\":[\"h1\"]}}";
+pub const ONE_HOST: &[u8] = b"{\"all\":{\"hosts\":[\"h1\"]}}";
 
 pub const ONE_PING: &[u8] = b"[{\"hosts\":\"all\",\"tasks\":[{\"ping\":null}]}]";
 
 pub const PONG: &[u8] = b"{\"ping\":\"pong\"}";
 
-/// The book accepted for one host; none where it is refused, or memory is.
-pub fn accepted(alloc: Global, book: &[u8]) -> Option<Checked> {
+/// The book accepted for the inventory; none where it is refused, or memory is.
+pub fn checked(alloc: Global, book: &[u8], inventory: &[u8]) -> Option<Checked> {
     let registry = Registry::builtin(alloc).ok()?;
-    let inventory = Inventory::read(alloc, ONE_HOST).ok()?;
+    let inventory = Inventory::read(alloc, inventory).ok()?;
     let book = Book::read(alloc, book, &registry).ok()?;
     verify(alloc, book, inventory, registry).ok()
+}
+
+/// The book accepted for one host, as it is run; none where it is refused, or memory is.
+pub fn accepted(alloc: Global, book: &[u8]) -> Option<Runnable> {
+    Runnable::of(alloc, checked(alloc, book, ONE_HOST)?).ok()
 }
 
 pub fn job_of(taken: Taken) -> Result<Job, &'static str> {
@@ -62,8 +69,8 @@ fn give_pong(alloc: Global, run: &mut Run) -> Result<(), Fail> {
 }
 
 // A run of one ping whose job was taken and given.
-fn ping_given(alloc: Global, checked: &Checked) -> Result<Run, Fail> {
-    let mut run = Run::open(alloc, checked, 1)?;
+fn ping_given(alloc: Global, runnable: &Runnable) -> Result<Run, Fail> {
+    let mut run = Run::open(alloc, runnable, 1)?;
     give_pong(alloc, &mut run)?;
     Ok(run)
 }
@@ -91,8 +98,8 @@ fn given_twice(
 
 #[test]
 fn a_second_give_is_a_stranger(rt: HostRuntime) -> Result<(), Fail> {
-    let checked = accepted(rt.alloc(), ONE_PING).ok_or("refused")?;
-    let found = given_twice(rt.alloc(), &mut ping_given(rt.alloc(), &checked)?)?;
+    let runnable = accepted(rt.alloc(), ONE_PING).ok_or("refused")?;
+    let found = given_twice(rt.alloc(), &mut ping_given(rt.alloc(), &runnable)?)?;
     assert_eq!(rt; found, (Some(GiveError::Stranger), (2, 1, 0)));
     Ok(())
 }
@@ -100,20 +107,20 @@ fn a_second_give_is_a_stranger(rt: HostRuntime) -> Result<(), Fail> {
 // What is told of the replay of a run that has ended.
 fn told_of_replay(
     alloc: Global,
-    checked: &Checked,
+    runnable: &Runnable,
     run: &mut Run,
 ) -> Result<(usize, u64, u64), Fail> {
     match run.take()? {
-        Taken::Finished => Ok(told(&replay(alloc, checked, 1, run.history())?)),
+        Taken::Finished => Ok(told(&replay(alloc, runnable, 1, run.history())?)),
         _ => Err("the run goes on")?,
     }
 }
 
 #[test]
 fn a_replay_is_the_same_run(rt: HostRuntime) -> Result<(), Fail> {
-    let checked = accepted(rt.alloc(), ONE_PING).ok_or("refused")?;
-    let mut run = ping_given(rt.alloc(), &checked)?;
-    assert_eq!(rt; told_of_replay(rt.alloc(), &checked, &mut run)?, (3, 1, 0));
+    let runnable = accepted(rt.alloc(), ONE_PING).ok_or("refused")?;
+    let mut run = ping_given(rt.alloc(), &runnable)?;
+    assert_eq!(rt; told_of_replay(rt.alloc(), &runnable, &mut run)?, (3, 1, 0));
     Ok(())
 }
 
@@ -132,8 +139,8 @@ fn stopped_and_given(
 
 #[test]
 fn a_stopped_run_gives_the_job_back(rt: HostRuntime) -> Result<(), Fail> {
-    let checked = accepted(rt.alloc(), ONE_PING).ok_or("refused")?;
-    let found = stopped_and_given(rt.alloc(), &mut Run::open(rt.alloc(), &checked, 1)?)?;
+    let runnable = accepted(rt.alloc(), ONE_PING).ok_or("refused")?;
+    let found = stopped_and_given(rt.alloc(), &mut Run::open(rt.alloc(), &runnable, 1)?)?;
     assert_eq!(rt; found, (Some(GiveError::Stopped), true, (2, 0, 0)));
     Ok(())
 }
@@ -151,8 +158,8 @@ fn driven(alloc: Global, run: &mut Run) -> Result<(bool, (usize, u64, u64)), Fai
 
 #[test]
 fn drive_runs_to_the_end(rt: HostRuntime) -> Result<(), Fail> {
-    let checked = accepted(rt.alloc(), ONE_PING).ok_or("refused")?;
-    let found = driven(rt.alloc(), &mut Run::open(rt.alloc(), &checked, 1)?)?;
+    let runnable = accepted(rt.alloc(), ONE_PING).ok_or("refused")?;
+    let found = driven(rt.alloc(), &mut Run::open(rt.alloc(), &runnable, 1)?)?;
     assert_eq!(rt; found, (true, (3, 1, 0)));
     Ok(())
 }

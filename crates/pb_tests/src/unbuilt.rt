@@ -1,34 +1,27 @@
-// Verdicts on what isn't built yet.
-use crate::runs::ONE_PING;
-use pb_book::Book;
-use pb_inventory::Inventory;
-use pb_sig::Registry;
-use pb_verify::verify::verify;
-use pb_verify::{Code, VerifyFault};
+// Accepted books that can't be run yet.
+use crate::runs::{ONE_HOST, ONE_PING, checked};
+use pb_strategy::{RunFault, Runnable};
 use std::alloc::Global;
 
-// The code and the line with which a book is refused for an inventory; none where it isn't refused.
-fn refusal_of(alloc: Global, book: &[u8], inventory: &[u8]) -> Option<(Code, u32)> {
-    let registry = Registry::builtin(alloc).ok()?;
-    let inventory = Inventory::read(alloc, inventory).ok()?;
-    let book = Book::read(alloc, book, &registry).ok()?;
-    match verify(alloc, book, inventory, registry) {
-        Err(VerifyFault::Refused(refusal)) => Some((refusal.code, refusal.line)),
-        Ok(_) | Err(VerifyFault::NoMemory) => None,
+// The line of the first form of an accepted book that can't be run yet; none where there is none,
+// or where the book isn't accepted.
+fn unbuilt_line(alloc: Global, book: &[u8], inventory: &[u8]) -> Option<u32> {
+    match Runnable::of(alloc, checked(alloc, book, inventory)?) {
+        Err(RunFault::NotBuilt(line)) => Some(line),
+        Ok(_) | Err(RunFault::NoMemory) => None,
     }
 }
 
 #[test]
-fn not_built_yet(rt: HostRuntime) {
-    let two = refusal_of(rt.alloc(), ONE_PING, br#"{"all":{"hosts":["h1","h2"]}}"#);
-    let grouped = refusal_of(rt.alloc(), ONE_PING, br#"{"web":{"hosts":["h1"]}}"#);
-    let variable = refusal_of(
+fn inventories_that_are_not_built(rt: HostRuntime) {
+    let two = unbuilt_line(rt.alloc(), ONE_PING, br#"{"all":{"hosts":["h1","h2"]}}"#);
+    let grouped = unbuilt_line(rt.alloc(), ONE_PING, br#"{"web":{"hosts":["h1"]}}"#);
+    let variable = unbuilt_line(
         rt.alloc(),
         ONE_PING,
         br#"{"all":{"hosts":["h1"],"vars":{"a":1}}}"#,
     );
-    let whole = Some((Code::N00, 0));
-    assert_eq!(rt; (two, grouped, variable), (whole, whole, whole));
+    assert_eq!(rt; (two, grouped, variable), (Some(0), Some(0), Some(0)));
 }
 
 // A ping, and then what isn't built.
@@ -37,11 +30,11 @@ const PING_AND_LOOP: &[u8] =
 
 #[test]
 fn a_form_that_is_not_built(rt: HostRuntime) {
-    let lone = refusal_of(rt.alloc(), PING_AND_LOOP, br#"{"all":{"hosts":["h1"]}}"#);
-    let two = refusal_of(
+    let lone = unbuilt_line(rt.alloc(), PING_AND_LOOP, ONE_HOST);
+    let two = unbuilt_line(
         rt.alloc(),
         PING_AND_LOOP,
         br#"{"all":{"hosts":["h1","h2"]}}"#,
     );
-    assert_eq!(rt; (lone, two), (Some((Code::N00, 3)), Some((Code::N00, 0))));
+    assert_eq!(rt; (lone, two), (Some(3), Some(0)));
 }

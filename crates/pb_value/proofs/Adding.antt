@@ -69,7 +69,7 @@ pub left_none : (o : Option (Bor (String Global) × Bor (Slot Kind))) (es : List
 left_none None es h = refl
 left_none (Some x) es h = untrue (sym h)
 
-spot_there : {A : Type 0} (o : Option (Bor (Slot Kind))) → is_some o ≡ true → spot_view o ≡ nowhere → A
+pub spot_there : {A : Type 0} (o : Option (Bor (Slot Kind))) → is_some o ≡ true → spot_view o ≡ nowhere → A
 spot_there None h e = untrue h
 spot_there (Some s) h e = untrue (sym (ap is_there e))
 

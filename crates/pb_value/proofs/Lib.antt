@@ -8,4 +8,5 @@ pub mod KindLemmas
 pub mod JoinLemmas
 pub mod GrowLemmas
 pub mod Adding
+mod Merging
 mod Texts

@@ -32,14 +32,9 @@ pub(crate) struct Met {
     joined: Kind,
 }
 
-/// The least kind above both. It shares the fields and cases that only one of them has, and where
-/// one of them is `Never`, it is a copy of the other that shares all.
-///
-/// # Errors
-///
-/// Want of memory.
+// The least kind above both, made of their parts.
 #[cycle(join)]
-pub fn join(alloc: Global, first: &Kind, second: &Kind) -> Result<Kind, AllocError>
+fn join_parts(alloc: Global, first: &Kind, second: &Kind) -> Result<Kind, AllocError>
     ensures { IfOk result (λ k. kind_view k
         ≡ join_of (kind_view first.now) (kind_view second.now)) }
 {
@@ -54,7 +49,7 @@ pub fn join(alloc: Global, first: &Kind, second: &Kind) -> Result<Kind, AllocErr
         (Kind::Host(_), Kind::Text) => Ok(Kind::Text),
         (Kind::Host(few), Kind::Host(more)) => join_hosts(alloc, few, more),
         (Kind::List(item, most), Kind::List(other, count)) => {
-            let item = join_part(alloc, item, other)?;
+            let item = join(alloc, item, other)?;
             Kind::of_item(alloc, item, larger(*most, *count))
         }
         (Kind::Rec(slots), Kind::Rec(others)) => join_records(alloc, slots, others),
@@ -68,20 +63,25 @@ pub fn join(alloc: Global, first: &Kind, second: &Kind) -> Result<Kind, AllocErr
     }
 }
 
-// The join of parts of two kinds, which is one of the two where the other adds nothing to it.
+/// The least kind above both. Where it is seen that one of them adds nothing to the other, it is a
+/// copy of that one, which shares all; else it shares the fields and cases that only one of them has.
+///
+/// # Errors
+///
+/// Want of memory.
 #[cycle(join)]
-fn join_part(alloc: Global, first: &Kind, second: &Kind) -> Result<Kind, AllocError>
+pub fn join(alloc: Global, first: &Kind, second: &Kind) -> Result<Kind, AllocError>
     ensures { IfOk result (λ k. kind_view k
         ≡ join_of (kind_view first.now) (kind_view second.now)) }
 {
     if !is_asked(first) {
-        join(alloc, first, second)
+        join_parts(alloc, first, second)
     } else if adds_nothing(first, second, false) {
         first.clone()
     } else if adds_nothing(second, first, true) {
         second.clone()
     } else {
-        join(alloc, first, second)
+        join_parts(alloc, first, second)
     }
 }
 
@@ -267,12 +267,12 @@ fn join_after(
     ensures last { IsMet last.old → OnOk result (IsMet last.new) }
 {
     if weight(first).is_within(0) {
-        return join_part(alloc, first, second);
+        return join(alloc, first, second);
     }
     if let Some(kind) = met_again(last, first, second)? {
         return Ok(kind);
     }
-    let kind = join_part(alloc, first, second)?;
+    let kind = join(alloc, first, second)?;
     *last = Some(met_of(first, second, &kind)?);
     Ok(kind)
 }

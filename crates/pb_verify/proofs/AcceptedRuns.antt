@@ -1,35 +1,45 @@
 -- A run of what was accepted is never stuck, and stays within the budget.
-use Rattle.std.proofs.Common.{◌≡◌, ◌≤◌, ℕ, List, true, false}
+use Rattle.std.proofs.Common.{◌≡◌, ◌≤◌, ℕ, List, [], ◌∷◌, map, true, false, not, ◌&&◌, refl, ap, ◌∙◌}
+use Rattle.pb_semantics.specs.Keeps.{is_among}
+use Rattle.pb_language.specs.Expression.{Name}
 use Rattle.pb_language.specs.Judged.{judged}
 use Rattle.pb_language.specs.Machine.{Event}
 use Rattle.pb_language.specs.Theorem.{host_names, are_distinct}
 use Rattle.pb_language.specs.Verdict.{accepted}
+use Rattle.pb_language.specs.World.{HostVariables}
 use Rattle.pb_language.proofs.After.{after_claim}
 use Rattle.pb_language.proofs.Given.{give_claim}
 use Rattle.pb_language.proofs.Sound.{never_stuck_from, within_budget_from}
 use Rattle.pb_language.proofs.Started.{start_claim}
 use Rattle.pb_sig.specs.Modules.{modules_of}
 use Rattle.pb_inventory.specs.Inventory.{inventory_view}
-use Rattle.pb_plain.specs.Books.{book_of}
-use Rattle.pb_verify.specs.Built.{is_lone}
+use Rattle.pb_inventory.specs.Numbered.{are_apart}
+use Rattle.pb_inventory.specs.declared.inventory.Inventory.{Inventory}
+use Rattle.pb_book.specs.Books.{book_view}
+use Rattle.pb_hosts.proofs.Places.{apart_hosts}
 use Rattle.pb_verify.specs.Judges.{is_accepted, run_of_accepted}
 use Rattle.pb_verify.specs.declared.checked.Accepted.{Accepted}
-use Rattle.pb_verify.proofs.Lone.{Alone-lone}
-use Rattle.pb_verify.proofs.Verdicts.{accepts-accepted, are_distinct-lone}
+use Rattle.pb_verify.proofs.Verdicts.{accepts-accepted}
 
-module _ (a : Accepted) (lone : is_lone (inventory_view a.inventory) ≡ true) where
-  pub are_distinct-hosts : are_distinct (host_names (inventory_view a.inventory).hosts) ≡ true
-  are_distinct-hosts =
-      let host = Alone-lone (inventory_view a.inventory) lone in
-      are_distinct-lone host.host.name (inventory_view a.inventory) host.stands
+listed_names : (xs : List HostVariables) → host_names xs ≡ map (λ h. h.name) xs
+listed_names [] = refl
+listed_names (x ∷ xs) = ap (λ ns. x.name ∷ ns) (listed_names xs)
 
-  module _ (h : is_accepted a ≡ true) where
-    pub judged-accepted : judged (modules_of a.registry) (inventory_view a.inventory) (book_of a.book) ≡ accepted a.budget
-    judged-accepted = accepts-accepted a.budget (judged (modules_of a.registry) (inventory_view a.inventory) (book_of a.book)) h
+distinct_apart : (ns : List Name) → are_distinct ns ≡ are_apart ns
+distinct_apart [] = refl
+distinct_apart (n ∷ ns) = ap (λ b. not (is_among n ns) && b) (distinct_apart ns)
 
-    module _ (forks : ℕ) (es : List Event) where
-      pub is_stuck-accepted : (run_of_accepted a forks es).is_stuck ≡ false
-      is_stuck-accepted = never_stuck_from after_claim start_claim give_claim (modules_of a.registry) (inventory_view a.inventory) (book_of a.book) a.budget forks es are_distinct-hosts judged-accepted
+-- no host stands twice in an inventory
+pub distinct_hosts : (i : Inventory) → are_distinct (host_names (inventory_view i).hosts) ≡ true
+distinct_hosts i = ap are_distinct (listed_names (inventory_view i).hosts) ∙ distinct_apart (map (λ h. h.name) (inventory_view i).hosts) ∙ apart_hosts i
 
-      pub handed-accepted : (run_of_accepted a forks es).handed ≤ a.budget
-      handed-accepted = within_budget_from after_claim start_claim give_claim (modules_of a.registry) (inventory_view a.inventory) (book_of a.book) a.budget forks es are_distinct-hosts judged-accepted
+module _ (a : Accepted) (h : is_accepted a ≡ true) where
+  judged-accepted : judged (modules_of a.registry) (inventory_view a.inventory) (book_view a.book) ≡ accepted a.budget
+  judged-accepted = accepts-accepted a.budget (judged (modules_of a.registry) (inventory_view a.inventory) (book_view a.book)) h
+
+  module _ (forks : ℕ) (es : List Event) where
+    pub is_stuck-accepted : (run_of_accepted a forks es).is_stuck ≡ false
+    is_stuck-accepted = never_stuck_from after_claim start_claim give_claim (modules_of a.registry) (inventory_view a.inventory) (book_view a.book) a.budget forks es (distinct_hosts a.inventory) judged-accepted
+
+    pub handed-accepted : (run_of_accepted a forks es).handed ≤ a.budget
+    handed-accepted = within_budget_from after_claim start_claim give_claim (modules_of a.registry) (inventory_view a.inventory) (book_view a.book) a.budget forks es (distinct_hosts a.inventory) judged-accepted

@@ -1,51 +1,50 @@
--- What was written on the host's way is what the table says.
-use Rattle.std.proofs.Common.{◌≡◌, ◌<◌, arith, ℕ, zero, suc, List, [], ◌∷◌, length, true, Option, Some, option_map, slice_get, refl, sym, ap, subst, true≢false}
-use Rattle.pb_semantics.specs.Below.{below}
-use Rattle.pb_semantics.specs.Kind.{Slots, Spot, nowhere, spot, slot_at, no_slots, is_there}
-use Rattle.pb_semantics.proofs.Bools.{and-left}
-use Rattle.pb_language.specs.Book.{Registry}
+-- What is kept of hosts' variables is what the verdict's table says of them.
+use Rattle.std.proofs.Common.{◌≡◌, ◌<◌, ℕ, Some, BTreeMap, String, Global, length, get_or, refl, sym, ap, subst, ◌∙◌, arith, true≢false}
+use Rattle.std.proofs.lemmas.List.{length-map}
+use Rattle.pb_semantics.specs.Kind.{Spot, nowhere, spot, slot_at}
 use Rattle.pb_language.specs.Expression.{Name}
-use Rattle.pb_language.specs.Program.{Inventory}
-use Rattle.pb_language.specs.Scope.{spot_kind, view_of}
-use Rattle.pb_language.specs.World.{HostVariables}
-use Rattle.pb_language.specs.plain.Books.{lone_host, are_plain_tasks}
-use Rattle.pb_language.specs.plain.Flow.{plain_writes}
-use Rattle.pb_language.specs.plain.Tables.{Joins}
-use Rattle.pb_language.proofs.PlainTables.{alike, play_joined}
+use Rattle.pb_language.specs.Ordered.{SpotLe}
+use Rattle.pb_language.specs.Scope.{view_of}
+use Rattle.pb_value.specs.KindView.{is_always, kind_view, slots_view}
+use Rattle.pb_value.specs.declared.kind.Kind.{Kind}
+use Rattle.pb_value.specs.declared.kind.Slot.{Slot}
 use Rattle.pb_inventory.specs.Inventory.{inventory_view}
-use Rattle.pb_plain.specs.Meaning.{are_plain_plays, plain_tasks}
-use Rattle.pb_plain.specs.Books.{plain_plays}
-use Rattle.pb_plain.specs.declared.book.Play.{Play}
-use Rattle.pb_value.specs.KindView.{slots_view}
-use Rattle.pb_verify.specs.Built.{is_lone}
-use Rattle.pb_verify.specs.Known.{table_for, table_of, AreAlike, HasTable, IsTable, known_spot, view_at}
+use Rattle.pb_inventory.specs.Numbered.{name_of}
+use Rattle.pb_hosts.specs.Tables.{host_names, views_with}
+use Rattle.pb_hosts.proofs.Places.{apart_hosts, host_there, view_read}
+use Rattle.pb_verify.specs.Known.{HasTable, IsKnownAs, known_spot, table_of, view_at}
 use Rattle.pb_verify.specs.declared.checked.Accepted.{Accepted}
-use Rattle.pb_verify.proofs.Lone.{Alone-lone}
 
-are_alike : (s t : Spot) → (is_there s ≡ is_there t) × (below (spot_kind s) (spot_kind t) ≡ true) × (below (spot_kind t) (spot_kind s) ≡ true) → AreAlike s t
-are_alike nowhere nowhere x = refl
-are_alike nowhere (spot b m) x = absurd (true≢false (sym x.0))
-are_alike (spot a k) nowhere x = absurd (true≢false x.0)
-are_alike (spot a k) (spot b m) x = (tt, x.1, x.2)
+-- a slot that was found, beside what is below it and above it
+found_there : (k : Slot Kind) (t : Spot) → SpotLe (spot (is_always k.presence) (kind_view k.kind)) t → SpotLe t (spot (is_always k.presence) (kind_view k.kind)) → IsKnownAs (Some k.kind) t
+found_there k nowhere low high = absurd (true≢false (sym low))
+found_there k (spot b m) low high = (tt, low.1, high.1)
 
-pub IsTable-play : (ms : Registry) (inventory : Inventory) (p : Play) (ss : Slots) → are_plain_plays (p ∷ []) ≡ true → ((h : Name) → inventory ≡ lone_host h → Joins (plain_writes ms h 0 no_slots (plain_tasks p.tasks.items)) ss)
-    → IsTable ms inventory (plain_plays (p ∷ [])) ss
-IsTable-play ms inventory p ss q f = record {
-  at = λ h e n.
-      let ts = plain_tasks p.tasks.items in
-      let joins = play_joined ms h p.line ts (and-left (are_plain_tasks ts) true q) in
-      let t = slot_at n (view_of h (table_for ms (lone_host h) (plain_plays (p ∷ [])))) in
-      let here : AreAlike (slot_at n ss) t = are_alike (slot_at n ss) t (alike n (plain_writes ms h 0 no_slots ts) (slot_at n ss) t ((f h e).at n) (joins.at n)) in
-      subst (λ (i : Inventory). AreAlike (slot_at n ss) (slot_at n (view_of h (table_for ms i (plain_plays (p ∷ [])))))) (sym e) here;
-}
+none_there : (t : Spot) → SpotLe nowhere t → SpotLe t nowhere → t ≡ nowhere
+none_there nowhere low high = refl
+none_there (spot b m) low high = absurd (true≢false (sym high))
 
-first_host : (hs : List HostVariables) (h : HostVariables) (i : ℕ) → hs ≡ h ∷ [] → i < length hs → option_map (λ (x : HostVariables). x.name) (slice_get hs i) ≡ Some h.name
-first_host hs h zero e l = rw e refl
-first_host hs h (suc i) e l = absurd (omega (ap length e, l, arith))
+module _ (a : Accepted) (table : HasTable a) (p : ℕ) (n : Name) (m : BTreeMap (String Global) (Slot Kind)) (lt : p < length (inventory_view a.inventory).hosts) (at : m ≡ get_or a.views.items p m) where
+  abbrev name_at : Name
+  name_at = name_of (host_names (inventory_view a.inventory)) p
 
-module _ (a : Accepted) (lone : is_lone (inventory_view a.inventory) ≡ true) (table : HasTable a) (i : ℕ) (n : Name) (l : i < length (inventory_view a.inventory).hosts) where
-  pub slot_at-known : AreAlike (slot_at n (slots_view a.known.entries)) (known_spot a i n)
-  slot_at-known =
-      let host = Alone-lone (inventory_view a.inventory) lone in
-      subst (λ (o : Option Name). AreAlike (slot_at n (slots_view a.known.entries)) (slot_at n (view_at o (table_of a)))) (sym (first_host (inventory_view a.inventory).hosts host.host i host.hosts l))
-      (table.at host.host.name host.stands n)
+  -- what the table says there, by the name of the host
+  known_by_name : known_spot a p n ≡ slot_at n (view_of name_at (table_of a))
+  known_by_name = ap (λ o. slot_at n (view_at o (table_of a))) (host_there (λ h. h) (inventory_view a.inventory).hosts p lt)
+
+  kept_by_name : slots_view m.entries ≡ view_of name_at (views_with a.inventory a.views.items)
+  kept_by_name =
+      let size = length-map (inventory_view a.inventory).hosts (λ h. h.name) in
+      view_read (host_names (inventory_view a.inventory)) a.views.items p name_at m (apart_hosts a.inventory) (table.each ∙ sym size) (omega (arith, size, lt)) refl at
+
+  pub known_below : SpotLe (slot_at n (slots_view m.entries)) (known_spot a p n)
+  known_below = rw (kept_by_name, known_by_name) ((table.views.slots name_at).0.at n)
+
+  pub known_above : SpotLe (known_spot a p n) (slot_at n (slots_view m.entries))
+  known_above = rw (kept_by_name, known_by_name) ((table.views.slots name_at).1.at n)
+
+pub known_found : (k : Slot Kind) (s t : Spot) → spot (is_always k.presence) (kind_view k.kind) ≡ s → SpotLe s t → SpotLe t s → IsKnownAs (Some k.kind) t
+known_found k s t f low high = found_there k t (subst (λ x. SpotLe x t) (sym f) low) (subst (λ x. SpotLe t x) (sym f) high)
+
+pub known_nowhere : (s t : Spot) → nowhere ≡ s → SpotLe s t → SpotLe t s → t ≡ nowhere
+known_nowhere s t f low high = none_there t (subst (λ x. SpotLe x t) (sym f) low) (subst (λ x. SpotLe t x) (sym f) high)

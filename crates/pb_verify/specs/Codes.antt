@@ -4,8 +4,9 @@ use Rattle.pb_verify.specs.declared.refusal.Code.{Code}
 use Rattle.pb_verify.specs.declared.refusal.Code.TheVariants.{N00, S01, S02, S03, S04, S05, P01}
 use Rattle.pb_verify.specs.declared.refusal.Code.TheVariants.{P02, P03, P04, P05, P06, P07, P08}
 use Rattle.pb_verify.specs.declared.refusal.Code.TheVariants.{P09, I01, I02, I03, I04, I05, A01}
-use Rattle.pb_verify.specs.declared.refusal.Code.TheVariants.{A02, A03, V01, V02, V03, V04, V06}
-use Rattle.pb_verify.specs.declared.refusal.Code.TheVariants.{V07, V08}
+use Rattle.pb_verify.specs.declared.refusal.Code.TheVariants.{A02, A03, V01, V02, V03, V04, V05}
+use Rattle.pb_verify.specs.declared.refusal.Code.TheVariants.{V06, V07, V08, V09, V10, V11, V12}
+use Rattle.pb_verify.specs.declared.refusal.Code.TheVariants.{V13}
 
 abbrev pub code_text : Code → List ℕ
 code_text N00 = codes "N00"
@@ -35,6 +36,12 @@ code_text V01 = codes "V01"
 code_text V02 = codes "V02"
 code_text V03 = codes "V03"
 code_text V04 = codes "V04"
+code_text V05 = codes "V05"
 code_text V06 = codes "V06"
 code_text V07 = codes "V07"
 code_text V08 = codes "V08"
+code_text V09 = codes "V09"
+code_text V10 = codes "V10"
+code_text V11 = codes "V11"
+code_text V12 = codes "V12"
+code_text V13 = codes "V13"

@@ -1,6 +1,8 @@
--- What the verdict's table of kinds says of the host's variables.
-use Rattle.std.specs.Prelude.{◌≡◌, ℕ, List, true, Option, None, Some, option_map, slice_get}
-use denote.Ref.{Bor}
+-- What the verdict's table of kinds says of hosts' variables.
+use Rattle.std.specs.Prelude.{◌≡◌, ℕ, List, true, Option, None, Some, length, option_map, slice_get}
+use Rattle.std.specs.Prelude.{String}
+use Rattle.std.specs.BTreeMap.{BTreeMap}
+use Rattle.std.specs.declared.alloc.Global.{Global}
 use Rattle.pb_semantics.specs.Below.{below}
 use Rattle.pb_semantics.specs.Kind.{Slots, Spot, nowhere, spot, slot_at, no_slots}
 use Rattle.pb_language.specs.Book.{Book, Registry}
@@ -10,12 +12,15 @@ use Rattle.pb_language.specs.Program.{Inventory}
 use Rattle.pb_language.specs.Scope.{View, spot_kind, view_of}
 use Rattle.pb_language.specs.Tables.{views_after}
 use Rattle.pb_language.specs.Verdict.{found_laters}
-use Rattle.pb_language.specs.plain.Books.{lone_host}
-use Rattle.pb_value.specs.KindView.{kind_view, slots_view}
+use Rattle.pb_value.specs.KindView.{kind_view}
 use Rattle.pb_value.specs.declared.kind.Kind.{Kind}
+use Rattle.pb_value.specs.declared.kind.Slot.{Slot}
 use Rattle.pb_sig.specs.Modules.{modules_of}
 use Rattle.pb_inventory.specs.Inventory.{inventory_view}
-use Rattle.pb_plain.specs.Books.{book_of}
+use Rattle.pb_inventory.specs.declared.inventory.Inventory as inventory
+use Rattle.pb_book.specs.Books.{book_view}
+use Rattle.pb_walks.specs.Agree.{ViewsAgree}
+use Rattle.pb_hosts.specs.Tables.{views_with}
 use Rattle.pb_verify.specs.declared.checked.Accepted.{Accepted}
 
 -- the fourth table
@@ -24,7 +29,16 @@ table_for ms inventory b = views_after 4 inventory (program_of ms inventory b)
     (found_laters (program_of ms inventory b) inventory)
 
 abbrev pub table_of : Accepted → List View
-table_of a = table_for (modules_of a.registry) (inventory_view a.inventory) (book_of a.book)
+table_of a = table_for (modules_of a.registry) (inventory_view a.inventory) (book_view a.book)
+
+-- of each host's variables the slots say what the fourth table says
+pub record IsTable (ms : Registry) (i : inventory.Inventory) (b : Book)
+    (hosts : List (BTreeMap (String Global) (Slot Kind))) : Type 0 where
+  pub each : length hosts ≡ length (inventory_view i).hosts
+  pub views : ViewsAgree (views_with i hosts) (table_for ms (inventory_view i) b)
+
+abbrev pub HasTable : Accepted → Type 0
+HasTable a = IsTable (modules_of a.registry) a.inventory (book_view a.book) a.views.items
 
 abbrev pub IsThere : Spot → Type 0
 IsThere (spot a k) = Unit {0}
@@ -32,10 +46,10 @@ IsThere nowhere = ⊥
 
 -- a name without a kind isn't in the table; else the kinds are below each other, so the same values
 -- have them
-abbrev pub IsKnownAs : Option (Bor Kind) → Spot → Type 0
+abbrev pub IsKnownAs : Option Kind → Spot → Type 0
 IsKnownAs None s = s ≡ nowhere
-IsKnownAs (Some k) s = IsThere s × (below (kind_view k.now) (spot_kind s) ≡ true)
-    × (below (spot_kind s) (kind_view k.now) ≡ true)
+IsKnownAs (Some k) s = IsThere s × (below (kind_view k) (spot_kind s) ≡ true)
+    × (below (spot_kind s) (kind_view k) ≡ true)
 
 -- the slots of a host by its name, where it has one
 abbrev pub view_at : Option Name → List View → Slots
@@ -47,17 +61,3 @@ abbrev pub known_spot : Accepted → ℕ → Name → Spot
 known_spot a i n = slot_at n
     (view_at (option_map (λ h. h.name) (slice_get (inventory_view a.inventory).hosts i))
     (table_of a))
-
--- there alike, with kinds that are below each other
-abbrev pub AreAlike : Spot → Spot → Type 0
-AreAlike nowhere t = t ≡ nowhere
-AreAlike (spot a k) t = IsThere t × (below k (spot_kind t) ≡ true) × (below (spot_kind t) k ≡ true)
-
--- of each name the slots say what the table of the one host says
-pub record IsTable (ms : Registry) (inventory : Inventory) (b : Book) (ss : Slots) : Type 0 where
-  pub at : (h : Name) → inventory ≡ lone_host h → (p : Name)
-      → AreAlike (slot_at p ss) (slot_at p (view_of h (table_for ms inventory b)))
-
-abbrev pub HasTable : Accepted → Type 0
-HasTable a = IsTable (modules_of a.registry) (inventory_view a.inventory) (book_of a.book)
-    (slots_view a.known.entries)

@@ -1,11 +1,6 @@
 pub mod Codes
 pub mod Meaning
-pub mod Built
-pub mod Way
-pub mod Avoids
-pub mod Environments
-pub mod ResultTables
-pub mod Faults
 pub mod Judges
 pub mod Known
+pub mod Scenes
 pub mod Words

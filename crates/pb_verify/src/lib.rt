@@ -8,16 +8,11 @@
 //     }
 #![tactic(auto)]
 
-mod budget;
-mod built;
 pub mod checked;
-mod environment;
-mod reads;
+mod names;
 pub mod refusal;
-mod results;
-mod rules;
+mod scenes;
 pub mod verify;
-mod walk;
 
 pub use checked::Checked;
 pub use refusal::{Code, Refusal};

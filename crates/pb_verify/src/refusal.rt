@@ -59,12 +59,24 @@ pub enum Code {
     V03,
     /// A value of the wrong kind, or an opaque value that is read.
     V04,
+    /// A text that notifies no handler of the play.
+    V05,
     /// A host or a group that isn't there.
     V06,
     /// An unknown, missing or malformed parameter.
     V07,
     /// A name clash or a reserved name.
     V08,
+    /// What becomes of a result reads other hosts' variables or the batch.
+    V09,
+    /// A chain of names of `vars` that is too long or has a cycle.
+    V10,
+    /// Kinds that four rounds don't settle.
+    V11,
+    /// A handler that notifies itself or an earlier one.
+    V12,
+    /// More steps than plays may have.
+    V13,
 }
 
 impl Code {
@@ -100,9 +112,15 @@ impl Code {
             Code::V02 => "V02",
             Code::V03 => "V03",
             Code::V04 => "V04",
+            Code::V05 => "V05",
             Code::V06 => "V06",
             Code::V07 => "V07",
             Code::V08 => "V08",
+            Code::V09 => "V09",
+            Code::V10 => "V10",
+            Code::V11 => "V11",
+            Code::V12 => "V12",
+            Code::V13 => "V13",
         }
     }
 }

@@ -1,37 +1,37 @@
 // The verdict on a book.
-ghost use Rattle.std.specs.Prelude.{◌≡◌, Err, IfOk, None, OnErr, option_map, true};
-ghost use Rattle.pb_semantics.specs.Words.{Gives, no_slots};
-ghost use Rattle.pb_language.specs.Words.{Joins, Name, accepted, are_plain_tasks};
-ghost use Rattle.pb_language.specs.Words.{code_of as number_of, judged, lone_host, plain_flow};
-ghost use Rattle.pb_language.specs.Words.{plain_rules, plain_writes};
-ghost use Rattle.pb_value.specs.Words.{slots_view};
-ghost use Rattle.pb_expr.specs.Words.{fault_view};
+ghost use Rattle.std.specs.Prelude.{◌≡◌, IfOk, None, length, map};
+ghost use Rattle.pb_semantics.specs.Words.{Gives};
+ghost use Rattle.pb_language.specs.Plays.{program_of};
+ghost use Rattle.pb_language.specs.Rules.{rules_offence};
+ghost use Rattle.pb_language.specs.Verdict.{flow_verdict};
+ghost use Rattle.pb_language.specs.Words.{accepted, judged};
 ghost use Rattle.pb_sig.specs.Words.{modules_of};
 ghost use Rattle.pb_inventory.specs.Words.{inventory_view};
-ghost use Rattle.pb_play.specs.Words.{AreSound, all_tasks};
-ghost use Rattle.pb_book.specs.Words.{book_view, plays_of as whole_plays};
-ghost use Rattle.pb_plain.specs.Words.{are_known, are_plain_plays, book_of, is_numbered};
-ghost use Rattle.pb_plain.specs.Words.{names_known, plain_plays, plain_tasks, plays_of};
-ghost use Rattle.pb_verify.specs.Built.{built_verdict, is_lone, unbuilt_at};
-ghost use Rattle.pb_verify.specs.Faults.{fault_refusal, not_built_at};
-ghost use Rattle.pb_verify.specs.Judges.{refused_verdict, refuses_without_host, tasks_verdict};
+ghost use Rattle.pb_play.specs.Words.{AreSound, all_tasks, play_view};
+ghost use Rattle.pb_book.specs.Words.{book_view, plays_of};
+ghost use Rattle.pb_hosts.specs.Words.{views_view, views_with};
+ghost use Rattle.pb_rules.specs.Broken.{code_of as rule_code, refusal_of as broken_refusal};
+ghost use Rattle.pb_tables.specs.Words.{host_offence, outcome_verdict};
+ghost use Rattle.pb_verify.specs.Judges.{refused_verdict};
 ghost use Rattle.pb_verify.specs.Known.{IsTable};
-ghost use Rattle.pb_verify.specs.Meaning.{code_number, or_later, refusal_of};
-ghost use Rattle.pb_verify.specs.Way.{Stands};
+ghost use Rattle.pb_verify.specs.Meaning.{code_number, refusal_of};
+ghost use Rattle.pb_expr.specs.Words.{fault_view};
+ghost use Rattle.pb_language.specs.Words.{code_of as number_of};
 
-use crate::budget::calls_in;
-use crate::built::is_lone;
 use crate::checked::{Accepted, Checked};
+use crate::names::names_of;
 use crate::refusal::{Code, Refusal};
-use crate::rules::first_offence;
-use crate::walk::{FaultAt, Followed, follow, opening};
+use crate::scenes::{gathering_tasks, scenes_of};
 use pb_book::Book;
 use pb_expr::Unfit;
 use pb_inventory::Inventory;
-use pb_plain::{PlainBook, PlainFault, Play, Task};
+use pb_play::Play;
+use pb_rules::{Broken, Rule, first_broken};
 use pb_sig::Registry;
+use pb_tables::{HostFault, Outcome, outcome_of};
 use pb_value::Slots;
-use std::alloc::{AllocError, AllocFailed, Global};
+use pb_walks::handlers_are_named;
+use std::alloc::{AllocError, Global};
 
 // The line of a refusal that stands at none.
 const NO_LINE: u32 = 0;
@@ -54,251 +54,157 @@ impl From<AllocError> for VerifyFault {
     }
 }
 
-impl<T: Drop> From<AllocFailed<T>> for VerifyFault {
-    ghost use Rattle.std.specs.Prelude.{◌≡◌};
-    ghost use Rattle.pb_verify.specs.declared.verify.VerifyFault.TheVariants.{NoMemory};
-
-    ghost from_gives = { λ _ e. e ≡ NoMemory };
-
-    fn from(_: AllocFailed<T>) -> VerifyFault {
-        VerifyFault::NoMemory
-    }
-}
-
-impl From<PlainFault> for VerifyFault {
-    ghost use Rattle.std.specs.Prelude.{◌≡◌};
-    ghost use Rattle.pb_verify.specs.Faults.{from_plain};
-
-    ghost from_gives = { λ e f. f ≡ from_plain e };
-
-    fn from(fault: PlainFault) -> VerifyFault {
-        match fault {
-            PlainFault::NotBuilt(line) => not_built(line),
-            PlainFault::NoMemory => VerifyFault::NoMemory,
-        }
-    }
-}
-
-// The refusal of a form that isn't built yet.
-fn not_built(line: u32) -> VerifyFault
-    ensures { result ≡ not_built_at line }
-{
-    VerifyFault::Refused(Refusal {
-        code: Code::N00,
-        line,
-        host: None,
-    })
-}
-
 /// Judges a book for an inventory: accepted with its budget of module calls, or the first refusal
-/// in this order: an inventory that isn't built yet, the least line of a form that isn't, the rules
-/// that follow no host (parameters, then names, by line), then the texts that may meet an undefined
-/// variable, a missing field or a value of the wrong kind, by line and then by host. What isn't
-/// built yet is refused without memory. Each module that the book names is in the registry.
+/// in this order: the rules that follow no host, by line; then the texts that may meet an undefined
+/// variable, a missing field or a value of the wrong kind, by line, then by host, then by code;
+/// then kinds that four rounds don't settle. Each module that the book names is in the registry.
+///
+/// # Errors
+///
+/// `Refused`, and `NoMemory` for want of memory.
 pub fn verify(
     alloc: Global,
     book: Book,
     inventory: Inventory,
     registry: Registry,
 ) -> Result<Checked, VerifyFault>
-    requires { AreSound (modules_of registry) (all_tasks (whole_plays book)) }
-    ensures handed { IfOk result (λ c. (book_of c.book ≡ book_view book)
-        × (c.inventory ≡ inventory) × (c.registry ≡ registry)) }
-    ensures verdict { Gives (λ c. accepted c.budget) refused_verdict result
-        (built_verdict (modules_of registry) (inventory_view inventory) (book_view book)) }
-    ensures apart { result ≡ Err VerifyFault.NoMemory
-        → unbuilt_at (inventory_view inventory) (book_view book) ≡ None }
-{
-    if !is_lone(&inventory) {
-        return Err(not_built(NO_LINE));
-    }
-    let plain = PlainBook::of(alloc, book)?;
-    verify_plain(alloc, plain, inventory, registry)
-}
-
-// Judges a plain book for one host. A refusal that names no host takes no memory.
-fn verify_plain(
-    alloc: Global,
-    book: PlainBook,
-    inventory: Inventory,
-    registry: Registry,
-) -> Result<Checked, VerifyFault>
-    requires known { names_known (modules_of registry) (plays_of book) ≡ true }
-    requires lone { is_lone (inventory_view inventory) ≡ true }
+    requires { AreSound (modules_of registry) (all_tasks (plays_of book)) }
     ensures handed { IfOk result
         (λ c. (c.book ≡ book) × (c.inventory ≡ inventory) × (c.registry ≡ registry)) }
     ensures verdict { Gives (λ c. accepted c.budget) refused_verdict result
-        (judged (modules_of registry) (inventory_view inventory) (book_of book)) }
-    ensures apart { refuses_without_host
-        (judged (modules_of registry) (inventory_view inventory) (book_of book)) ≡ true
-        → result ≡ Err VerifyFault.NoMemory → ⊥ }
+        (judged (modules_of registry) (inventory_view inventory) (book_view book)) }
 {
-    let Findings { budget, known } = judge(alloc, book.plays(), &inventory, &registry)?;
-    let accepted = Accepted {
+    let Findings { budget, views } = judge(alloc, book.plays(), &inventory, &registry)?;
+    Ok(Checked::of(Accepted {
         book,
         inventory,
         registry,
         budget,
-        known,
-    };
-    Ok(Checked::of(alloc, accepted)?)
+        views,
+    }))
 }
 
 /// What is found of plays that are accepted.
 #[derive(Drop)]
 pub struct Findings {
     budget: u64,
-    known: Slots,
+    /// What is known of each host's variables to others.
+    views: Vec<Slots>,
 }
 
-impl Findings {
-    // Of no play.
-    fn none(alloc: Global) -> Findings
-        ensures budget { result.budget ≡ 0 }
-        ensures known { slots_view result.known.entries ≡ no_slots }
-    {
-        Findings {
-            budget: 0,
-            known: Slots::new(alloc),
-        }
-    }
-}
-
-// The budget of the plays, of which there is one at most, and what they write.
+// The budget of the plays, and what hosts' variables look like to others.
 fn judge(
     alloc: Global,
     plays: &[Play],
     inventory: &Inventory,
     registry: &Registry,
 ) -> Result<Findings, VerifyFault>
-    requires numbered { is_numbered plays.now ≡ true }
-    requires plain { are_plain_plays plays.now ≡ true }
-    requires known { names_known (modules_of registry.now) plays.now ≡ true }
-    requires lone { is_lone (inventory_view inventory.now) ≡ true }
+    requires { AreSound (modules_of registry.now) (all_tasks plays.now) }
     ensures verdict { Gives (λ f. accepted f.budget) refused_verdict result
-        (judged (modules_of registry.now) (inventory_view inventory.now) (plain_plays plays.now)) }
-    ensures known { IfOk result
-        (λ f. IsTable (modules_of registry.now) (inventory_view inventory.now)
-        (plain_plays plays.now) (slots_view f.known.entries)) }
-    ensures apart { refuses_without_host
-        (judged (modules_of registry.now) (inventory_view inventory.now) (plain_plays plays.now))
-        ≡ true
-        → result ≡ Err VerifyFault.NoMemory → ⊥ }
+        (judged (modules_of registry.now) (inventory_view inventory.now)
+        (map play_view plays.now)) }
+    ensures table { IfOk result (λ f. IsTable (modules_of registry.now) inventory.now
+        (map play_view plays.now) f.views.items) }
 {
-    match plays {
-        [play] => judge_tasks(alloc, play.tasks.as_slice(), inventory, registry),
-        _ => Ok(Findings::none(alloc)),
+    match first_broken(alloc, registry, inventory, plays)? {
+        Some(broken) => Err(VerifyFault::Refused(of_broken(broken))),
+        None => judge_ways(alloc, plays, inventory, registry),
     }
 }
 
-// The budget of the tasks of a play on the one host that there is, and what they write.
-fn judge_tasks(
+// The refusal of a broken rule.
+fn of_broken(broken: Broken) -> Refusal
+    ensures { refusal_of result ≡ broken_refusal broken }
+{
+    Refusal {
+        code: code_of(broken.rule),
+        line: broken.line,
+        host: None,
+    }
+}
+
+fn code_of(rule: Rule) -> Code
+    ensures { code_number result ≡ rule_code rule }
+{
+    match rule {
+        Rule::Steps => Code::V13,
+        Rule::Parameters => Code::V07,
+        Rule::Names => Code::V08,
+        Rule::Chains => Code::V10,
+        Rule::Known => Code::V06,
+        Rule::Notified => Code::V05,
+        Rule::Order => Code::V12,
+        Rule::Own => Code::V09,
+    }
+}
+
+// What is found on the ways of all hosts, where the rules that follow no host are kept.
+fn judge_ways(
     alloc: Global,
-    tasks: &[Task],
+    plays: &[Play],
     inventory: &Inventory,
     registry: &Registry,
 ) -> Result<Findings, VerifyFault>
-    requires known { are_known (modules_of registry.now) tasks.now ≡ true }
-    requires plain { are_plain_tasks (plain_tasks tasks.now) ≡ true }
-    requires lone { is_lone (inventory_view inventory.now) ≡ true }
-    ensures verdict { (h : Name) → inventory_view inventory.now ≡ lone_host h
-        → Gives (λ f. accepted f.budget) refused_verdict result
-        (tasks_verdict (modules_of registry.now) h (plain_tasks tasks.now)) }
-    ensures known { IfOk result
-        (λ f. (h : Name) → inventory_view inventory.now ≡ lone_host h
-        → Joins (plain_writes (modules_of registry.now) h 0 no_slots (plain_tasks tasks.now))
-        (slots_view f.known.entries)) }
-    ensures apart { result ≡ Err VerifyFault.NoMemory
-        → plain_rules (modules_of registry.now) (plain_tasks tasks.now) ≡ None }
+    requires sound { AreSound (modules_of registry.now) (all_tasks plays.now) }
+    requires ruled { rules_offence (modules_of registry.now) (inventory_view inventory.now)
+        (map play_view plays.now) ≡ None }
+    ensures verdict { Gives (λ f. accepted f.budget) refused_verdict result
+        (flow_verdict (program_of (modules_of registry.now) (inventory_view inventory.now)
+        (map play_view plays.now)) (inventory_view inventory.now)) }
+    ensures table { IfOk result (λ f. IsTable (modules_of registry.now) inventory.now
+        (map play_view plays.now) f.views.items) }
 {
-    let Way { refusal, known } = first_refusal(alloc, tasks, inventory, registry)?;
-    if let Some(refusal) = refusal {
-        return Err(VerifyFault::Refused(refusal));
+    handlers_are_named();
+    let gathering = gathering_tasks(alloc, registry, plays)?;
+    let scenes = scenes_of(alloc, inventory, plays, gathering.as_slice())?;
+    let names = names_of(alloc, inventory, plays)?;
+    told(outcome_of(alloc, inventory, scenes.as_slice(), names)?)
+}
+
+// The refusal that the ways of all hosts come to, or what is found on them.
+fn told(outcome: Outcome<'_>) -> Result<Findings, VerifyFault>
+    ensures verdict { Gives (λ f. accepted f.budget) refused_verdict result
+        (outcome_verdict outcome.entry) }
+    ensures each { IfOk result (λ f. length f.views.items
+        ≡ length (inventory_view outcome.entry.views.inventory.now).hosts) }
+    ensures views { IfOk result (λ f.
+        views_with outcome.entry.views.inventory.now f.views.items
+        ≡ views_view outcome.entry.views) }
+{
+    let Outcome {
+        fault,
+        is_settled,
+        calls,
+        views,
+    } = outcome;
+    if let Some(found) = fault {
+        return Err(VerifyFault::Refused(of_fault(found)));
     }
-    let budget = calls_in(tasks);
-    Ok(Findings { budget, known })
-}
-
-/// The first refusal of tasks, or none, and what they write up to there.
-#[derive(Drop)]
-pub struct Way {
-    refusal: Option<Refusal>,
-    known: Slots,
-}
-
-// The first refusal of the tasks, by the rules that follow no host and then on the way of the one
-// host that there is.
-fn first_refusal(
-    alloc: Global,
-    tasks: &[Task],
-    inventory: &Inventory,
-    registry: &Registry,
-) -> Result<Way, AllocError>
-    requires known { are_known (modules_of registry.now) tasks.now ≡ true }
-    requires plain { are_plain_tasks (plain_tasks tasks.now) ≡ true }
-    requires lone { is_lone (inventory_view inventory.now) ≡ true }
-    ensures refusal { IfOk result
-        (λ w. (h : Name) → inventory_view inventory.now ≡ lone_host h
-        → option_map refusal_of w.refusal
-        ≡ or_later (plain_rules (modules_of registry.now) (plain_tasks tasks.now))
-        (plain_flow (modules_of registry.now) h 0 no_slots (plain_tasks tasks.now))) }
-    ensures known { IfOk result
-        (λ w. (h : Name) → inventory_view inventory.now ≡ lone_host h
-        → w.refusal ≡ None
-        → Joins (plain_writes (modules_of registry.now) h 0 no_slots (plain_tasks tasks.now))
-        (slots_view w.known.entries)) }
-    ensures apart { OnErr result
-        (plain_rules (modules_of registry.now) (plain_tasks tasks.now) ≡ None) }
-{
-    if let Some(refusal) = first_offence(tasks, registry) {
-        return Ok(Way {
-            refusal: Some(refusal),
-            known: Slots::new(alloc),
-        });
+    if !is_settled {
+        return Err(VerifyFault::Refused(Refusal {
+            code: Code::V11,
+            line: NO_LINE,
+            host: None,
+        }));
     }
-    let name = inventory.host_name(0);
-    let environment = opening(alloc, name, inventory.group_names(0).len())?;
-    way_of(alloc, name, environment, tasks, registry)
-}
-
-// The way of the host of that name through tasks that keep the rules that follow no host.
-fn way_of(
-    alloc: Global,
-    host: &str,
-    opening: Slots,
-    tasks: &[Task],
-    registry: &Registry,
-) -> Result<Way, AllocError>
-    requires known { are_known (modules_of registry.now) tasks.now ≡ true }
-    requires plain { are_plain_tasks (plain_tasks tasks.now) ≡ true }
-    requires ruled { plain_rules (modules_of registry.now) (plain_tasks tasks.now) ≡ None }
-    ensures refusal { IfOk result (λ w. Stands host.now (slots_view opening.entries) no_slots
-        → option_map refusal_of w.refusal
-        ≡ plain_flow (modules_of registry.now) host.now 0 no_slots (plain_tasks tasks.now)) }
-    ensures known { IfOk result
-        (λ w. Stands host.now (slots_view opening.entries) no_slots → w.refusal ≡ None
-        → Joins (plain_writes (modules_of registry.now) host.now 0 no_slots (plain_tasks tasks.now))
-        (slots_view w.known.entries)) }
-{
-    let Followed { fault, known } = follow(alloc, tasks, registry, opening)?;
-    let refusal = match fault {
-        Some(fault) => Some(refusal_at(alloc, fault, host)?),
-        None => None,
-    };
-    Ok(Way { refusal, known })
-}
-
-fn refusal_at(alloc: Global, fault: FaultAt, host: &str) -> Result<Refusal, AllocError>
-    ensures { IfOk result (λ r. refusal_of r ≡ fault_refusal host.now fault) }
-{
-    Ok(Refusal {
-        code: code_of(fault.unfit),
-        line: fault.line,
-        host: Some(String::from_str(alloc, host)?),
+    Ok(Findings {
+        budget: calls,
+        views: views.into_hosts(),
     })
 }
 
-fn code_of(unfit: Unfit) -> Code
+// The refusal of what a host may meet.
+fn of_fault(found: HostFault) -> Refusal
+    ensures { refusal_of result ≡ host_offence found }
+{
+    Refusal {
+        code: fault_code(found.fault.unfit),
+        line: found.fault.line,
+        host: Some(found.host),
+    }
+}
+
+fn fault_code(unfit: Unfit) -> Code
     ensures { code_number result ≡ number_of (fault_view unfit) }
 {
     match unfit {

@@ -23,7 +23,7 @@ returns-in_err-verify-clause-verdict c =
 pub returns-clause-book_read : goal.returns-clause-book_read
 returns-clause-book_read c =
     let kept = c.in_ok-verify.ensures.handed in
-    ap (λ r. book_in (modules_of r) c.args.book.now) kept.2 ∙ c.in_ok-book.ensures.given ∙ ap (λ b. Ok b) (sym kept.0)
+    ap (λ r. book_in (modules_of r) c.args.book.now) kept.2 ∙ c.in_ok-book.ensures.given ∙ ap (λ b. Ok (book_view b)) (sym kept.0)
 
 pub returns-clause-verdict : goal.returns-clause-verdict
 returns-clause-verdict c =

@@ -15,9 +15,9 @@ returns-clause-whole c =
 pub returns-clause-answered : goal.returns-clause-answered
 returns-clause-answered c =
     let file = answers_in c.args.runner.now in
-    let opening : c.in_ok-run.run' ≡ opened c.args.checked.now c.workers_of.result = c.in_ok-run.ensures.opening in
+    let opening : c.in_ok-run.run' ≡ opened c.args.runnable.now c.workers_of.result = c.in_ok-run.ensures.opening in
     let forks : c.workers_of.result ≡ c.drive.new.run.forks = sym (c.drive.ensures.book.1 ∙ ap (λ r. r.forks) opening) in
-    let first : c.in_ok-run.run' ≡ opened c.args.checked.now c.drive.new.run.forks = opening ∙ ap (opened c.args.checked.now) forks in
+    let first : c.in_ok-run.run' ≡ opened c.args.runnable.now c.drive.new.run.forks = opening ∙ ap (opened c.args.runnable.now) forks in
     record {
       first = c.args.runner.now;
       last = c.drive.new.runner;

@@ -1,5 +1,5 @@
 use Rattle.std.proofs.Common.{inr, subst}
-use Rattle.pb_cli.specs.Outcomes.{RunsAnswers}
+use Rattle.pb_cli.specs.Outcomes.{RunsAccepted}
 use Rattle.pb_cli.proofs.outcome.run_of.Goals as goal
 
 pub returns : goal.returns
@@ -8,6 +8,6 @@ returns c =
       c.in_ok-checked.checked,
       (
         c.in_ok-checked.ensures,
-        subst (λ answers. RunsAnswers c.args.forks answers c.in_ok-checked.checked c.scripted_run-run.result) c.as_slice.ensures.value c.scripted_run-run.ensures,
+        subst (λ answers. RunsAccepted c.args.forks answers c.in_ok-checked.checked c.accepted_run.result) c.as_slice.ensures.value c.accepted_run.ensures,
       ),
     )

@@ -8,7 +8,7 @@ use Rattle.pb_strategy.specs.declared.event.Event.TheVariants.{Start, Give}
 use Rattle.pb_strategy.specs.declared.event.Taken.{Taken}
 use Rattle.pb_strategy.specs.declared.event.Taken.TheVariants as taken
 use Rattle.pb_strategy.proofs.Drives.{IsQuiet, is_job-none, IsQuiet-taken}
-use Rattle.pb_strategy.proofs.Histories.{checked-stop, is_over-stopped}
+use Rattle.pb_strategy.proofs.Histories.{runnable-stop, is_over-stopped}
 use Rattle.pb_strategy.proofs.drive.drive.Goals as goal
 
 over_or_out : (r s : RunState) (t : Taken) → ((j : Job) → t ≡ taken.Job j → ⊥) → IsQuiet r s → (t ≡ taken.Finished → is_over s ≡ true) → (t ≡ taken.Stopped → is_stopped r.history ≡ true)
@@ -26,7 +26,7 @@ returns-in_default g c =
     let q = IsQuiet-taken c.loop-turn.run c.take.new.self c.in-Ok.taken none e.taken in record {
       sound = e.sound;
       driven = i.driven c.take.new.self c.loop-turn.runner (ends c.in-Ok.taken none e.taken);
-      book = (q.checked ∙ i.checked, q.forks ∙ i.forks);
+      book = (q.runnable ∙ i.runnable, q.forks ∙ i.forks);
       ends = over_or_out c.loop-turn.run c.take.new.self c.in-Ok.taken c.in_default.not-Job q e.over e.stopped_only e.idle;
       stopped = tt;
       made = omega (arith, i.made, q.handed);
@@ -36,11 +36,11 @@ pub returns-in-Err : goal.returns-in-Err
 returns-in-Err g c =
     let i = c.loop-turn.invariant in
     let e = c.stop-in-Err.ensures in
-    let kept = checked-stop c.take.new.self c.stop-in-Err.new.self e.going e.over in
+    let kept = runnable-stop c.take.new.self c.stop-in-Err.new.self e.going e.over in
     let same : c.take.new.self ≡ c.loop-turn.run = c.in-Err.ensures.err in record {
       sound = e.sound;
       driven = tt;
-      book = (kept.0 ∙ ap (λ r. r.checked) same ∙ i.checked, kept.1 ∙ ap (λ r. r.forks) same ∙ i.forks);
+      book = (kept.0 ∙ ap (λ r. r.runnable) same ∙ i.runnable, kept.1 ∙ ap (λ r. r.forks) same ∙ i.forks);
       ends = tt;
       stopped = is_over-stopped c.take.new.self c.stop-in-Err.new.self e.going e.over;
       made = tt;
@@ -50,12 +50,12 @@ pub returns-in-Err-step : goal.returns-in-Err-step
 returns-in-Err-step g c =
     let i = c.loop-turn.invariant in
     let e = c.stop.ensures in
-    let kept = checked-stop c.step.new.run c.stop.new.self e.going e.over in
+    let kept = runnable-stop c.step.new.run c.stop.new.self e.going e.over in
     let begun = (rw c.in-Job.is at c.in-Ok.ensures.taken).run in
     let book = c.in-Err-step.ensures.book in record {
       sound = e.sound;
       driven = tt;
-      book = (kept.0 ∙ book.0 ∙ ap (λ r. r.checked) begun ∙ i.checked, kept.1 ∙ book.1 ∙ ap (λ r. r.forks) begun ∙ i.forks);
+      book = (kept.0 ∙ book.0 ∙ ap (λ r. r.runnable) begun ∙ i.runnable, kept.1 ∙ book.1 ∙ ap (λ r. r.forks) begun ∙ i.forks);
       ends = tt;
       stopped = is_over-stopped c.step.new.run c.stop.new.self e.going e.over;
       made = tt;
@@ -81,7 +81,7 @@ loop-turn-preserved g c =
     let handed : c.step.new.run.handed ≡ c.take.new.self.handed = ap (λ r. r.handed) given.2 in
     record {
       made = search rules;
-      checked = search rules;
+      runnable = search rules;
       forks = search rules;
       driven = λ new s d. i.driven new s (goes_on done d);
       long = omega (arith, ap length both, length_push more (Give host given.0), length_push es (Start host));

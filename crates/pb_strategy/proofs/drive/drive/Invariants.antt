@@ -6,7 +6,7 @@ use Rattle.pb_strategy.proofs.drive.drive.Given as goal
 abbrev pub invariant-loop-turn : goal.invariant-loop-turn
 invariant-loop-turn g l = record {
   made : g.R.Runner.calls l.runner + l.fn.run.handed ≡ g.R.Runner.calls l.fn.runner + l.run.handed;
-  checked : l.run.checked ≡ l.fn.run.checked;
+  runnable : l.run.runnable ≡ l.fn.run.runnable;
   forks : l.run.forks ≡ l.fn.run.forks;
   driven : (new : _) (s : _) → Drives g.R.Runner.answers l.run l.runner new s → Drives g.R.Runner.answers l.fn.run l.fn.runner new s;
   long : l._turn ≤ length l.run.history;

@@ -7,8 +7,8 @@ use Rattle.pb_sig.specs.ModuleView.{known_view}
 use Rattle.pb_plain.specs.Lines.{is_known}
 use Rattle.pb_template.specs.Entries.{entries_view}
 use Rattle.pb_plain.specs.Meaning.{plain_task}
-use Rattle.pb_verify.proofs.RuleModules.{module_named-found}
-use Rattle.pb_verify.proofs.WalkModules.{is_plain-found}
+use Rattle.pb_strategy.proofs.FoundModules.{module_named-found}
+use Rattle.pb_strategy.proofs.PlainModules.{is_plain-found}
 use Rattle.pb_strategy.proofs.outcome.object_answered.Goals as goal
 
 pub returns-in-Debug : goal.returns-in-Debug

@@ -12,5 +12,5 @@ invariant-loop-host l = record {
   recaps : recaps_of l.hosts.items ≡ replicate l.host nothing;
   tickets : tickets_of l.hosts.items ≡ replicate l.host None;
   handed : handed_of l.hosts.items ≡ 0;
-  opening : (h : HostVariables) → (inventory_view l.checked.inventory).hosts ≡ h ∷ [] → 0 < l.host → (s : HostState) × ((l.hosts.items ≡ s ∷ []) × IsOpening (inventory_view l.checked.inventory).groups h s);
+  opening : (h : HostVariables) → (inventory_view l.runnable.inventory).hosts ≡ h ∷ [] → 0 < l.host → (s : HostState) × ((l.hosts.items ≡ s ∷ []) × IsOpening (inventory_view l.runnable.inventory).groups h s);
 }

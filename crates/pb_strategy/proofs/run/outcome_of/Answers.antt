@@ -6,7 +6,7 @@ use Rattle.pb_strategy.proofs.run.outcome_of.Goals as goal
 pub finish-requires-clause-known : goal.finish-requires-clause-known
 finish-requires-clause-known c =
     let found = c.in-Some.ensures.lookup in
-    is_known-found (modules_of c.args.checked.now.registry) (modules_of c.registry.result.now) c.tasks_of.result.now c.args.state.now.place c.in-Some.task.now (ap modules_of c.registry.ensures) found.0 found.1 c.tasks_of.ensures.known
+    is_known-found (modules_of c.args.runnable.now.registry) (modules_of c.registry.result.now) c.tasks_of.result.now c.args.state.now.place c.in-Some.task.now (ap modules_of c.registry.ensures) found.0 found.1 c.tasks_of.ensures.known
 
 pub returns : goal.returns
 returns c = λ q ticket t stage at.

@@ -8,7 +8,7 @@ use Rattle.pb_strategy.proofs.run.replay.Goals as goal
 
 pub loop-event-preserved : goal.loop-event-preserved
 loop-event-preserved c =
-    let a = c.args.checked.now in
+    let a = c.args.runnable.now in
     let forks = c.args.forks in
     let xs = c.args.events.now in
     let i = c.loop-event.event-index in

@@ -1,4 +1,11 @@
-use Rattle.std.proofs.Common.{refl, ◌∙◌, rules}
+use Rattle.std.proofs.Common.{◌≡◌, true, false, string_bytes, is_some, refl, sym, ap, ◌∙◌, rules}
+use Rattle.pb_semantics.specs.Kind.{no_slots}
+use Rattle.pb_value.specs.Added.{spot_of}
+use Rattle.pb_value.specs.Found.{spot_view}
+use Rattle.pb_value.specs.KindView.{is_always, kind_view, slots_view}
+use Rattle.pb_value.proofs.Adding.{left_next, left_view}
+use Rattle.pb_value.proofs.GrowLemmas.{ascend_slots}
+use Rattle.pb_value.proofs.Merging.{Over, ascend_rest, over_end, over_fails, over_found, over_missing}
 use Rattle.pb_value.specs.declared.kind.Kind.{the_lemmas as kind_lemmas}
 use Rattle.pb_value.proofs.KindLemmas.{kind_view-Any, kind_view-Null, kind_view-Bool, kind_view-Int, kind_view-Text, kind_view-Host}
 use Rattle.pb_value.proofs.Views.{kind_view-Rec, kind_view-Result}
@@ -71,3 +78,49 @@ pub is_above_fields-returns-in-Rec : goal.is_above_fields-returns-in-Rec
 is_above_fields-returns-in-Rec t c =
     let p = c.in-Rec in
     c.is_record_above.ensures ∙ rw (p.is, kind_view-Rec p.few, c.deref-in-Rec.ensures, c.deref.ensures) refl
+
+pub is_record_above-loop-name-init : goal.is_record_above-loop-name-init
+is_record_above-loop-name-init t c =
+    let all = left_next c.iter-others.result c.next-next.result c.next-next.new.self c.next-next.ensures.steps ∙ ap slots_view c.iter-others.ensures.rest in
+    let items : c.into_iter-name-iterator.result ≡ c.args.many.now.entries = c.into_iter-name-iterator.ensures.into_iter_gives ∙ c.iter-name-items.ensures.rest in
+    (rw all (ascend_slots c.args.few.now.entries c.iter-others.ensures.ordered), rw items (ascend_slots c.args.many.now.entries c.iter-name-items.ensures.ordered), rw (all, items) refl)
+
+pub is_record_above-returns-then-not-is_slot_above : goal.is_record_above-returns-then-not-is_slot_above
+is_record_above-returns-then-not-is_slot_above t c =
+    let l = c.loop-name in
+    let slot = c.in-Some.slot.now in
+    let name = string_bytes c.in-Some.name.now in
+    let found : spot_view c.slot_of-found.result ≡ spot_of name l.next = c.slot_of-found.ensures ∙ ap (λ n. spot_of n l.next) c.as_str.ensures.value in
+    let before = rw c.in-Some.ensures.steps at l.invariant in
+    sym (before.2 ∙ over_fails name (is_always slot.presence) (kind_view slot.kind) l.next c.slot_of-found.result l.others (slots_view c.next.new.self) found before.0 before.1.0 (sym c.is_slot_above.ensures ∙ c.if-not-is_slot_above.true))
+
+pub is_record_above-loop-name-preserved-then-is_some :
+    goal.is_record_above-loop-name-preserved-then-is_some
+is_record_above-loop-name-preserved-then-is_some t c =
+    let l = c.loop-name in
+    let slot = c.in-Some.slot.now in
+    let name = string_bytes c.in-Some.name.now in
+    let found : spot_view c.slot_of-found.result ≡ spot_of name l.next = c.slot_of-found.ensures ∙ ap (λ n. spot_of n l.next) c.as_str.ensures.value in
+    let some : is_some c.slot_of-found.result ≡ true = sym c.is_some.ensures ∙ c.if-is_some.true in
+    let before = rw c.in-Some.ensures.steps at l.invariant in
+    let rest = left_next l.others c.next-next-then-is_some.result c.next-next-then-is_some.new.self c.next-next-then-is_some.ensures.steps in
+    let left = ascend_rest l.next c.slot_of-found.result l.others name found some before.0 in
+    let over = over_found name (is_always slot.presence) (kind_view slot.kind) l.next c.slot_of-found.result l.others (slots_view c.next.new.self) found some before.0 before.1.0 in
+    (rw rest left, before.1.1, before.2 ∙ over ∙ rw (sym c.is_slot_above.ensures ∙ c.if-not-is_slot_above.false, rest) refl)
+
+pub is_record_above-loop-name-preserved : goal.is_record_above-loop-name-preserved
+is_record_above-loop-name-preserved t c =
+    let l = c.loop-name in
+    let slot = c.in-Some.slot.now in
+    let name = string_bytes c.in-Some.name.now in
+    let found : spot_view c.slot_of-found.result ≡ spot_of name l.next = c.slot_of-found.ensures ∙ ap (λ n. spot_of n l.next) c.as_str.ensures.value in
+    let none : is_some c.slot_of-found.result ≡ false = sym c.is_some.ensures ∙ c.if-is_some.false in
+    let before = rw c.in-Some.ensures.steps at l.invariant in
+    let over = over_missing name (is_always slot.presence) (kind_view slot.kind) l.next c.slot_of-found.result l.others (slots_view c.next.new.self) found none before.0 before.1.0 in
+    (before.0, before.1.1, before.2 ∙ over ∙ rw (sym c.is_slot_above.ensures ∙ c.if-not-is_slot_above.false) refl)
+
+pub is_record_above-returns : goal.is_record_above-returns
+is_record_above-returns t c =
+    let l = c.loop-name in
+    let over : slots_view l.name-iterator ≡ no_slots = ap slots_view c.in-None.ensures.steps.0 in
+    over_end l.next l.others c.is_none.result c.is_none.ensures ∙ sym (l.invariant.2 ∙ ap (Over (left_view l.next l.others)) over)

@@ -10,39 +10,39 @@ use Rattle.pb_value.proofs.KindLemmas.{SlotEntry, kind_view-Bool, kind_view-Host
 use Rattle.pb_value.proofs.JoinLemmas.{built, built_joined}
 use Rattle.pb_value.proofs.join.+join.Goals as goal
 
-pub join-returns-in-Null-Null : goal.join-returns-in-Null-Null
-join-returns-in-Null-Null t c = rw (c.in-Null-Null.is-0, c.in-Null-Null.is-1, kind_view-Null) refl
+pub join_parts-returns-in-Null-Null : goal.join_parts-returns-in-Null-Null
+join_parts-returns-in-Null-Null t c = rw (c.in-Null-Null.is-0, c.in-Null-Null.is-1, kind_view-Null) refl
 
-pub join-returns-in-Bool-Bool : goal.join-returns-in-Bool-Bool
-join-returns-in-Bool-Bool t c = rw (c.in-Bool-Bool.is-0, c.in-Bool-Bool.is-1, kind_view-Bool) refl
+pub join_parts-returns-in-Bool-Bool : goal.join_parts-returns-in-Bool-Bool
+join_parts-returns-in-Bool-Bool t c = rw (c.in-Bool-Bool.is-0, c.in-Bool-Bool.is-1, kind_view-Bool) refl
 
-pub join-returns-in-Int-Int : goal.join-returns-in-Int-Int
-join-returns-in-Int-Int t c = rw (c.in-Int-Int.is-0, c.in-Int-Int.is-1, kind_view-Int) refl
+pub join_parts-returns-in-Int-Int : goal.join_parts-returns-in-Int-Int
+join_parts-returns-in-Int-Int t c = rw (c.in-Int-Int.is-0, c.in-Int-Int.is-1, kind_view-Int) refl
 
-pub join-returns-in_default : goal.join-returns-in_default
-join-returns-in_default t c = search (rules, kind_lemmas)
+pub join_parts-returns-in_default : goal.join_parts-returns-in_default
+join_parts-returns-in_default t c = search (rules, kind_lemmas)
 
-pub join-returns-in-Text-Text : goal.join-returns-in-Text-Text
-join-returns-in-Text-Text t c = rw (c.in-Text-Text.is-0, c.in-Text-Text.is-1, kind_view-Text) refl
+pub join_parts-returns-in-Text-Text : goal.join_parts-returns-in-Text-Text
+join_parts-returns-in-Text-Text t c = rw (c.in-Text-Text.is-0, c.in-Text-Text.is-1, kind_view-Text) refl
 
-pub join-returns-in-Text-Host : goal.join-returns-in-Text-Host
-join-returns-in-Text-Host t c = rw (c.in-Text-Host.is-0, c.in-Text-Host.is-1, kind_view-Host, kind_view-Text) refl
+pub join_parts-returns-in-Text-Host : goal.join_parts-returns-in-Text-Host
+join_parts-returns-in-Text-Host t c = rw (c.in-Text-Host.is-0, c.in-Text-Host.is-1, kind_view-Host, kind_view-Text) refl
 
-pub join-returns-in-Host-Text : goal.join-returns-in-Host-Text
-join-returns-in-Host-Text t c = rw (c.in-Host-Text.is-0, c.in-Host-Text.is-1, kind_view-Host, kind_view-Text) refl
+pub join_parts-returns-in-Host-Text : goal.join_parts-returns-in-Host-Text
+join_parts-returns-in-Host-Text t c = rw (c.in-Host-Text.is-0, c.in-Host-Text.is-1, kind_view-Host, kind_view-Text) refl
 
-pub join-returns-in-Host-Host : goal.join-returns-in-Host-Host
-join-returns-in-Host-Host t c =
+pub join_parts-returns-in-Host-Host : goal.join_parts-returns-in-Host-Host
+join_parts-returns-in-Host-Host t c =
     let p = c.in-Host-Host in
     rw (p.is-0, p.is-1, kind_view-Host p.few, kind_view-Host p.more, ← c.deref.ensures, ← c.deref-in-Host-Host.ensures) c.join_hosts.ensures
 
-pub join-returns-in-Rec-Rec : goal.join-returns-in-Rec-Rec
-join-returns-in-Rec-Rec t c =
+pub join_parts-returns-in-Rec-Rec : goal.join_parts-returns-in-Rec-Rec
+join_parts-returns-in-Rec-Rec t c =
     let p = c.in-Rec-Rec in
     rw (p.is-0, p.is-1, kind_view-Rec p.slots, kind_view-Rec p.others, ← c.deref-in-Rec-Rec.ensures, ← c.deref-in-Rec-Rec-2.ensures, ← c.deref-in-Rec-Rec-3.ensures, ← c.deref-in-Rec-Rec-4.ensures) c.join_records.ensures
 
-pub join-returns-in_ok-record-in-Result-Result : goal.join-returns-in_ok-record-in-Result-Result
-join-returns-in_ok-record-in-Result-Result t c =
+pub join_parts-returns-in_ok-record-in-Result-Result : goal.join_parts-returns-in_ok-record-in-Result-Result
+join_parts-returns-in_ok-record-in-Result-Result t c =
     let p = c.in-Result-Result in
     rw (
       p.is-0,

@@ -22,7 +22,7 @@ begin_on-requires c =
     let m = c.self.invariant.machine in
     let on : enabled (state_of (run_state x)) (start k) ≡ true = ap (λ (r : RunState). enabled (state_of r) (start k)) c.self.view_is ∙ c.requires in
     let found : c.deref.result.now ≡ x.hosts.items = search rules in
-    let here = slice_get-start x.checked x.forks es x.hosts.items x.phase m k on in record {
+    let here = slice_get-start x.runnable x.forks es x.hosts.items x.phase m k on in record {
       there = (m.host, (ap (λ hs. slice_get hs k) found ∙ here.0, here.1));
     }
 
@@ -42,7 +42,7 @@ invariant_of-self-2 c =
     let old = handed_of x.hosts.items in
     let count : c.len.result ≡ length cs = omega (arith, c.len.ensures, c.in_ok-begun.begun.calls.ok) in
     let few : old + c.len.result < 2 ^ 64 = omega (arith, c.self.invariant.handed, x.history.ok, x.history.small, c.in_ok-begun.ensures.few, count) in
-    let within : k < length x.hosts.items = within-start x.checked x.forks es x.hosts.items x.phase m k on in
+    let within : k < length x.hosts.items = within-start x.runnable x.forks es x.hosts.items x.phase m k on in
     let more : handed_of c.set_running.new.hosts.items ≡ old + c.len.result = c.set_running.ensures.handed within few in
     let here : m.host.calls + c.len.result < 2 ^ 64 = omega (arith, few, sum_by-alone (λ h. h.calls) m.host x.hosts.items m.alone) in
     let there : k < length (tickets_of x.hosts.items) = omega (arith, within, length-map x.hosts.items (λ h. ticket_in h.stage)) in
@@ -52,7 +52,7 @@ invariant_of-self-2 c =
     (rw (items, same) (tally-other _ _ (Start k) (λ h. refl) c.self.invariant.tally))
     (omega (arith, more, c.self.invariant.handed, ap length items, length_push es (Start k), c.in_ok-begun.ensures.few, count))
     (rw (items, c.set_running.ensures.tickets, ticket) (tickets-more es (tickets_of x.hosts.items) (Start k) k _ there (λ k out. refl) c.self.invariant.tickets))
-    (IsMachine-start x.checked x.forks es x.hosts.items x.phase m k c.len-ticket.result c.in_ok-begun.begun.pending cs c.set_running.new.hosts.items on
+    (IsMachine-start x.runnable x.forks es x.hosts.items x.phase m k c.len-ticket.result c.in_ok-begun.begun.pending cs c.set_running.new.hosts.items on
     (λ s t ms i at task. c.in_ok-begun.ensures.made s t ms i (ap (λ hs. slice_get hs k) found ∙ at) task) c.len.result count here c.set_running.ensures.running)
 
 pub returns-clause-job : goal.returns-clause-job
@@ -68,17 +68,17 @@ returns-clause-job c =
     let old = handed_of x.hosts.items in
     let count : c.len.result ≡ length cs = omega (arith, c.len.ensures, c.in_ok-begun.begun.calls.ok) in
     let few : old + c.len.result < 2 ^ 64 = omega (arith, c.self.invariant.handed, x.history.ok, x.history.small, c.in_ok-begun.ensures.few, count) in
-    let within : k < length x.hosts.items = within-start x.checked x.forks es x.hosts.items x.phase m k on in
+    let within : k < length x.hosts.items = within-start x.runnable x.forks es x.hosts.items x.phase m k on in
     let more : handed_of c.set_running.new.hosts.items ≡ old + c.len.result = c.set_running.ensures.handed within few in
     let found : c.deref.result.now ≡ x.hosts.items = search rules in
-    let called = calls-start x.checked x.forks es x.hosts.items x.phase m k c.len-ticket.result c.in_ok-begun.begun.pending cs c.set_running.new.hosts.items on
+    let called = calls-start x.runnable x.forks es x.hosts.items x.phase m k c.len-ticket.result c.in_ok-begun.begun.pending cs c.set_running.new.hosts.items on
     (λ s t ms i at task. c.in_ok-begun.ensures.made s t ms i (ap (λ hs. slice_get hs k) found ∙ at) task) in
-    let handed : (plain_after x.checked x.forks es).handed ≡ old = sym (sum_by-alone (λ h. h.calls) m.host x.hosts.items m.alone ∙ m.at.calls) in
+    let handed : (plain_after x.runnable x.forks es).handed ≡ old = sym (sum_by-alone (λ h. h.calls) m.host x.hosts.items m.alone ∙ m.at.calls) in
     rw (← c.self.view_is) (
       refl,
       record {
-        run = RunState-same x.checked x.forks _ _ _ _ _ _ items c.set_running.ensures.recaps (more ∙ ap (λ n. old + n) count);
+        run = RunState-same x.runnable x.forks _ _ _ _ _ _ items c.set_running.ensures.recaps (more ∙ ap (λ n. old + n) count);
         ticket = search rules;
-        calls = called ∙ ap₂ (λ n fs. job_calls k n (there x.checked x.forks fs)) handed (sym items);
+        calls = called ∙ ap₂ (λ n fs. job_calls k n (there x.runnable x.forks fs)) handed (sym items);
       },
     )

@@ -27,7 +27,7 @@ outcome_of-requires c =
     let is_out : get_or (tickets_of x.hosts.items) k None ≡ ticket_out k c.args.self.now.history = c.self.invariant.tickets k ∙ ap (λ (r : RunState). ticket_out k r.history) c.self.view_is in
     let busy : is_some (ticket_in c.in-Some.state.now.stage) ≡ true = ap is_some (sym (get_or-tickets x.hosts.items k c.in-Some.state.now at) ∙ is_out) ∙ c.requires.out in record {
       running = busy;
-      there = slice_get-running x.checked x.forks x.history.items x.hosts.items x.phase c.self.invariant.machine k c.in-Some.state.now at busy;
+      there = slice_get-running x.runnable x.forks x.history.items x.hosts.items x.phase c.self.invariant.machine k c.in-Some.state.now at busy;
       skipped = c.self.invariant.skipped;
       unchanged = c.self.invariant.unchanged;
     }
@@ -59,7 +59,7 @@ invariant_of-self-2 c =
     let handed = c.settle.ensures.handed ∙ c.room_for.ensures.handed in
     let counts : Counts s.recap (gives_of k es) = rw (recap_of-at x.hosts.items k s (sym (get_or_from_slice_get x.hosts.items k s s at)) host) at (i.tally.counts k) in
     let few : gives_of k es + 1 < 2 ^ 64 = omega (arith, short, count_by-le-length (is_give_of k) es) in
-    let place = place-running x.checked x.forks es x.hosts.items x.phase m k s at busy in
+    let place = place-running x.runnable x.forks es x.hosts.items x.phase m k s at busy in
     let came = IsSettledHost-roomier x.hosts.items c.room_for.new.hosts.items c.settle.new.hosts.items k c.in-Ok.found s (gives_of k es) at place counts few c.room_for.ensures.kept c.settle.ensures.settled in
     let live : is_phase_stopped x.phase ≡ false = sym c.self.invariant.stopped ∙ ap (λ (r : RunState). is_stopped r.history) c.self.view_is ∙ c.requires.live in
     IsRun-push x _ (Give k c.args.answers) i refl refl refl refl refl refl items room
@@ -67,7 +67,7 @@ invariant_of-self-2 c =
     (rw (items, settled) (tally-give es rs k c.args.answers c.in-Ok.found.ending within i.tally))
     (rw (items, handed) (length-longer (handed_of x.hosts.items) es (Give k c.args.answers) i.handed))
     (rw (items, c.settle.ensures.tickets, c.room_for.ensures.tickets) (tickets-more es (tickets_of x.hosts.items) (Give k c.args.answers) k _ out (λ k o. refl) i.tickets))
-    (IsMachine-give x.checked x.forks es x.hosts.items x.phase m k s c.args.answers c.in-Ok.found c.settle.new.hosts.items at busy live (λ q ticket t i j. subst (λ (xs : List Answer). ComesTo (modules_of x.checked.registry) t q xs c.in-Ok.found) c.deref-2.ensures.value (c.in-Ok.ensures q ticket t i j)) came)
+    (IsMachine-give x.runnable x.forks es x.hosts.items x.phase m k s c.args.answers c.in-Ok.found c.settle.new.hosts.items at busy live (λ q ticket t i j. subst (λ (xs : List Answer). ComesTo (modules_of x.runnable.registry) t q xs c.in-Ok.found) c.deref-2.ensures.value (c.in-Ok.ensures q ticket t i j)) came)
 
 pub invariant_of-self-then-is_err-2 : goal.invariant_of-self-then-is_err-2
 invariant_of-self-then-is_err-2 c =
@@ -79,12 +79,12 @@ invariant_of-self-then-is_err-2 c =
     let enough : vec_len c.reserve.new.self + 2 ≤ vec_capacity c.reserve.new.self = search rules in
     let room : length c.reserve.new.self.items < vec_capacity c.reserve.new.self = omega (arith, enough, c.reserve.new.self.ok) in
     IsRun-same x _ c.self.invariant refl refl refl refl kept (λ e. room) c.room_for.ensures.recaps c.room_for.ensures.handed c.room_for.ensures.tickets
-    (IsMachine-room x.checked x.forks x.history.items x.hosts.items x.phase c.self.invariant.machine k c.in-Some.state.now c.room_for.new.hosts.items at (c.room_for.ensures.kept c.in-Some.state.now at))
+    (IsMachine-room x.runnable x.forks x.history.items x.hosts.items x.phase c.self.invariant.machine k c.in-Some.state.now c.room_for.new.hosts.items at (c.room_for.ensures.kept c.in-Some.state.now at))
 
 pub returns-then-is_err-2-clause-err : goal.returns-then-is_err-2-clause-err
 returns-then-is_err-2-clause-err c =
     let kept : c.reserve.new.self.items ≡ c.self.inside.history.items = search rules in
-    RunState-same c.self.inside.checked c.self.inside.forks _ _ _ _ _ _ kept c.room_for.ensures.recaps c.room_for.ensures.handed ∙ c.self.view_is
+    RunState-same c.self.inside.runnable c.self.inside.forks _ _ _ _ _ _ kept c.room_for.ensures.recaps c.room_for.ensures.handed ∙ c.self.view_is
 
 pub returns-clause-counted : goal.returns-clause-counted
 returns-clause-counted c =

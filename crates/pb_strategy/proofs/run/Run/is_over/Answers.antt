@@ -13,11 +13,11 @@ returns-in-Going c =
     let m = c.self.invariant.machine in
     c.are_through.ensures.alone m.host (c.deref.ensures.value ∙ m.alone)
     ∙ ap (λ ts. is_done m.host.stage (nat_lt m.host.place (length ts))) c.tasks_of.ensures.value
-    ∙ sym (enabled-turn x.checked x.forks x.history.items x.hosts.items x.phase m (ap is_phase_stopped c.in-Going.is) (ap is_phase_ended c.in-Going.is))
+    ∙ sym (enabled-turn x.runnable x.forks x.history.items x.hosts.items x.phase m (ap is_phase_stopped c.in-Going.is) (ap is_phase_ended c.in-Going.is))
     ∙ ap (λ (r : RunState). enabled (state_of r) turn) c.self.view_is
 
 pub returns-in-Ended : goal.returns-in-Ended
 returns-in-Ended c =
     let x = c.self.inside in
-    sym (enabled-none x.checked x.forks x.history.items x.hosts.items x.phase c.self.invariant.machine turn c.in-Ended.is)
+    sym (enabled-none x.runnable x.forks x.history.items x.hosts.items x.phase c.self.invariant.machine turn c.in-Ended.is)
     ∙ ap (λ (r : RunState). enabled (state_of r) turn) c.self.view_is

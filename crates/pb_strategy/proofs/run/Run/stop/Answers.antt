@@ -23,6 +23,6 @@ invariant_of-self c =
       tickets = rw items (tickets-other es (tickets_of x.hosts.items) Stop (λ k out. refl) c.self.invariant.tickets);
       skipped = c.self.invariant.skipped;
       unchanged = c.self.invariant.unchanged;
-      machine = IsMachine-same x.checked x.checked x.forks x.forks _ _ x.hosts.items phase.Stopped phase.Stopped refl refl items refl (IsMachine-stop x.checked x.forks es x.hosts.items x.phase c.self.invariant.machine phase.Stopped refl refl c.in-Going.is);
+      machine = IsMachine-same x.runnable x.runnable x.forks x.forks _ _ x.hosts.items phase.Stopped phase.Stopped refl refl items refl (IsMachine-stop x.runnable x.forks es x.hosts.items x.phase c.self.invariant.machine phase.Stopped refl refl c.in-Going.is);
       forks = c.self.invariant.forks;
     }

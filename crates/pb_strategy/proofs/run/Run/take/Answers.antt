@@ -14,14 +14,14 @@ use Rattle.pb_strategy.proofs.run.Run.take.Goals as goal
 pub returns-in-Stopped-clause-next : goal.returns-in-Stopped-clause-next
 returns-in-Stopped-clause-next c =
     let x = c.self.inside in
-    sym (next_of-stopped x.checked x.forks x.history.items x.hosts.items x.phase c.self.invariant.machine (ap is_phase_stopped c.in-Stopped.is))
+    sym (next_of-stopped x.runnable x.forks x.history.items x.hosts.items x.phase c.self.invariant.machine (ap is_phase_stopped c.in-Stopped.is))
     ∙ ap (λ (r : RunState). next_of (state_of r)) c.self.view_is
 
 pub returns-in-Stopped-clause-waits : goal.returns-in-Stopped-clause-waits
 returns-in-Stopped-clause-waits c = λ e.
     let x = c.self.inside in
     let no : stopped ≡ waits =
-    sym (next_of-stopped x.checked x.forks x.history.items x.hosts.items x.phase c.self.invariant.machine (ap is_phase_stopped c.in-Stopped.is))
+    sym (next_of-stopped x.runnable x.forks x.history.items x.hosts.items x.phase c.self.invariant.machine (ap is_phase_stopped c.in-Stopped.is))
     ∙ ap (λ (r : RunState). next_of (state_of r)) c.self.view_is ∙ e in
     cc
 
@@ -29,20 +29,20 @@ pub returns-in-Ended-clause-waits : goal.returns-in-Ended-clause-waits
 returns-in-Ended-clause-waits c = λ e.
     let x = c.self.inside in
     let no : ended ≡ waits =
-    sym (next_of-ended x.checked x.forks x.history.items x.hosts.items x.phase c.self.invariant.machine (ap is_phase_stopped c.in-Ended.is) (ap is_phase_ended c.in-Ended.is)).0
+    sym (next_of-ended x.runnable x.forks x.history.items x.hosts.items x.phase c.self.invariant.machine (ap is_phase_stopped c.in-Ended.is) (ap is_phase_ended c.in-Ended.is)).0
     ∙ ap (λ (r : RunState). next_of (state_of r)) c.self.view_is ∙ e in
     cc
 
 pub returns-in-Ended-clause-next : goal.returns-in-Ended-clause-next
 returns-in-Ended-clause-next c =
     let x = c.self.inside in
-    sym (next_of-ended x.checked x.forks x.history.items x.hosts.items x.phase c.self.invariant.machine (ap is_phase_stopped c.in-Ended.is) (ap is_phase_ended c.in-Ended.is)).0
+    sym (next_of-ended x.runnable x.forks x.history.items x.hosts.items x.phase c.self.invariant.machine (ap is_phase_stopped c.in-Ended.is) (ap is_phase_ended c.in-Ended.is)).0
     ∙ ap (λ (r : RunState). next_of (state_of r)) c.self.view_is
 
 pub returns-in-Ended-clause-taken : goal.returns-in-Ended-clause-taken
 returns-in-Ended-clause-taken c =
     let x = c.self.inside in
-    let off = (next_of-ended x.checked x.forks x.history.items x.hosts.items x.phase c.self.invariant.machine (ap is_phase_stopped c.in-Ended.is) (ap is_phase_ended c.in-Ended.is)).1 in
+    let off = (next_of-ended x.runnable x.forks x.history.items x.hosts.items x.phase c.self.invariant.machine (ap is_phase_stopped c.in-Ended.is) (ap is_phase_ended c.in-Ended.is)).1 in
     let none : enabled (state_of c.args.self.now) turn ≡ false = ap (λ (r : RunState). enabled (state_of r) turn) (sym c.self.view_is) ∙ off in
     sym (ap (λ b. cond b (after c.args.self.now Turn) c.args.self.now) none)
 
@@ -52,10 +52,10 @@ begin-requires c =
     let m = c.self.invariant.machine in
     let live = ap is_phase_stopped c.in-Going.is in
     let on = ap is_phase_ended c.in-Going.is in
-    let found : ready x.checked x.forks x.history.items x.hosts.items x.phase m live on c.self.invariant.forks ≡ Some c.in-Some.host =
+    let found : ready x.runnable x.forks x.history.items x.hosts.items x.phase m live on c.self.invariant.forks ≡ Some c.in-Some.host =
     sym (c.ready_host.ensures.alone m.host (c.deref.ensures.value ∙ m.alone) ∙ ap (λ ts. cond (nat_lt 0 x.forks && can_run m.host (length ts)) (Some 0) None) c.tasks_of-tasks.ensures.value) ∙ c.in-Some.is in
     ap (λ (r : RunState). enabled (state_of r) (start c.in-Some.host)) (sym c.self.view_is)
-    ∙ (next_of-starts x.checked x.forks x.history.items x.hosts.items x.phase m live on c.self.invariant.forks c.in-Some.host found).1
+    ∙ (next_of-starts x.runnable x.forks x.history.items x.hosts.items x.phase m live on c.self.invariant.forks c.in-Some.host found).1
 
 pub returns-in_err-job-clause-waits : goal.returns-in_err-job-clause-waits
 returns-in_err-job-clause-waits c = λ e.
@@ -63,10 +63,10 @@ returns-in_err-job-clause-waits c = λ e.
     let m = c.self.invariant.machine in
     let live = ap is_phase_stopped c.in-Going.is in
     let on = ap is_phase_ended c.in-Going.is in
-    let found : ready x.checked x.forks x.history.items x.hosts.items x.phase m live on c.self.invariant.forks ≡ Some c.in-Some.host =
+    let found : ready x.runnable x.forks x.history.items x.hosts.items x.phase m live on c.self.invariant.forks ≡ Some c.in-Some.host =
     sym (c.ready_host.ensures.alone m.host (c.deref.ensures.value ∙ m.alone) ∙ ap (λ ts. cond (nat_lt 0 x.forks && can_run m.host (length ts)) (Some 0) None) c.tasks_of-tasks.ensures.value) ∙ c.in-Some.is in
     let no : starts c.in-Some.host ≡ waits =
-    sym (next_of-starts x.checked x.forks x.history.items x.hosts.items x.phase m live on c.self.invariant.forks c.in-Some.host found).0
+    sym (next_of-starts x.runnable x.forks x.history.items x.hosts.items x.phase m live on c.self.invariant.forks c.in-Some.host found).0
     ∙ ap (λ (r : RunState). next_of (state_of r)) c.self.view_is ∙ e in
     cc
 
@@ -76,10 +76,10 @@ returns-in-Some-clause-waits c = λ e.
     let m = c.self.invariant.machine in
     let live = ap is_phase_stopped c.in-Going.is in
     let on = ap is_phase_ended c.in-Going.is in
-    let found : ready x.checked x.forks x.history.items x.hosts.items x.phase m live on c.self.invariant.forks ≡ Some c.in-Some.host =
+    let found : ready x.runnable x.forks x.history.items x.hosts.items x.phase m live on c.self.invariant.forks ≡ Some c.in-Some.host =
     sym (c.ready_host.ensures.alone m.host (c.deref.ensures.value ∙ m.alone) ∙ ap (λ ts. cond (nat_lt 0 x.forks && can_run m.host (length ts)) (Some 0) None) c.tasks_of-tasks.ensures.value) ∙ c.in-Some.is in
     let no : starts c.in-Some.host ≡ waits =
-    sym (next_of-starts x.checked x.forks x.history.items x.hosts.items x.phase m live on c.self.invariant.forks c.in-Some.host found).0
+    sym (next_of-starts x.runnable x.forks x.history.items x.hosts.items x.phase m live on c.self.invariant.forks c.in-Some.host found).0
     ∙ ap (λ (r : RunState). next_of (state_of r)) c.self.view_is ∙ e in
     cc
 
@@ -89,10 +89,10 @@ returns-in-Some-clause-next c =
     let m = c.self.invariant.machine in
     let live = ap is_phase_stopped c.in-Going.is in
     let on = ap is_phase_ended c.in-Going.is in
-    let found : ready x.checked x.forks x.history.items x.hosts.items x.phase m live on c.self.invariant.forks ≡ Some c.in-Some.host =
+    let found : ready x.runnable x.forks x.history.items x.hosts.items x.phase m live on c.self.invariant.forks ≡ Some c.in-Some.host =
     sym (c.ready_host.ensures.alone m.host (c.deref.ensures.value ∙ m.alone) ∙ ap (λ ts. cond (nat_lt 0 x.forks && can_run m.host (length ts)) (Some 0) None) c.tasks_of-tasks.ensures.value) ∙ c.in-Some.is in
     ap (λ k. starts k) c.in_ok-job.ensures.job.0
-    ∙ sym (next_of-starts x.checked x.forks x.history.items x.hosts.items x.phase m live on c.self.invariant.forks c.in-Some.host found).0
+    ∙ sym (next_of-starts x.runnable x.forks x.history.items x.hosts.items x.phase m live on c.self.invariant.forks c.in-Some.host found).0
     ∙ ap (λ (r : RunState). next_of (state_of r)) c.self.view_is
 
 pub returns-then-running-gt0-clause-next : goal.returns-then-running-gt0-clause-next
@@ -100,7 +100,7 @@ returns-then-running-gt0-clause-next c =
     let x = c.self.inside in
     let m = c.self.invariant.machine in
     let some : 0 < count_by (λ h. is_some (ticket_in h.stage)) x.hosts.items = search rules in
-    sym (next_of-waits x.checked x.forks x.history.items x.hosts.items x.phase m (ap is_phase_stopped c.in-Going.is) (ap is_phase_ended c.in-Going.is) c.self.invariant.forks (ticket_in-busy m.host x.hosts.items m.alone some))
+    sym (next_of-waits x.runnable x.forks x.history.items x.hosts.items x.phase m (ap is_phase_stopped c.in-Going.is) (ap is_phase_ended c.in-Going.is) c.self.invariant.forks (ticket_in-busy m.host x.hosts.items m.alone some))
     ∙ ap (λ (r : RunState). next_of (state_of r)) c.self.view_is
 
 pub returns-then-running-gt0-clause-idle : goal.returns-then-running-gt0-clause-idle
@@ -115,10 +115,10 @@ turn-requires c =
     let m = c.self.invariant.machine in
     let live = ap is_phase_stopped c.in-Going.is in
     let on = ap is_phase_ended c.in-Going.is in
-    let none : ready x.checked x.forks x.history.items x.hosts.items x.phase m live on c.self.invariant.forks ≡ None =
+    let none : ready x.runnable x.forks x.history.items x.hosts.items x.phase m live on c.self.invariant.forks ≡ None =
     sym (c.ready_host.ensures.alone m.host (c.deref.ensures.value ∙ m.alone) ∙ ap (λ ts. cond (nat_lt 0 x.forks && can_run m.host (length ts)) (Some 0) None) c.tasks_of-tasks.ensures.value) ∙ c.in_default.is in
     let idle : count_by (λ h. is_some (ticket_in h.stage)) x.hosts.items ≤ 0 = search rules in
-    let turns = next_of-turns x.checked x.forks x.history.items x.hosts.items x.phase m live on c.self.invariant.forks none (ticket_in-idle m.host x.hosts.items m.alone idle) in
+    let turns = next_of-turns x.runnable x.forks x.history.items x.hosts.items x.phase m live on c.self.invariant.forks none (ticket_in-idle m.host x.hosts.items m.alone idle) in
     ap (λ (r : RunState). enabled (state_of r) turn) (sym c.self.view_is) ∙ turns.1
 
 pub returns-in_err-turn-clause-waits : goal.returns-in_err-turn-clause-waits
@@ -127,11 +127,11 @@ returns-in_err-turn-clause-waits c = λ e.
     let m = c.self.invariant.machine in
     let live = ap is_phase_stopped c.in-Going.is in
     let on = ap is_phase_ended c.in-Going.is in
-    let none : ready x.checked x.forks x.history.items x.hosts.items x.phase m live on c.self.invariant.forks ≡ None =
+    let none : ready x.runnable x.forks x.history.items x.hosts.items x.phase m live on c.self.invariant.forks ≡ None =
     sym (c.ready_host.ensures.alone m.host (c.deref.ensures.value ∙ m.alone) ∙ ap (λ ts. cond (nat_lt 0 x.forks && can_run m.host (length ts)) (Some 0) None) c.tasks_of-tasks.ensures.value) ∙ c.in_default.is in
     let idle : count_by (λ h. is_some (ticket_in h.stage)) x.hosts.items ≤ 0 = search rules in
     let no : ended ≡ waits =
-    sym (next_of-turns x.checked x.forks x.history.items x.hosts.items x.phase m live on c.self.invariant.forks none (ticket_in-idle m.host x.hosts.items m.alone idle)).0
+    sym (next_of-turns x.runnable x.forks x.history.items x.hosts.items x.phase m live on c.self.invariant.forks none (ticket_in-idle m.host x.hosts.items m.alone idle)).0
     ∙ ap (λ (r : RunState). next_of (state_of r)) c.self.view_is ∙ e in
     cc
 
@@ -141,11 +141,11 @@ returns-clause-waits c = λ e.
     let m = c.self.invariant.machine in
     let live = ap is_phase_stopped c.in-Going.is in
     let on = ap is_phase_ended c.in-Going.is in
-    let none : ready x.checked x.forks x.history.items x.hosts.items x.phase m live on c.self.invariant.forks ≡ None =
+    let none : ready x.runnable x.forks x.history.items x.hosts.items x.phase m live on c.self.invariant.forks ≡ None =
     sym (c.ready_host.ensures.alone m.host (c.deref.ensures.value ∙ m.alone) ∙ ap (λ ts. cond (nat_lt 0 x.forks && can_run m.host (length ts)) (Some 0) None) c.tasks_of-tasks.ensures.value) ∙ c.in_default.is in
     let idle : count_by (λ h. is_some (ticket_in h.stage)) x.hosts.items ≤ 0 = search rules in
     let no : ended ≡ waits =
-    sym (next_of-turns x.checked x.forks x.history.items x.hosts.items x.phase m live on c.self.invariant.forks none (ticket_in-idle m.host x.hosts.items m.alone idle)).0
+    sym (next_of-turns x.runnable x.forks x.history.items x.hosts.items x.phase m live on c.self.invariant.forks none (ticket_in-idle m.host x.hosts.items m.alone idle)).0
     ∙ ap (λ (r : RunState). next_of (state_of r)) c.self.view_is ∙ e in
     cc
 
@@ -155,10 +155,10 @@ returns-clause-next c =
     let m = c.self.invariant.machine in
     let live = ap is_phase_stopped c.in-Going.is in
     let on = ap is_phase_ended c.in-Going.is in
-    let none : ready x.checked x.forks x.history.items x.hosts.items x.phase m live on c.self.invariant.forks ≡ None =
+    let none : ready x.runnable x.forks x.history.items x.hosts.items x.phase m live on c.self.invariant.forks ≡ None =
     sym (c.ready_host.ensures.alone m.host (c.deref.ensures.value ∙ m.alone) ∙ ap (λ ts. cond (nat_lt 0 x.forks && can_run m.host (length ts)) (Some 0) None) c.tasks_of-tasks.ensures.value) ∙ c.in_default.is in
     let idle : count_by (λ h. is_some (ticket_in h.stage)) x.hosts.items ≤ 0 = search rules in
-    let turns = next_of-turns x.checked x.forks x.history.items x.hosts.items x.phase m live on c.self.invariant.forks none (ticket_in-idle m.host x.hosts.items m.alone idle) in
+    let turns = next_of-turns x.runnable x.forks x.history.items x.hosts.items x.phase m live on c.self.invariant.forks none (ticket_in-idle m.host x.hosts.items m.alone idle) in
     sym turns.0 ∙ ap (λ (r : RunState). next_of (state_of r)) c.self.view_is
 
 pub returns-clause-taken : goal.returns-clause-taken
@@ -167,10 +167,10 @@ returns-clause-taken c =
     let m = c.self.invariant.machine in
     let live = ap is_phase_stopped c.in-Going.is in
     let on = ap is_phase_ended c.in-Going.is in
-    let none : ready x.checked x.forks x.history.items x.hosts.items x.phase m live on c.self.invariant.forks ≡ None =
+    let none : ready x.runnable x.forks x.history.items x.hosts.items x.phase m live on c.self.invariant.forks ≡ None =
     sym (c.ready_host.ensures.alone m.host (c.deref.ensures.value ∙ m.alone) ∙ ap (λ ts. cond (nat_lt 0 x.forks && can_run m.host (length ts)) (Some 0) None) c.tasks_of-tasks.ensures.value) ∙ c.in_default.is in
     let idle : count_by (λ h. is_some (ticket_in h.stage)) x.hosts.items ≤ 0 = search rules in
-    let turns = next_of-turns x.checked x.forks x.history.items x.hosts.items x.phase m live on c.self.invariant.forks none (ticket_in-idle m.host x.hosts.items m.alone idle) in
+    let turns = next_of-turns x.runnable x.forks x.history.items x.hosts.items x.phase m live on c.self.invariant.forks none (ticket_in-idle m.host x.hosts.items m.alone idle) in
     let on_turn : enabled (state_of c.args.self.now) turn ≡ true = ap (λ (r : RunState). enabled (state_of r) turn) (sym c.self.view_is) ∙ turns.1 in
     let new : c.turn.new.self ≡ after c.args.self.now Turn = search rules in
     new ∙ sym (ap (λ b. cond b (after c.args.self.now Turn) c.args.self.now) on_turn)

@@ -17,7 +17,7 @@ invariant_of-self-2 c =
     let m = c.self.invariant.machine in
     let kept : c.reserve.new.self.items ≡ es = search rules in
     let on : enabled (state_of (run_state x)) turn ≡ true = ap (λ (r : RunState). enabled (state_of r) turn) c.self.view_is ∙ c.requires in
-    let before : is_stopped es ≡ false = c.self.invariant.stopped ∙ is_phase_stopped-turn x.checked x.forks es x.hosts.items x.phase m on in
+    let before : is_stopped es ≡ false = c.self.invariant.stopped ∙ is_phase_stopped-turn x.runnable x.forks es x.hosts.items x.phase m on in
     let items = rw kept at c.push_reserved.ensures.items in record {
       room = λ e. cc;
       stopped = ap is_stopped items ∙ is_stopped-more es Turn ∙ or-false (is_stopped es) ∙ before;
@@ -28,6 +28,6 @@ invariant_of-self-2 c =
       tickets = rw items (tickets-other es (tickets_of x.hosts.items) Turn (λ k out. refl) c.self.invariant.tickets);
       skipped = c.self.invariant.skipped;
       unchanged = c.self.invariant.unchanged;
-      machine = IsMachine-same x.checked x.checked x.forks x.forks _ _ x.hosts.items phase.Ended phase.Ended refl refl items refl (IsMachine-turn x.checked x.forks es x.hosts.items x.phase m phase.Ended refl refl on);
+      machine = IsMachine-same x.runnable x.runnable x.forks x.forks _ _ x.hosts.items phase.Ended phase.Ended refl refl items refl (IsMachine-turn x.runnable x.forks es x.hosts.items x.phase m phase.Ended refl refl on);
       forks = c.self.invariant.forks;
     }

@@ -4,6 +4,7 @@ pub mod Solution
 pub mod Space
 pub mod Trees
 pub mod Arena
+pub mod Bulk
 pub mod Shared
 pub mod Environments
 pub mod Lost

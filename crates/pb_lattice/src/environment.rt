@@ -2,11 +2,11 @@
 // depth of a tree, and a join goes only where the two differ.
 ghost use Rattle.std.specs.Prelude.{◌≡◌, ◌↔◌, length, true, IfOk, IsTrue};
 ghost use Rattle.pb_semantics.specs.Well.{Well};
-ghost use Rattle.pb_semantics.specs.Words.{is_among, no_slots};
+ghost use Rattle.pb_semantics.specs.Words.{is_among, no_slots, recs};
 ghost use Rattle.pb_language.specs.Judgement.{Exit, live};
 ghost use Rattle.pb_language.specs.Ordered.{ExitLe};
 ghost use Rattle.pb_language.specs.Wells.{WellExit};
-ghost use Rattle.pb_value.specs.Words.{is_always, kind_view, spot_view};
+ghost use Rattle.pb_value.specs.Words.{is_always, kind_view, slots_view, spot_view};
 ghost use Rattle.pb_lattice.specs.Arena.{names_of};
 ghost use Rattle.pb_lattice.specs.Environments.{IsKept, Stands, exit_of, is_dead, is_over};
 ghost use Rattle.pb_lattice.specs.Environments.{put_in, spot_in};
@@ -14,8 +14,9 @@ ghost use Rattle.pb_lattice.specs.Lost.{lost_marks};
 ghost use Rattle.pb_lattice.specs.Shared.{Shared};
 ghost use Rattle.pb_lattice.specs.Trees.{IsAscending};
 
+use crate::bulk;
 use crate::tree::{self, Nodes};
-use pb_value::{Kind, Slot};
+use pb_value::{Kind, Slot, Slots};
 use std::alloc::{AllocError, Global};
 use std::marker::Model;
 
@@ -177,6 +178,23 @@ impl Environments {
             return Ok(at);
         };
         let root = tree::put(&mut self.nodes, place, &self.names, name, slot)?;
+        Ok(Environment { root: Some(root) })
+    }
+
+    /// The environment in which of each of these names is known what its slot says, and nothing
+    /// else. It costs two nodes a name or fewer where the table is over these names alone.
+    ///
+    /// # Errors
+    ///
+    /// Want of memory, also where the table isn't over one of the names.
+    pub fn of_slots(&mut self, alloc: Global, slots: &Slots) -> Result<Environment, AllocError>
+        requires { Well (recs (slots_view slots.now.entries)) }
+        ensures kept { IsKept self.old self.new }
+        ensures stands { IfOk result (λ e. Stands self.new e) }
+        ensures means { IfOk result (λ e. exit_of self.new e
+            ≡ live (slots_view slots.now.entries)) }
+    {
+        let root = bulk::tree_of(alloc, &mut self.nodes, &self.names, slots)?;
         Ok(Environment { root: Some(root) })
     }
 }

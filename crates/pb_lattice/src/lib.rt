@@ -9,6 +9,7 @@
 //     let met = environment::join(alloc, &mut space, known, none)?; // `a` is perhaps there
 #![tactic(auto)]
 
+mod bulk;
 pub mod environment;
 pub mod flowing;
 pub mod graph;

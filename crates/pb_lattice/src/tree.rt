@@ -131,7 +131,7 @@ impl Nodes {
     }
 
     // A new tree, whose parts are in the table already, as those that it was made of are.
-    fn add(&mut self, part: Part, of: Option<(u32, u32)>) -> Result<u32, AllocError>
+    pub(crate) fn add(&mut self, part: Part, of: Option<(u32, u32)>) -> Result<u32, AllocError>
         requires parts { are_parts_below (length self.old) part ≡ true }
         requires before { are_made_below (length self.old) of ≡ true }
         requires well { WellTree (part_view (tree_at self.old) part) }

@@ -98,6 +98,17 @@ pub fn put_slot(slots: &mut Slots, name: String, slot: Slot<Kind>) -> Result<(),
     Ok(())
 }
 
+/// The same slots, which share what lies in their kinds.
+///
+/// # Errors
+///
+/// Want of memory.
+pub fn copy_slots(slots: &Slots) -> Result<Slots, AllocError>
+    ensures { IfOk result (λ s. slots_view s.entries ≡ slots_view slots.now.entries) }
+{
+    Ok(slots.clone()?)
+}
+
 /// Which values are meant. A copy shares what lies inside.
 #[derive(Drop)]
 pub enum Kind {

@@ -24,7 +24,7 @@ pub mod weight;
 
 pub use grow::join_all;
 pub use join::join_slots;
-pub use kind::{Case, Kind, Presence, Shape, Slot, Slots, put_slot};
+pub use kind::{Case, Kind, Presence, Shape, Slot, Slots, copy_slots, put_slot};
 pub use read::{JsonFault, read_json};
 pub use value::{Fields, Value, field_of, own_fields, own_items, put_field};
 pub use weight::Weighed;

@@ -1,4 +1,5 @@
 # Checks of the sources themselves: python3 tests/house_checks.py.
+import json
 import re
 import sys
 from pathlib import Path
@@ -11,6 +12,7 @@ COLUMNS = 100
 IS_ONE_TEXT = re.compile(r'^\s*(b"|r#").*;$')
 # At the margin, so that the methods of a trait, which is public, aren't meant.
 IS_PRIVATE = re.compile(r"^((fn|const|struct|enum|type|static) |\s*pub\(crate\) )")
+COMPARED = 29
 NOT_BUILT = re.compile(r"^(\S+) of the cases of `tests/cases` aren't built yet", re.M)
 
 
@@ -62,12 +64,27 @@ def wrong_counts():
         yield f"README.md says {said} of the cases that aren't built yet, tests/not_built_yet {wanted}"
 
 
+def wrong_comparisons():
+    """Each faulty book of examples/compared has its verdict in verdicts.json, and a row with it in docs/COMPARED.md."""
+    folder = TOP / "examples/compared"
+    verdicts = json.loads((folder / "verdicts.json").read_text(encoding="utf-8"))
+    books = {path.name for path in folder.glob("*.json")} - {"inventory.json", "verdicts.json"}
+    if books != set(verdicts) or len(books) != COMPARED:
+        yield f"examples/compared: {len(books)} books and {len(verdicts)} verdicts, wanted {COMPARED} with theirs"
+    rows = (TOP / "docs/COMPARED.md").read_text(encoding="utf-8").splitlines()
+    for book, verdict in verdicts.items():
+        refusal = verdict.removeprefix("refused ")
+        if sum(f"/compared/{book}) | {refusal} |" in row for row in rows) != 1:
+            yield f"docs/COMPARED.md: no single row of {book} with {refusal}"
+
+
 def main():
     checks = [
         ("a file of src/ or specs/ cites a proof", proofs_cited),
         ("a line is too long", long_lines),
         ("`///` on what isn't public", documented_privates),
         ("a count is wrong", wrong_counts),
+        ("a compared book is wrong", wrong_comparisons),
     ]
     failed = 0
     for name, search in checks:

@@ -577,8 +577,42 @@ def examples(folder):
             exactly("web1 : ok=2 changed=1 unreachable=0 failed=0 skipped=0 rescued=0 ignored=0\n", 0),
         ),
         Check("example-faulty", words_of("check", faulty), exactly("refused V03 line 5 host web1\n", 1)),
+        *site(folder / "site"),
+        *compared(folder / "compared"),
     ]
 
 
-def words_of(command, folder):
-    return [command, str(folder / "book.json"), "-i", str(folder / "inventory.json")]
+def site(folder):
+    """The book of a whole site, and the same with one small mistake each."""
+    verdicts = {
+        "book.json": ("accepted budget 361\n", 0),
+        "book_register_read_in_rescue.json": ("refused V01 line 55 host web1\n", 1),
+        "book_other_host_without_guard.json": ("refused V02 line 12 host db1\n", 1),
+        "book_misspelt_variable.json": ("refused V01 line 79 host lb1\n", 1),
+    }
+    return [
+        Check(f"example-site-{book}", words_of("check", folder, book), quietly(*verdict))
+        for book, verdict in verdicts.items()
+    ]
+
+
+def compared(folder):
+    """The faulty books that were put to Ansible's own checks too."""
+    verdicts = json.loads((folder / "verdicts.json").read_text(encoding="utf-8"))
+    return [
+        Check(f"example-compared-{book}", words_of("check", folder, book), quietly(f"{verdict}\n", 1))
+        for book, verdict in verdicts.items()
+    ]
+
+
+def quietly(stdout, status):
+    """Wants these bytes on standard output, this status, and nothing on standard error."""
+
+    def judge(outcome):
+        return "empty stderr" if outcome.stderr else exactly(stdout, status)(outcome)
+
+    return judge
+
+
+def words_of(command, folder, book="book.json"):
+    return [command, str(folder / book), "-i", str(folder / "inventory.json")]

@@ -240,20 +240,20 @@ fn with_write(
     ensures { IfOk result (λ f. Written (sets name.now true (kind_view kind.now) no_sets)
         (slots_view view.now.entries) before f) }
 {
-    let is_below = is_known(view, name, kind);
     let Find {
         fault,
         mut next,
         is_settled,
         is_same,
     } = before;
+    let is_settled = is_settled && is_known(view, name, kind);
     let slot = grown(alloc, find(&next, name), kind)?;
     let is_same = is_same && slot.is_none();
     put(alloc, &mut next, name, slot)?;
     Ok(Find {
         fault,
         next,
-        is_settled: is_settled && is_below,
+        is_settled,
         is_same,
     })
 }

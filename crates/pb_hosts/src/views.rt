@@ -7,12 +7,12 @@ ghost use Rattle.pb_language.specs.Wells.{WellViews};
 ghost use Rattle.pb_walks.proofs.WellProp.{well_views_prop};
 ghost use Rattle.pb_value.specs.Words.{fields_view, slots_view};
 ghost use Rattle.pb_inventory.specs.Words.{inventory_view};
-ghost use Rattle.pb_hosts.specs.Tables.{views_with, with_layer};
+ghost use Rattle.pb_hosts.specs.Tables.{slots_of_each, views_with, with_layer};
 
 use pb_expr::literal_kind;
 use pb_inventory::Inventory;
 use pb_value::below::find;
-use pb_value::{Fields, Kind, Slot, Slots, put_slot};
+use pb_value::{Fields, Kind, Slot, Slots, copy_slots, put_slot};
 use std::alloc::{AllocError, Global};
 use std::sync::Arc;
 
@@ -37,7 +37,7 @@ impl<'i> Views<'i> {
     ghost use Rattle.pb_value.specs.Words.{spot_view};
     ghost use Rattle.pb_walks.specs.Words.{ViewsAgree};
     ghost use Rattle.pb_hosts.specs.Shown.{views_view};
-    ghost use Rattle.pb_hosts.specs.Tables.{host_names, slots_of_each, views_from};
+    ghost use Rattle.pb_hosts.specs.Tables.{host_names, views_from};
 
     /// What the inventory says.
     ///
@@ -71,6 +71,22 @@ impl<'i> Views<'i> {
             (host_names (inventory_view inventory.entry.now)) (slots_of_each hosts.items) }
     {
         Views { inventory, hosts }
+    }
+
+    /// The same, which shares what lies in the kinds.
+    ///
+    /// # Errors
+    ///
+    /// Want of memory.
+    pub fn copy(&self, alloc: Global) -> Result<Views<'i>, AllocError>
+        ensures inventory { IfOk result (λ v. v.inventory ≡ self.entry.now.inventory) }
+        ensures views { IfOk result (λ v. views_view v ≡ views_view self.entry.now) }
+    {
+        let hosts = copies(alloc, &self.hosts)?;
+        Ok(Views {
+            inventory: self.inventory,
+            hosts,
+        })
     }
 
     /// What is known of the variables of each host, in host order.
@@ -110,6 +126,17 @@ impl<'i> Views<'i> {
             None => None,
         }
     }
+}
+
+// Of each host the same slots.
+fn copies(alloc: Global, hosts: &[Slots]) -> Result<Vec<Slots>, AllocError>
+    ensures { IfOk result (λ v. slots_of_each v.items ≡ slots_of_each hosts.now) }
+{
+    let mut copies = Vec::with_capacity(alloc, hosts.len())?;
+    for slots in hosts {
+        copies.push(copy_slots(slots)?)?;
+    }
+    Ok(copies)
 }
 
 // How many variables the layers of all hosts have; those of a layer count for each host.

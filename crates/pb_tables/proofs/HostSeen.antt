@@ -1,6 +1,6 @@
 -- What a host of a play sees, as the play's setting.
 use denote.Ref.{Bor}
-use Rattle.std.proofs.Common.{◌≡◌, ◌∙◌, ℕ, ◌<◌, List, Bool, Option, Some, None, length, get_or, map, option_map, slice_get, refl, sym, ap, subst}
+use Rattle.std.proofs.Common.{◌≡◌, ◌∙◌, ℕ, zero, suc, ◌<◌, List, [], ◌∷◌, Bool, Option, Some, None, length, get_or, map, option_map, slice_get, refl, sym, ap, subst}
 use Rattle.std.proofs.lemmas.Option.{slice_get-get_or}
 use Rattle.std.specs.Option.{option_copied}
 use Rattle.pb_semantics.specs.Keeps.{is_among}
@@ -14,9 +14,9 @@ use Rattle.pb_language.specs.Plays.{names_of_handlers}
 use Rattle.pb_language.specs.Program.{Inventory, Play, memberships_of, setting_of}
 use Rattle.pb_language.specs.Scope.{Later, View}
 use Rattle.pb_language.specs.Setting.{Setting}
+use Rattle.pb_language.specs.Tables.{known_views}
 use Rattle.pb_language.specs.Task.{Row}
 use Rattle.pb_language.specs.World.{HostVariables}
-use Rattle.pb_language.proofs.WellKinds.{well_known_slots}
 use Rattle.pb_inventory.specs.Inventory.{inventory_view}
 use Rattle.pb_inventory.specs.declared.inventory.Inventory as read
 use Rattle.pb_play.specs.Plays.{handler_view}
@@ -32,7 +32,6 @@ use Rattle.pb_tables.specs.Played.{PlayFinds, PlayLasts, laters_here}
 use Rattle.pb_tables.specs.Scenes.{IsScene}
 use Rattle.pb_tables.specs.declared.host.HostFound.{HostFound}
 use Rattle.pb_tables.specs.declared.scene.Scene.{Scene}
-use Rattle.pb_tables.proofs.HostDrops.{here_and_rest}
 
 -- what is found at a place is one thing
 pub one_there : {A : Type 0} (xs : List A) (i : ℕ) (d x : A) → i < length xs → slice_get xs i ≡ Some x → get_or xs i d ≡ x
@@ -41,11 +40,11 @@ one_there xs i d x lt h = let both : Some (get_or xs i d) ≡ Some x = sym (slic
 pub one_of : {A B : Type 0} (f : A → B) (o : Option A) (x : A) (y : B) → option_map f o ≡ Some y → o ≡ Some x → f x ≡ y
 one_of f o x y h i = let both : Some (f x) ≡ Some y = ap (option_map f) (sym i) ∙ h in cc
 
--- what the inventory says of a host is well formed
-pub known_is_well : (xs : List HostVariables) (i : ℕ) (ss : Slots) → i < length xs → option_map (λ h. known_slots h.variables) (slice_get xs i) ≡ Some ss → Well (recs ss)
-known_is_well xs i ss lt h =
-    let x = here_and_rest xs i lt in
-    subst (λ (us : Slots). Well (recs us)) (one_of (λ (y : HostVariables). known_slots y.variables) (slice_get xs i) x.0 ss h x.1) (well_known_slots x.0.variables)
+-- what the inventory says of the host at a place
+pub known_there : (xs : List HostVariables) (i : ℕ) → option_map (λ v. v.slots) (slice_get (known_views xs) i) ≡ option_map (λ h. known_slots h.variables) (slice_get xs i)
+known_there [] i = refl
+known_there (x ∷ xs) zero = refl
+known_there (x ∷ xs) (suc i) = known_there xs i
 
 -- a setting, part by part
 abbrev made : Inventory → List Name → List HandlerNames → List View → List Later → Name → Setting

@@ -1,14 +1,15 @@
 // A host's way through all plays: what is found on it, and what the host has at its later places.
 ghost use Rattle.std.specs.Prelude.{◌≡◌, ◌+◌, ◌<◌, All, IfOk, Some, None, [], drop, false};
-ghost use Rattle.std.specs.Prelude.{List, length, slice_get, true};
+ghost use Rattle.std.specs.Prelude.{List, length, option_map, slice_get, true};
 ghost use Rattle.pb_semantics.specs.Words.{is_among, recs};
 ghost use Rattle.pb_semantics.specs.Well.{Well};
 ghost use Rattle.pb_language.specs.Book.{PlayData, Registry};
 ghost use Rattle.pb_language.specs.Expression.{Name};
+ghost use Rattle.pb_language.specs.Kinds.{known_slots};
 ghost use Rattle.pb_language.specs.Plays.{play_row};
 ghost use Rattle.pb_language.specs.Program.{Play, Program, setting_of};
 ghost use Rattle.pb_language.specs.Scope.{every_name, no_since, view_of};
-ghost use Rattle.pb_language.specs.Tables.{first_laters, known_views};
+ghost use Rattle.pb_language.specs.Tables.{first_laters};
 ghost use Rattle.pb_language.specs.World.{HostVariables};
 ghost use Rattle.pb_lattice.specs.Words.{IsKept, Stands, exit_of, names_of};
 ghost use Rattle.pb_inventory.specs.Words.{inventory_view};
@@ -24,12 +25,11 @@ ghost use Rattle.pb_tables.specs.declared.scene.Scene.{Scene};
 use crate::table::{Stage, Tables};
 use pb_find::{Find, calls_in, entry_of, find_play};
 use pb_hosts::lasting::NEVER;
-use pb_hosts::views::known_of;
 use pb_hosts::{Lasting, Laters, Seen, Views};
 use pb_lasting::lasting_in;
 use pb_lattice::{Environment, Environments};
 use pb_outlook::Outlook;
-use pb_value::{Slot, Slots, put_slot};
+use pb_value::{Slots, copy_slots};
 use pb_way::places::places_are_counted;
 use pb_way::{Route, walk};
 use std::alloc::{AllocError, Global};
@@ -66,9 +66,8 @@ pub fn host_found(
         → HostFinds (inventory_view stage.now.inventory.now) ps (views_view tables.now.views)
         (laters_in stage.now tables.now.laters.items) x f) }
 {
-    let known = known_of(alloc, stage.inventory, host)?;
-    let at = entry_of(&known, space)?;
-    let found = nothing_found(alloc, tables.views.slots(host))?;
+    let at = entry_of(alloc, known_at(stage, host), space)?;
+    let found = nothing_found(tables.views.slots(host))?;
     let mut way = OnWay { found, at };
     for play in 0..stage.scenes.len() {
         way = found_in(alloc, stage, tables, play, host, space, way)?;
@@ -85,14 +84,10 @@ pub fn host_found(
 pub fn host_lasting(
     alloc: Global,
     stage: &Stage<'_, '_>,
-    views: &Views<'_>,
     host: usize,
     space: &mut Environments,
 ) -> Result<Vec<Lasting>, AllocError>
     requires stage { IsStage stage.now }
-    requires inventory { views.now.inventory.now ≡ stage.now.inventory.now }
-    requires views { views_view views.now
-        ≡ known_views (inventory_view stage.now.inventory.now).hosts }
     requires host { host < length (inventory_view stage.now.inventory.now).hosts }
     requires names { space.old.names ≡ names_of stage.now.names.now }
     ensures names { space.new.names ≡ space.old.names }
@@ -105,11 +100,10 @@ pub fn host_lasting(
         → HostLasts (names_of stage.now.names.now) (inventory_view stage.now.inventory.now) ps x
         ls.items) }
 {
-    let known = known_of(alloc, stage.inventory, host)?;
-    let mut at = entry_of(&known, space)?;
+    let mut at = entry_of(alloc, known_at(stage, host), space)?;
     let mut lastings = Vec::with_capacity(alloc, stage.scenes.len())?;
     for play in 0..stage.scenes.len() {
-        let (lasting, end) = lasting_at(alloc, stage, views, play, host, at, space)?;
+        let (lasting, end) = lasting_at(alloc, stage, stage.known, play, host, at, space)?;
         lastings.push(lasting)?;
         at = end;
     }
@@ -123,8 +117,20 @@ struct OnWay {
     at: Environment,
 }
 
+// What the inventory says of the variables of the host at that place.
+fn known_at<'t>(stage: &'t Stage<'_, '_>, host: usize) -> &'t Slots
+    requires stage { IsStage stage.now }
+    requires host { host < length (inventory_view stage.now.inventory.now).hosts }
+    ensures known { option_map (λ h. known_slots h.variables)
+        (slice_get (inventory_view stage.entry.now.inventory.now).hosts host)
+        ≡ Some (slots_view result.now.entries) }
+    ensures well { Well (recs (slots_view result.now.entries)) }
+{
+    stage.known.slots(host)
+}
+
 // Before anything is run.
-fn nothing_found(alloc: Global, view: &Slots) -> Result<HostFound, AllocError>
+fn nothing_found(view: &Slots) -> Result<HostFound, AllocError>
     ensures fault { IfOk result (λ f. f.find.fault ≡ None) }
     ensures next { IfOk result (λ f.
         slots_view f.find.next.entries ≡ slots_view view.now.entries) }
@@ -133,25 +139,11 @@ fn nothing_found(alloc: Global, view: &Slots) -> Result<HostFound, AllocError>
 {
     let find = Find {
         fault: None,
-        next: copy_of(alloc, view)?,
+        next: copy_slots(view)?,
         is_settled: true,
         is_same: true,
     };
     Ok(HostFound { find, calls: 0 })
-}
-
-fn copy_of(alloc: Global, slots: &Slots) -> Result<Slots, AllocError>
-    ensures { IfOk result (λ m. slots_view m.entries ≡ slots_view slots.now.entries) }
-{
-    let mut copy = Slots::new(alloc);
-    for (name, slot) in slots.iter() {
-        let slot = Slot {
-            presence: slot.presence,
-            kind: slot.kind.clone()?,
-        };
-        put_slot(&mut copy, name.clone()?, slot)?;
-    }
-    Ok(copy)
 }
 
 // What is found once the play of that number is done, which may not name the host.

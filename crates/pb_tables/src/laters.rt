@@ -2,12 +2,10 @@
 // what the inventory says.
 ghost use Rattle.std.specs.Prelude.{◌≡◌, All, IfOk, OnOk, length, map};
 ghost use Rattle.pb_language.specs.Program.{Program};
-ghost use Rattle.pb_language.specs.Tables.{known_views};
 ghost use Rattle.pb_language.specs.Verdict.{found_laters};
 ghost use Rattle.pb_lattice.specs.Words.{names_of};
 ghost use Rattle.pb_inventory.specs.Words.{inventory_view};
 ghost use Rattle.pb_walks.specs.Words.{LatersAgree};
-ghost use Rattle.pb_hosts.specs.Words.{views_view};
 ghost use Rattle.pb_tables.specs.Listed.{lasting_lists, lasting_there, nobody_yet, put_at};
 ghost use Rattle.pb_tables.specs.Listed.{put_each, put_last};
 ghost use Rattle.pb_tables.specs.Scenes.{AreScenes};
@@ -16,7 +14,7 @@ ghost use Rattle.pb_tables.specs.Tabled.{AreBeside, IsStage, laters_in};
 use crate::host::host_lasting;
 use crate::scene::Scene;
 use crate::table::{PlayLaters, Stage};
-use pb_hosts::{Lasting, Views};
+use pb_hosts::Lasting;
 use pb_lattice::Environments;
 use pb_play::Strategy;
 use std::alloc::{AllocError, Global};
@@ -30,13 +28,9 @@ use std::sync::Arc;
 pub fn laters_of(
     alloc: Global,
     stage: &Stage<'_, '_>,
-    views: &Views<'_>,
     space: Environments,
 ) -> Result<(PlayLaters, Environments), AllocError>
     requires stage { IsStage stage.now }
-    requires inventory { views.now.inventory.now ≡ stage.now.inventory.now }
-    requires views { views_view views.now
-        ≡ known_views (inventory_view stage.now.inventory.now).hosts }
     requires names { space.names ≡ names_of stage.now.names.now }
     ensures names { IfOk result (λ r. r.1.names ≡ space.names) }
     ensures beside { IfOk result
@@ -49,7 +43,7 @@ pub fn laters_of(
     let mut space = space;
     let mut laters = nobody_lasting(alloc, stage.scenes)?;
     for host in 0..stage.inventory.hosts() {
-        let lasting = host_lasting(alloc, stage, views, host, &mut space)?;
+        let lasting = host_lasting(alloc, stage, host, &mut space)?;
         laters = with_lasting(alloc, laters, lasting)?;
         space = space.emptied(alloc)?;
     }

@@ -72,15 +72,17 @@ pub fn outcome_of<'i>(
         (found_laters ps (inventory_view inventory.entry.now)))) }
 {
     let groups = groups_kind(alloc, inventory)?;
+    let known = Views::of(alloc, inventory)?;
     let space = Environments::new(alloc, copies(alloc, &names)?)?;
     let stage = Stage {
         inventory,
         scenes,
+        known: &known,
         groups: &groups,
         names: &names,
     };
-    let views = Views::of(alloc, inventory)?;
-    let (laters, space) = laters_of(alloc, &stage, &views, space)?;
+    let (laters, space) = laters_of(alloc, &stage, space)?;
+    let views = known.copy(alloc)?;
     last_round(alloc, &stage, Tables { views, laters }, space)
 }
 

@@ -10,6 +10,8 @@ use std::sync::Arc;
 pub struct Stage<'i, 's> {
     pub inventory: &'i Inventory,
     pub scenes: &'s [Scene<'i>],
+    /// What the inventory says of the variables of hosts.
+    pub known: &'s Views<'i>,
     /// The kind of all groups.
     pub groups: &'s Kind,
     /// The names of all variables, in the order of their bytes.

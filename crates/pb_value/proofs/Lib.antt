@@ -10,3 +10,4 @@ pub mod GrowLemmas
 pub mod Adding
 mod Merging
 mod Texts
+mod Few

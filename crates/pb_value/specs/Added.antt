@@ -1,10 +1,11 @@
 -- What is known of a name, or of results, where a kind is joined to another.
 use Rattle.std.specs.Prelude.{◌≡◌, ℕ, List, Bool, true, false, Option, None, Some, String, cond}
-use Rattle.std.specs.Prelude.{string_bytes}
+use Rattle.std.specs.Prelude.{◌&&◌, string_bytes}
 use Rattle.std.specs.Str.{bytes_eq}
 use Rattle.std.specs.declared.alloc.Global.{Global}
 use denote.Ref.{Bor}
-use Rattle.pb_semantics.specs.Kind.{Cases, KindData, Spot, nowhere, results}
+use Rattle.pb_semantics.specs.Kind.{Cases, KindData, Slots, Spot, is_listed, no_slots, nowhere}
+use Rattle.pb_semantics.specs.Kind.{results, slot}
 use Rattle.pb_semantics.specs.Join.{join_spot}
 use Rattle.pb_semantics.specs.Grown.{met}
 use Rattle.pb_value.specs.Found.{spot_view}
@@ -25,3 +26,8 @@ spot_of n (Some e) = cond (bytes_eq n (string_bytes e.0.now)) (spot_view (Some e
 abbrev pub NoneNew : Bool → Cases → Cases → Type 0
 NoneNew b cs ds =
     (q r : KindData) → met b q r ≡ r → met b (results ds q) (results cs r) ≡ results cs r
+
+-- whether the first list each field that is certain among the second
+abbrev pub lists_sure : Slots → Slots → Bool
+lists_sure ss no_slots = true
+lists_sure ss (slot n a k ts) = cond a (is_listed n ss) true && lists_sure ss ts

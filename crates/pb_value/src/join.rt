@@ -1,6 +1,6 @@
 // The least kind above two others.
 ghost use Rattle.std.specs.Prelude.{[], ◌&&◌, ◌∷◌, ◌≡◌, IfOk, IfSome, OnOk, Some, false, map};
-ghost use Rattle.std.specs.Prelude.{max, nat_le, string_bytes};
+ghost use Rattle.std.specs.Prelude.{max, nat_le, string_bytes, true};
 ghost use Rattle.pb_semantics.specs.Words.{add_cases as both_cases, add_names, append_cases, hosts};
 ghost use Rattle.pb_semantics.specs.Words.{join as join_of, join_slots as both_slots, joined};
 ghost use Rattle.pb_semantics.specs.Words.{kind_with, new_cases, presence_with, put_slot};
@@ -8,12 +8,13 @@ ghost use Rattle.pb_semantics.specs.Words.{record_with, recs, results, with_othe
 ghost use Rattle.pb_value.specs.KindView.{cases_view, is_always as is_certain, kind_view};
 ghost use Rattle.pb_value.specs.KindView.{slots_view};
 ghost use Rattle.pb_value.specs.KindWeight.{kind_weight};
+ghost use Rattle.pb_value.specs.Added.{lists_sure};
 ghost use Rattle.pb_value.specs.Found.{spot_view};
 ghost use Rattle.pb_value.specs.Joins.{IsMet};
 
 use crate::adds::adds_nothing;
 use crate::below::{find, has_field, is_covered};
-use crate::kind::{Case, Kind, Presence, Slot, Slots, put_slot, weight};
+use crate::kind::{Case, Kind, Presence, Slot, Slots, copy_slots, put_slot, weight};
 use crate::same::is_same;
 use crate::weight::Weighed;
 use std::alloc::{AllocError, Global};
@@ -64,7 +65,7 @@ fn join_parts(alloc: Global, first: &Kind, second: &Kind) -> Result<Kind, AllocE
 }
 
 /// The least kind above both. Where it is seen that one of them adds nothing to the other, it is a
-/// copy of that one, which shares all; else it shares the fields and cases that only one of them has.
+/// copy of that other, which shares all; else it shares the fields and cases that only one has.
 ///
 /// # Errors
 ///
@@ -175,8 +176,90 @@ pub fn join_slots(alloc: Global, first: &Slots, second: &Slots) -> Result<Slots,
     ensures { IfOk result (λ s. slots_view s.entries
         ≡ both_slots (slots_view first.now.entries) (slots_view second.now.entries)) }
 {
+    if are_few(first, second) {
+        return join_few_first(alloc, first, second);
+    }
+    if are_few(second, first) {
+        return join_few_last(alloc, first, second);
+    }
     let mut all = meet_slots(alloc, first, second)?;
     add_others(&mut all, first, second)?;
+    Ok(all)
+}
+
+// Whether the few are far fewer than the many, of which those that they don't list would stay as
+// they are.
+fn are_few(few: &Slots, many: &Slots) -> bool
+    ensures { result ≡ true → lists_sure (slots_view few.now.entries)
+        (slots_view many.now.entries) ≡ true }
+{
+    few.len() < many.len() / 8 && lists_certain(few, many)
+}
+
+// Whether the few list each field that is certain among the many.
+fn lists_certain(few: &Slots, many: &Slots) -> bool
+    ensures { result ≡ lists_sure (slots_view few.now.entries) (slots_view many.now.entries) }
+{
+    for (name, slot) in many.iter() {
+        if slot.presence.is_always() && !has_field(few, name.as_str()) {
+            return false;
+        }
+    }
+    true
+}
+
+// The join where the few come first: a copy of the many, into which each of the few is put with
+// what the many know of it.
+#[cycle(join)]
+fn join_few_first(alloc: Global, few: &Slots, many: &Slots) -> Result<Slots, AllocError>
+    ensures { lists_sure (slots_view few.now.entries) (slots_view many.now.entries) ≡ true
+        → IfOk result (λ s. slots_view s.entries
+        ≡ both_slots (slots_view few.now.entries) (slots_view many.now.entries)) }
+{
+    // What a map says of its order.
+    let _ = many.len();
+    let mut all = copy_slots(many)?;
+    let mut last = None;
+    for (name, slot) in few.iter() {
+        let found = find(many, name.as_str());
+        put_met(
+            alloc,
+            &slot.kind,
+            slot.presence,
+            found,
+            &mut all,
+            name,
+            &mut last,
+        )?;
+    }
+    Ok(all)
+}
+
+// The same where the many come first.
+#[cycle(join)]
+fn join_few_last(alloc: Global, many: &Slots, few: &Slots) -> Result<Slots, AllocError>
+    ensures { lists_sure (slots_view few.now.entries) (slots_view many.now.entries) ≡ true
+        → IfOk result (λ s. slots_view s.entries
+        ≡ both_slots (slots_view many.now.entries) (slots_view few.now.entries)) }
+{
+    // What a map says of its order.
+    let _ = many.len();
+    let mut all = copy_slots(many)?;
+    let mut last = None;
+    for (name, slot) in few.iter() {
+        match many.get(name.as_str()) {
+            Some(own) => put_met(
+                alloc,
+                &own.kind,
+                own.presence,
+                Some(slot),
+                &mut all,
+                name,
+                &mut last,
+            )?,
+            None => put_uncertain(&mut all, name, &slot.kind)?,
+        }
+    }
     Ok(all)
 }
 

@@ -35,94 +35,82 @@ pub(crate) fn names_of(
 {
     let mut names = BTreeSet::new(alloc);
     for name in FACTS {
-        put(alloc, &mut names, name)?;
+        names.insert(name)?;
     }
     for host in 0..inventory.hosts() {
-        put_variables(alloc, inventory, host, &mut names)?;
+        put_variables(inventory, host, &mut names)?;
     }
     for play in plays {
-        put_play(alloc, play, &mut names)?;
+        put_play(play, &mut names)?;
     }
     listed(alloc, &names)
 }
 
-fn put(alloc: Global, names: &mut BTreeSet<String>, name: &str) -> Result<(), AllocError> {
-    if !names.contains(name) {
-        names.insert(String::from_str(alloc, name)?)?;
-    }
-    Ok(())
-}
-
-fn put_variables(
-    alloc: Global,
-    inventory: &Inventory,
+fn put_variables<'n>(
+    inventory: &'n Inventory,
     host: usize,
-    names: &mut BTreeSet<String>,
+    names: &mut BTreeSet<&'n str>,
 ) -> Result<(), AllocError>
     requires { host < length (inventory_view inventory.now).hosts }
 {
     for layer in inventory.vars_of(host) {
         for (name, _) in layer.iter() {
-            put(alloc, names, name.as_str())?;
+            names.insert(name.as_str())?;
         }
     }
     Ok(())
 }
 
-fn put_play(alloc: Global, play: &Play, names: &mut BTreeSet<String>) -> Result<(), AllocError> {
-    put_steps(alloc, &play.pre_tasks, names)?;
-    put_steps(alloc, &play.tasks, names)?;
-    put_steps(alloc, &play.post_tasks, names)?;
+fn put_play<'n>(play: &'n Play, names: &mut BTreeSet<&'n str>) -> Result<(), AllocError> {
+    put_steps(&play.pre_tasks, names)?;
+    put_steps(&play.tasks, names)?;
+    put_steps(&play.post_tasks, names)?;
     for handler in &play.handlers {
-        put_task(alloc, &handler.task, names)?;
+        put_task(&handler.task, names)?;
     }
     Ok(())
 }
 
 #[cycle(steps)]
-fn put_steps(
-    alloc: Global,
-    steps: &[Step],
-    names: &mut BTreeSet<String>,
-) -> Result<(), AllocError> {
+fn put_steps<'n>(steps: &'n [Step], names: &mut BTreeSet<&'n str>) -> Result<(), AllocError> {
     for step in steps {
-        put_step(alloc, step, names)?;
+        put_step(step, names)?;
     }
     Ok(())
 }
 
 #[cycle(steps)]
-fn put_step(alloc: Global, step: &Step, names: &mut BTreeSet<String>) -> Result<(), AllocError> {
+fn put_step<'n>(step: &'n Step, names: &mut BTreeSet<&'n str>) -> Result<(), AllocError> {
     match step {
-        Step::Task(task) => put_task(alloc, task, names),
+        Step::Task(task) => put_task(task, names),
         Step::Block(block) => {
-            put_steps(alloc, &block.body, names)?;
-            put_steps(alloc, &block.rescue, names)?;
-            put_steps(alloc, &block.always, names)
+            put_steps(&block.body, names)?;
+            put_steps(&block.rescue, names)?;
+            put_steps(&block.always, names)
         }
         Step::Flush(_) => Ok(()),
     }
 }
 
 // What the task registers and what it sets.
-fn put_task(alloc: Global, task: &Task, names: &mut BTreeSet<String>) -> Result<(), AllocError> {
+fn put_task<'n>(task: &'n Task, names: &mut BTreeSet<&'n str>) -> Result<(), AllocError> {
     if let Some(name) = &task.register {
-        put(alloc, names, name.as_str())?;
+        names.insert(name.as_str())?;
     }
     if let Work::SetFact = &task.work {
         for argument in &task.arguments {
-            put(alloc, names, argument.name.as_str())?;
+            names.insert(argument.name.as_str())?;
         }
     }
     Ok(())
 }
 
-fn listed(alloc: Global, names: &BTreeSet<String>) -> Result<Vec<String>, AllocError>
+fn listed(alloc: Global, names: &BTreeSet<&str>) -> Result<Vec<String>, AllocError>
     ensures { IfOk result (λ v. IsAscending (names_of v.items)) }
 {
     let mut list = Vec::with_capacity(alloc, names.len())?;
     for name in names.iter() {
-        list.push(name.clone()?)?;
+        list.push(String::from_str(alloc, name)?)?;
     }
     Ok(list)
 }

@@ -14,11 +14,8 @@ use Rattle.pb_walks.specs.Agree.{ExitsAgree}
 use Rattle.pb_hosts.specs.Shown.{views_view}
 use Rattle.pb_tables.specs.Tabled.{laters_in}
 use Rattle.pb_tables.proofs.HostFinds.{Left, all_done, found_all, next_left}
-use Rattle.pb_tables.proofs.HostSeen.{known_is_well, one_of}
+use Rattle.pb_tables.proofs.HostSeen.{one_of}
 use Rattle.pb_tables.proofs.host.host_found.Goals as goal
-
-pub entry_of-requires : goal.entry_of-requires
-entry_of-requires c = known_is_well (inventory_view c.args.stage.now.inventory.now).hosts c.args.host (slots_view c.in_ok-known.known.entries) c.requires.host c.in_ok-known.ensures
 
 pub loop-play-init : goal.loop-play-init
 loop-play-init c =
@@ -26,7 +23,7 @@ loop-play-init c =
     let i = inventory_view stage.inventory.now in
     let tables = c.args.tables.now in
     let views = views_view tables.views in
-    let known = slots_view c.in_ok-known.known.entries in
+    let known = slots_view c.known_at.result.now.entries in
     let from = exit_of c.entry_of.new.space c.in_ok-at.at in
     let view = slots_view c.slots.result.now.entries in
     let found = c.in_ok-found.found in
@@ -35,7 +32,7 @@ loop-play-init c =
       stands = c.in_ok-at.ensures.stands;
       next = subst (λ (ss : Slots). Well (recs ss)) (sym c.in_ok-found.ensures.next) c.slots.ensures.well;
       left = λ ps x a hx.
-          let begins : known_slots x.variables ≡ known = one_of (λ (h : HostVariables). known_slots h.variables) (slice_get i.hosts c.args.host) x known c.in_ok-known.ensures hx in
+          let begins : known_slots x.variables ≡ known = one_of (λ (h : HostVariables). known_slots h.variables) (slice_get i.hosts c.args.host) x known c.known_at.ensures.known hx in
           let its : view_of x.name views ≡ view =
           one_of (λ (h : HostVariables). view_of h.name views) (slice_get (inventory_view tables.views.inventory.now).hosts c.args.host) x view c.slots.ensures.named
           (ap (λ (j : read.Inventory). slice_get (inventory_view j).hosts c.args.host) c.requires.tables.inventory ∙ hx) in (

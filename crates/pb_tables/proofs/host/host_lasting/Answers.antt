@@ -15,19 +15,16 @@ use Rattle.pb_walks.specs.Agree.{ExitsAgree}
 use Rattle.pb_hosts.specs.Shown.{views_view}
 use Rattle.pb_hosts.specs.declared.lasting.Lasting.{Lasting}
 use Rattle.pb_tables.proofs.HostLasts.{LeftLasting, all_lasting, lasting_start, next_lasting}
-use Rattle.pb_tables.proofs.HostSeen.{known_is_well, one_of}
+use Rattle.pb_tables.proofs.HostSeen.{one_of}
 use Rattle.pb_tables.proofs.host.host_lasting.Goals as goal
-
-pub entry_of-requires : goal.entry_of-requires
-entry_of-requires c = known_is_well (inventory_view c.args.stage.now.inventory.now).hosts c.args.host (slots_view c.in_ok-known.known.entries) c.requires.host c.in_ok-known.ensures
 
 pub loop-play-init : goal.loop-play-init
 loop-play-init c =
     let stage = c.args.stage.now in
     let i = inventory_view stage.inventory.now in
-    let views = views_view c.args.views.now in
+    let views = views_view c.args.stage.now.known.now in
     let ns = names_of stage.names.now in
-    let known = slots_view c.in_ok-known.known.entries in
+    let known = slots_view c.known_at.result.now.entries in
     let from = exit_of c.entry_of.new.space c.in_ok-at.at in
     let nothing : c.in_ok-lastings.lastings.items ≡ [] = c.in_ok-lastings.ensures.items in
     record {
@@ -36,16 +33,16 @@ loop-play-init c =
       number = ap length nothing;
       beside = subst (λ (ls : List Lasting). All (λ x. length x.from.items ≡ length stage.names.now) ls) (sym nothing) (All-nil (λ (x : Lasting). length x.from.items ≡ length stage.names.now));
       left = λ ps x a hx.
-          let begins : known_slots x.variables ≡ known = one_of (λ (h : HostVariables). known_slots h.variables) (slice_get i.hosts c.args.host) x known c.in_ok-known.ensures hx in
+          let begins : known_slots x.variables ≡ known = one_of (λ (h : HostVariables). known_slots h.variables) (slice_get i.hosts c.args.host) x known c.known_at.ensures.known hx in
           subst (λ (ls : List Lasting). LeftLasting ns stage.inventory.now views stage.scenes.now x ps 0 from ls) (sym nothing)
-          (lasting_start ns stage.inventory.now views stage.scenes.now x ps from c.requires.views (subst (λ (ss : Slots). ExitsAgree from (live ss)) (sym begins) c.in_ok-at.ensures.same) a);
+          (lasting_start ns stage.inventory.now views stage.scenes.now x ps from c.requires.stage.known (subst (λ (ss : Slots). ExitsAgree from (live ss)) (sym begins) c.in_ok-at.ensures.same) a);
     }
 
 pub loop-play-preserved : goal.loop-play-preserved
 loop-play-preserved c =
     let l = c.loop-play in
     let stage = c.args.stage.now in
-    let views = views_view c.args.views.now in
+    let views = views_view c.args.stage.now.known.now in
     let ns = names_of stage.names.now in
     let done = l.lastings.items in
     let lasting = c.in_ok-lasting.lasting in
@@ -63,7 +60,7 @@ loop-play-preserved c =
       left = λ ps x a hx.
           subst (λ (ls : List Lasting). LeftLasting ns stage.inventory.now views stage.scenes.now x ps (l.play + 1) to ls) (sym more)
           (subst (λ n. LeftLasting ns stage.inventory.now views stage.scenes.now x ps n to (done ++ lasting ∷ [])) next
-          (next_lasting ns stage.inventory.now views stage.scenes.now x c.args.views.now.well ps l.play from to done lasting within (stands_well l.space l.at l.invariant.stands)
+          (next_lasting ns stage.inventory.now views stage.scenes.now x c.args.stage.now.known.now.well ps l.play from to done lasting within (stands_well l.space l.at l.invariant.stands)
           (record { named = λ s p is b n. c.in_ok-lasting.ensures.named s p x is b hx n; others = λ s p is b n. c.in_ok-lasting.ensures.others s p x is b hx n }) (l.invariant.left ps x a hx)));
     }
 
@@ -72,4 +69,4 @@ returns-clause-lasts c = λ ps x a hx.
     let l = c.loop-play in
     let stage = c.args.stage.now in
     let past : length stage.scenes.now ≤ l.play = omega arith in
-    all_lasting (names_of stage.names.now) stage.inventory.now (views_view c.args.views.now) stage.scenes.now x c.args.views.now.well ps l.play (exit_of l.space l.at) l.lastings.items past (l.invariant.left ps x a hx)
+    all_lasting (names_of stage.names.now) stage.inventory.now (views_view c.args.stage.now.known.now) stage.scenes.now x c.args.stage.now.known.now.well ps l.play (exit_of l.space l.at) l.lastings.items past (l.invariant.left ps x a hx)

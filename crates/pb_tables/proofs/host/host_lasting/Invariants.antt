@@ -17,5 +17,5 @@ invariant-loop-play l = record {
   number : length l.lastings.items ≡ l.play;
   beside : All (λ x. length x.from.items ≡ length l.stage.names.now) l.lastings.items;
   left : (ps : Program) (x : HostVariables) → AreScenes l.stage.inventory.now ps l.stage.scenes.now → slice_get (inventory_view l.stage.inventory.now).hosts l.host ≡ Some x
-      → LeftLasting (names_of l.stage.names.now) l.stage.inventory.now (views_view l.views) l.stage.scenes.now x ps l.play (exit_of l.space l.at) l.lastings.items;
+      → LeftLasting (names_of l.stage.names.now) l.stage.inventory.now (views_view l.stage.known.now) l.stage.scenes.now x ps l.play (exit_of l.space l.at) l.lastings.items;
 }

@@ -11,7 +11,8 @@ from run import LOAD, PROGRAM, TIMED_LOAD, against_json_load, at_most, in_rounds
 LARGE, SMALL = 503, 251
 HANDLERS = 64
 WORDS = "installs the package, writes what it needs and looks whether it runs; " * 12
-FIRST_UNBUILT = "refused N00 line {} host -\n"
+# The play is on line 1 and the first block on line 2; its first task reads `ready`, which nothing sets.
+VERDICT = "refused V01 line 3 host web1\n"
 
 
 def calling(number):
@@ -55,13 +56,12 @@ def commands(program, folder):
     hosts = write(folder, "hosts.json", {"all": {"hosts": ["web1"]}})
     large = write(folder, "large.json", book(LARGE))
     small = write(folder, "small.json", book(SMALL))
-    unbuilt = FIRST_UNBUILT.format(1)
     print(f"a book of {os.path.getsize(large):,} bytes, and one of {os.path.getsize(small):,}")
     return {
         "python": ([sys.executable, "-c", LOAD, large],),
         "load": ([sys.executable, "-c", TIMED_LOAD, large],),
-        "small": ([program, "check", small, "-i", hosts], unbuilt, 1),
-        "check": ([program, "check", large, "-i", hosts], unbuilt, 1),
+        "small": ([program, "check", small, "-i", hosts], VERDICT, 1),
+        "check": ([program, "check", large, "-i", hosts], VERDICT, 1),
     }
 
 

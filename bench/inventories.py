@@ -10,7 +10,7 @@ from run import LOAD, PROGRAM, TIMED_LOAD, against_json_load, at_most, in_rounds
 LARGE, SMALL = 1024, 256  # hosts, of which 1,024 are the most that an inventory may have
 VARIABLES = 40  # of each host
 TOGETHER = 16  # hosts of a group
-NOT_BUILT = "refused N00 line 0 host -\n"
+VERDICT = "accepted budget 0\n"  # on the empty book
 
 
 def variables(host):
@@ -36,8 +36,8 @@ def commands(program, folder):
     return {
         "python": ([sys.executable, "-c", LOAD, large],),
         "load": ([sys.executable, "-c", TIMED_LOAD, large],),
-        "small": ([program, "check", book, "-i", small], NOT_BUILT, 1),
-        "check": ([program, "check", book, "-i", large], NOT_BUILT, 1),
+        "small": ([program, "check", book, "-i", small], VERDICT, 0),
+        "check": ([program, "check", book, "-i", large], VERDICT, 0),
     }
 
 

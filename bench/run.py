@@ -62,14 +62,14 @@ def measured(words, wanted=None, ended=0):
     return seconds, usage.ru_maxrss, printed
 
 
-def in_rounds(commands):
+def in_rounds(commands, rounds=ROUNDS):
     """Of each command by its name, the figures of its runs.
 
     Each round runs every command, so that what slows the machine for a while falls on all of them; twice, of which the
     second counts, so that none pays for what ran before it.
     """
     taken = {name: [] for name in commands}
-    for _ in range(ROUNDS):
+    for _ in range(rounds):
         for name, command in commands.items():
             measured(*command)
             taken[name].append(measured(*command))

@@ -442,7 +442,6 @@ def within_bars(outcome):
 def growths():
     rows = [
         ("list-of-records", listed_records, 4_000),
-        ("fields-line-by-line", fields_by_line, 2_000),
         ("lines-of-many-fields", lines_of_many_fields, 200),
         ("lines-of-a-variable", lines_of_a_variable, 200),
     ]

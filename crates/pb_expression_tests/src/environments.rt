@@ -5,7 +5,7 @@ ghost use Rattle.pb_lattice.specs.Words.{Stands};
 use pb_lattice::environment::{is_below, join};
 use pb_lattice::{Environment, Environments};
 use pb_transfer::{Set, with_register, with_sets};
-use pb_value::{Kind, Slot};
+use pb_value::{Kind, Slot, Slots, copy_slots, put_slot};
 use std::alloc::Global;
 use std::sync::Arc;
 use std::test::Fail;
@@ -61,6 +61,22 @@ fn written(rt: HostRuntime) -> Result<(), Fail> {
     assert!(rt; is_number(&space, set, false));
     let none = space.empty();
     assert!(rt; with_register(&mut space, none, Some("out"), &Kind::Int).is_err());
+    Ok(())
+}
+
+// An environment that is made of all slots at once, and of a copy of them; a table that isn't over a
+// name has no room.
+#[test]
+fn made_at_once(rt: HostRuntime) -> Result<(), Fail> {
+    let mut space = one_name(rt.alloc())?;
+    let mut slots = Slots::new(rt.alloc());
+    put_slot(&mut slots, String::from_str(rt.alloc(), "rc")?, Slot::always(Kind::Int))?;
+    let copy = copy_slots(&slots)?;
+    let made = space.of_slots(rt.alloc(), &copy)?;
+    assert!(rt; is_number(&space, made, true));
+    let mut others = Slots::new(rt.alloc());
+    put_slot(&mut others, String::from_str(rt.alloc(), "out")?, Slot::always(Kind::Int))?;
+    assert!(rt; space.of_slots(rt.alloc(), &others).is_err());
     Ok(())
 }
 

@@ -1,0 +1,172 @@
+# Measures verdicts on whole books and prints each figure with its bar: python3 bench/verdicts.py [PROGRAM]
+import os
+import sys
+import tempfile
+
+sys.dont_write_bytecode = True
+
+from run import PROGRAM, at_most, in_rounds, line, ms, write
+
+TASKS = 500
+HANDLERS = 20
+HOSTS, GROUPS = 1_000, 20
+MOST_LINES, MOST_HOSTS = 4_096, 1_024
+FEW_ROUNDS = 2  # of what takes seconds
+
+# Of a block's eight tasks four call a module; the rescue part is counted too.
+TASKS_OF_A_BLOCK, LINES_OF_A_BLOCK, CALLS_OF_A_BLOCK = 8, 9, 4
+
+
+def block(number):
+    """A package, its settings and its service: five tasks, two that undo them and one that tells of it."""
+    register = f"installed_{number}"
+    return {
+        "name": f"Package {number}",
+        "block": [
+            {"name": "Install", "command": f"install {{{{ package_{number % 9} }}}} {number}", "register": register},
+            {"name": "Tell", "debug": {"msg": f"{{{{ {register}.stdout }}}}"}, "when": f"{register} is changed"},
+            {"name": "Write", "copy": {"dest": f"/etc/{number}", "content": "port {{ port }}"}, "notify": [handler_name(number)]},
+            {"name": "Count", "set_fact": {f"done_{number % 50}": f"{{{{ {register}.rc | default(0) }}}}"}},
+            {"name": "Start", "service": {"name": f"package-{number}", "state": "started"}},
+        ],
+        "rescue": [
+            {"name": "Undo", "command": f"remove {number}"},
+            {"name": "Tell the failure", "debug": {"msg": "package {{ port }} is taken back"}},
+        ],
+        "always": [{"name": "Tell the end", "debug": {"msg": "{{ zone }}"}}],
+        "when": "ready",
+    }
+
+
+def handler_name(number):
+    return f"Restart {number % HANDLERS}"
+
+
+def handler(number):
+    return {"name": handler_name(number), "service": {"name": f"package-{number}", "state": "restarted"}}
+
+
+def book(tasks):
+    """So many tasks in blocks, the last block of fewer tasks, and handlers."""
+    blocks = [block(number) for number in range(tasks // TASKS_OF_A_BLOCK)]
+    rest = [{"name": f"Ping {number}", "ping": None} for number in range(tasks % TASKS_OF_A_BLOCK)]
+    handlers = [handler(number) for number in range(HANDLERS)]
+    names = {f"package_{number}": f"package-{number}" for number in range(9)}
+    return [{"hosts": "all", "gather_facts": False, "vars": names, "tasks": blocks + rest, "handlers": handlers}]
+
+
+def calls(tasks, hosts):
+    """The modules that such a book calls at most, its handlers at its one flush."""
+    return (tasks // TASKS_OF_A_BLOCK * CALLS_OF_A_BLOCK + tasks % TASKS_OF_A_BLOCK + HANDLERS) * hosts
+
+
+def most_tasks():
+    """The tasks of the longest book: a line for the play, each block, task and handler."""
+    lines = MOST_LINES - 1 - HANDLERS
+    return lines // LINES_OF_A_BLOCK * TASKS_OF_A_BLOCK + lines % LINES_OF_A_BLOCK
+
+
+def inventory(hosts):
+    """Hosts in groups, each with a variable of its own beside those of all."""
+    names = [f"web{number:04}" for number in range(hosts)]
+    groups = {f"zone{g:02}": {"hosts": names[g::GROUPS], "vars": {"zone": f"zone {g}"}} for g in range(GROUPS)}
+    groups = {name: group for name, group in groups.items() if group["hosts"]}
+    return groups | {"all": {"vars": {"ready": True, "port": 8080}, "children": list(groups)}}
+
+
+def doubling(lines):
+    """A value whose kind is twice as large at each line, until it is too heavy."""
+    steps = [{"set_fact": {f"a{n + 1}": {"f": f"{{{{ a{n} }}}}", "g": f"{{{{ a{n} }}}}"}}} for n in range(lines)]
+    return [{"hosts": "all", "gather_facts": False, "tasks": [{"set_fact": {"a0": 1}}] + steps}]
+
+
+def chained():
+    """Eight names of `vars`, each of which reads the next one seven times."""
+    values = {f"v{n}": f"{{{{ v{n + 1} }}}}" * 7 for n in range(7)}
+    task = {"debug": {"msg": "{{ v0 }}"}}
+    return [{"hosts": "all", "gather_facts": False, "vars": values | {"v7": "x"}, "tasks": [task]}]
+
+
+def nested(levels):
+    """So many blocks in one another, each with an `always` part, whose tasks have a node for each of its two modes."""
+    step = {"ping": None}
+    for level in range(levels):
+        step = {"block": [step, {"debug": {"msg": "b"}}], "always": [{"ping": None, "register": f"r{level}"}]}
+    return [{"hosts": "all", "gather_facts": False, "tasks": [step]}]
+
+
+def check(program, folder, name, tasks, hosts):
+    """The words of the check of such a book on so many hosts, and its verdict."""
+    path = write(folder, f"{name}.json", book(tasks))
+    listed = write(folder, f"{name}_hosts.json", inventory(hosts))
+    return ([program, "check", path, "-i", listed], f"accepted budget {calls(tasks, hosts)}\n")
+
+
+def quick(program, folder):
+    empty = write(folder, "empty.json", [])
+    return {
+        "empty": ([program, "check", empty, "-i", write(folder, "one.json", inventory(1))], "accepted budget 0\n"),
+        "one": check(program, folder, "one_host", TASKS, 1),
+        "twice": check(program, folder, "twice_the_tasks", 2 * TASKS, 1),
+    }
+
+
+def large(program, folder):
+    return {
+        "hosts": check(program, folder, "hosts", TASKS, HOSTS),
+        "half": check(program, folder, "half_the_hosts", TASKS, HOSTS // 2),
+        "most": check(program, folder, "most", most_tasks(), MOST_HOSTS),
+    }
+
+
+def hostile(program, folder):
+    hosts = write(folder, "h1.json", {"all": {"hosts": ["h1"]}})
+    books = {
+        "80 lines that double a kind": (doubling(80), "", 3),  # want of memory, by name
+        "8 names that read 7 each": (chained(), "accepted budget 0\n", 0),
+        "16 nested `always`": (nested(16), "accepted budget 17\n", 0),
+    }
+    found = {}
+    for name, (made, said, status) in books.items():
+        found[name] = ([program, "check", write(folder, f"{name[:2]}.json", made), "-i", hosts], said, status)
+    return found
+
+
+def megabytes(figures):
+    return figures.memory / 1024
+
+
+def within(name, figures, seconds, memory):
+    figure = f"{figures.seconds:.2f} s, {megabytes(figures):,.0f} MB"
+    reached = figures.seconds <= seconds and megabytes(figures) <= memory
+    line(name, figure, f"at most {seconds} s, {memory:,} MB", reached)
+
+
+def print_quick(found):
+    over = found["one"].seconds - found["empty"].seconds
+    detail = f"{ms(found['one'].seconds)} less {ms(found['empty'].seconds)}"
+    line(f"{TASKS} tasks on one host over an empty book", f"{ms(over)} ({detail})", "at most 4 ms", over <= 0.004)
+    twice = (found["twice"].seconds - found["empty"].seconds) / over
+    at_most("twice the tasks, both less an empty book", twice, 2.2, ms(found["twice"].seconds))
+
+
+def print_large(found):
+    within(f"{TASKS} tasks on {HOSTS:,} hosts", found["hosts"], 3, 500)
+    ratio = found["hosts"].seconds / found["half"].seconds
+    at_most("twice the hosts", ratio, 2.2, f"{ms(found['hosts'].seconds)} over {ms(found['half'].seconds)}")
+    within(f"{MOST_LINES:,} lines on {MOST_HOSTS:,} hosts", found["most"], 30, 2_048)
+
+
+def main():
+    program = os.path.abspath(sys.argv[1] if len(sys.argv) > 1 else PROGRAM)
+    if not os.access(program, os.X_OK):
+        sys.exit(f"{program} isn't there; ./playcheck --help builds it")
+    with tempfile.TemporaryDirectory() as folder:
+        print_quick(in_rounds(quick(program, folder)))
+        print_large(in_rounds(large(program, folder), FEW_ROUNDS))
+        for name, figures in in_rounds(hostile(program, folder), FEW_ROUNDS).items():
+            within(name, figures, 2, 1_024)
+
+
+if __name__ == "__main__":
+    main()

@@ -27,5 +27,6 @@ pub fn entry_of(
     ensures same { IfOk result (λ e.
         ExitsAgree (exit_of space.new e) (live (slots_view known.now.entries))) }
 {
-    space.of_slots(alloc, known)
+    let at = space.of_slots(alloc, known)?;
+    Ok(at)
 }

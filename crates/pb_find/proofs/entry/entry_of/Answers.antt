@@ -4,4 +4,4 @@ use Rattle.pb_find.proofs.Entering.{agrees_with}
 use Rattle.pb_find.proofs.entry.entry_of.Goals as goal
 
 pub returns-clause-same : goal.returns-clause-same
-returns-clause-same c = agrees_with (slots_view c.args.known.now.entries) (exit_of c.of_slots.new.self c.in_ok-of_slots.field-0) c.requires c.in_ok-of_slots.ensures.means
+returns-clause-same c = agrees_with (slots_view c.args.known.now.entries) (exit_of c.of_slots.new.self c.in_ok-at.at) c.requires c.in_ok-at.ensures.means

@@ -70,12 +70,20 @@ fn written(rt: HostRuntime) -> Result<(), Fail> {
 fn made_at_once(rt: HostRuntime) -> Result<(), Fail> {
     let mut space = one_name(rt.alloc())?;
     let mut slots = Slots::new(rt.alloc());
-    put_slot(&mut slots, String::from_str(rt.alloc(), "rc")?, Slot::always(Kind::Int))?;
+    put_slot(
+        &mut slots,
+        String::from_str(rt.alloc(), "rc")?,
+        Slot::always(Kind::Int),
+    )?;
     let copy = copy_slots(&slots)?;
     let made = space.of_slots(rt.alloc(), &copy)?;
     assert!(rt; is_number(&space, made, true));
     let mut others = Slots::new(rt.alloc());
-    put_slot(&mut others, String::from_str(rt.alloc(), "out")?, Slot::always(Kind::Int))?;
+    put_slot(
+        &mut others,
+        String::from_str(rt.alloc(), "out")?,
+        Slot::always(Kind::Int),
+    )?;
     assert!(rt; space.of_slots(rt.alloc(), &others).is_err());
     Ok(())
 }

@@ -64,8 +64,8 @@ fn written(rt: HostRuntime) -> Result<(), Fail> {
     Ok(())
 }
 
-// An environment that is made of all slots at once, and of a copy of them; a table that isn't over a
-// name has no room.
+// An environment that is made of all slots at once, here of a copy of them; a table that isn't over
+// a name has no room.
 #[test]
 fn made_at_once(rt: HostRuntime) -> Result<(), Fail> {
     let mut space = one_name(rt.alloc())?;

@@ -4,8 +4,7 @@ use Rattle.std.proofs.Common.{◌≡◌, ◌∙◌, ℕ, zero, suc, ◌<◌, Lis
 use Rattle.std.proofs.lemmas.Option.{slice_get-get_or}
 use Rattle.std.specs.Option.{option_copied}
 use Rattle.pb_semantics.specs.Keeps.{is_among}
-use Rattle.pb_semantics.specs.Kind.{Slots, recs}
-use Rattle.pb_semantics.specs.Well.{Well}
+use Rattle.pb_semantics.specs.Kind.{Slots}
 use Rattle.pb_language.specs.Expression.{Name}
 use Rattle.pb_language.specs.Judgement.{Exit}
 use Rattle.pb_language.specs.Kinds.{known_slots}

@@ -1,4 +1,4 @@
-use Rattle.std.proofs.Common.{◌≡◌, ◌∙◌, ◌<◌, List, ap, length, option_map, slice_get, subst, sym}
+use Rattle.std.proofs.Common.{◌∙◌, ◌<◌, List, ap, length, option_map, slice_get, subst, sym}
 use Rattle.pb_language.specs.Scope.{View}
 use Rattle.pb_inventory.specs.Inventory.{inventory_view}
 use Rattle.pb_inventory.specs.declared.inventory.Inventory as read

@@ -1,5 +1,5 @@
 -- Few slots that are joined to many, of which those stay that the few don't list.
-use Rattle.std.proofs.Common.{◌≡◌, List, [], ◌∷◌, ℕ, Bool, true, false, ◌&&◌, cond, bytes_eq, string_bytes, refl, sym, ap, ◌∙◌}
+use Rattle.std.proofs.Common.{◌≡◌, List, ℕ, Bool, true, false, ◌&&◌, cond, bytes_eq, refl, sym, ap, ◌∙◌}
 use Rattle.pb_semantics.specs.Kind.{KindData, Slots, Spot, no_slots, slot, nowhere, spot, slot_at, is_listed, put_slot, is_there}
 use Rattle.pb_semantics.specs.Join.{join, join_slots, join_spot, presence_with, kind_with}
 use Rattle.pb_semantics.specs.Grown.{is_sure}
@@ -8,9 +8,7 @@ use Rattle.pb_semantics.proofs.Names.{same_name}
 use Rattle.pb_semantics.proofs.PutSlots.{at_put}
 use Rattle.pb_semantics.proofs.Slots.{listed_is_there}
 use Rattle.pb_semantics.proofs.Ascents.{Before, Ascend, before_unlisted, same_slots, ascend_put, ascend_met, at_met}
-use Rattle.pb_value.specs.KindView.{kind_view, slots_view}
 use Rattle.pb_value.specs.Added.{lists_sure}
-use Rattle.pb_value.proofs.KindLemmas.{SlotEntry}
 use Rattle.pb_value.proofs.JoinLemmas.{built}
 
 -- a name that the first don't list is not certain among the second

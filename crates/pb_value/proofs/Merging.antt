@@ -1,12 +1,12 @@
 -- Two records are gone over at once, each in the order of its names.
-use Rattle.std.proofs.Common.{◌≡◌, ℕ, Bor, List, [], ◌∷◌, Bool, true, false, Option, Some, None, is_some, not, cond, ◌&&◌, ◌||◌, String, Global, string_bytes, nat_cmp, bytes_eq, refl, sym, ap, ◌∙◌}
+use Rattle.std.proofs.Common.{◌≡◌, ℕ, Bor, List, Bool, true, false, Option, Some, None, is_some, not, cond, ◌&&◌, String, Global, string_bytes, nat_cmp, bytes_eq, refl, sym, ap, ◌∙◌}
 use Rattle.std.specs.Ordering.{ordering_reverse, is_eq}
 use Rattle.std.specs.declared.cmp.Ordering.{Ordering}
 use Rattle.std.specs.declared.cmp.Ordering.TheVariants.{Less, Equal, Greater}
 use Rattle.std.specs.Cmp.Lexicographic.{slice_cmp}
 use Rattle.std.proofs.lemmas.Cmp.{nat_list_cmp_total}
 use Rattle.std.proofs.lemmas.Map.Text.{is_eq-slice_cmp}
-use Rattle.pb_semantics.specs.Kind.{KindData, Slots, Spot, no_slots, slot, nowhere, spot, slot_at, is_listed, is_there}
+use Rattle.pb_semantics.specs.Kind.{KindData, Slots, Spot, no_slots, slot, nowhere, spot, is_listed, is_there}
 use Rattle.pb_semantics.specs.Below.{below, names_among, slots_below, spot_below}
 use Rattle.pb_semantics.proofs.Bools.{untrue}
 use Rattle.pb_semantics.proofs.Names.{same_name, own_name}

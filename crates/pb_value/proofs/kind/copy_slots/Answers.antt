@@ -1,4 +1,3 @@
-use Rattle.std.proofs.Common.{◌≡◌}
 use Rattle.pb_value.proofs.Copies.{slots_view-copy}
 use Rattle.pb_value.proofs.kind.copy_slots.Goals as goal
 

@@ -13,7 +13,7 @@ PROGRAM = TOP / "crates/pb_cli/out/pb_cli"
 CHECK = ["check", "examples/first/book.json", "-i", "examples/first/inventory.json"]
 VERDICT = b"accepted budget 4\n"  # the tasks of the book that call a module
 NO_KIT = b"playcheck: the program has to be built, and rt isn't on PATH\n"
-BUILDING = b"playcheck: building the program, which takes some minutes the first time\n"
+BUILDING = b"playcheck: building the program, which takes over an hour the first time\n"
 
 # In the place of the kit's: builds a program that says so.
 RT = """#!/bin/sh

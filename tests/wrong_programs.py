@@ -3,10 +3,11 @@
 #     python3 tests/wrong_programs.py --beside LOG, while rt ci runs and writes to LOG
 #
 # An edit says which function it makes wrong, and how (`function:`, then `file:`, `old:` and `new:`). A function is proved
-# against the contracts of what it calls and not against their bodies, so many edits are tried at once, none of them in a
-# function that leads to another's, and each has to be refused at its own function. That the same functions are proved as they
-# are is for rt ci to say, beside which it stands on copies of the libraries that that one builds; else it is tried before the
-# edits, over the libraries that were built last.
+# against the contracts of what it calls and not against their bodies, so all edits are tried at once, and each has to be
+# refused at its own function, by a goal of its own. Where a function's goals are all met and it waits for that of another
+# edit, it is tried again, with edits none of which is in a function that leads to another's. That the same functions are
+# proved as they are is for rt ci to say, beside which it stands on copies of the libraries that that one builds; else it is
+# tried before the edits, over the libraries that were built last.
 import importlib.machinery
 import importlib.util
 import os
@@ -26,6 +27,8 @@ TOP = Path(__file__).resolve().parent.parent
 FUNCTION = re.compile(r"^( *)(?:pub(?:\(crate\))? )?fn (\w+)", re.M)
 # What a line of a function says where its proof waits for that of another.
 WAITS = re.compile(r"it calls|it waits for|it passes the block")
+# What it says where a goal of its own isn't met.
+UNMET = re.compile(r"`search` did not prove|expected answers in ")
 # What is said of a stored answer that names what an edit took away, which says little of the contract.
 NAMES = re.compile(r"has no field|is not in scope|has no `|was not admitted")
 # A check that is killed, most likely for memory, is tried again.
@@ -54,6 +57,11 @@ class Edit:
 
     def last_name(self):
         return self.function.split("::")[-1]
+
+    def answers(self):
+        """Where its function's stored answers stand; `+` is before the name of a function that its module has too."""
+        *above, last = map(re.escape, self.function.split("::"))
+        return r"\./proofs/" + "/".join([*above, rf"\+?{last}"]) + "/"
 
     def is_of_code(self):
         return all(file.startswith("src/") for file, _, _ in self.changes)
@@ -130,8 +138,10 @@ class Trial:
                 told[edit] = False, f"BAD EDIT: {edit.function} isn't proved as it is: {last_line(proved)}"
             else:
                 left.append(edit)
+        are_tried = False
         while left:
-            decided = self.round(left)
+            decided = self.round(left, are_tried)
+            are_tried = True
             told |= decided
             left = [edit for edit in left if edit not in decided]
         return [(edit, *told[edit]) for edit in self.edits]
@@ -146,22 +156,27 @@ class Trial:
             time.sleep(60)
         return ran.stdout
 
-    def round(self, left):
-        """What is found of some of the edits, of one at least."""
+    def round(self, left, are_tried):
+        """What is found of some of the edits, of one at least. Once they were tried together, none leads to another."""
         chosen, texts = [], {}
         # those that lead to the fewest first
         for edit in sorted(left, key=lambda it: len(self.leads[it])):
-            with_it = edit.applied(self.folder, texts) if all(self.are_apart(edit, it) for it in chosen) else None
+            fits = self.are_apart if are_tried else self.are_of_two_functions
+            with_it = edit.applied(self.folder, texts) if all(fits(edit, it) for it in chosen) else None
             if with_it is not None:
                 chosen, texts = [*chosen, edit], with_it
         output = self.check(texts, chosen)
         decided = {edit: judged(output, edit) for edit in chosen if judged(output, edit)}
         return decided or {left[0]: self.judged_alone(left[0])}
 
+    def are_of_two_functions(self, edit, other):
+        """Whether either may be refused by goals of its own beside the other; an edit of a definition may be seen in any proof."""
+        return edit.is_of_code() and other.is_of_code() and edit.function != other.function
+
     def are_apart(self, edit, other):
-        """Whether what either breaks says nothing of the other; an edit of a definition may be seen in any proof."""
-        are_of_code = edit.is_of_code() and other.is_of_code()
-        return are_of_code and edit.last_name() not in self.leads[other] and other.last_name() not in self.leads[edit]
+        """Whether neither waits for the other."""
+        is_led = edit.last_name() in self.leads[other] or other.last_name() in self.leads[edit]
+        return self.are_of_two_functions(edit, other) and not is_led
 
     def judged_alone(self, edit):
         output = self.check(edit.applied(self.folder, {}), [edit])
@@ -179,13 +194,15 @@ def line_of(output, edit):
 
 
 def judged(output, edit):
-    """Whether the edit is refused, and what to say; none where its function waits for the proof of another, or wasn't reached."""
+    """Whether the edit is refused, and what to say; none where its function only waits for the proof of another, or wasn't
+    reached."""
     line = line_of(output, edit)
     if line == "proved":
         return False, "NOT REFUSED: the function is still proved with this edit"
-    if not line or WAITS.search(line):
-        return None
     first = first_of(output, edit)
+    is_unmet = UNMET.search(line) or (first and not NAMES.search(first))
+    if not line or (WAITS.search(line) and not is_unmet):
+        return None
     only = " (only since a stored answer names what the edit took away)" if NAMES.search(first) else ""
     return True, f"refused{only}: {(first or line)[:160]}"
 
@@ -194,7 +211,7 @@ def first_of(output, edit):
     """The first thing said of the function's own proof, one that isn't only of names where there is one."""
     name = edit.last_name()
     # an edit of a definition may be refused in any lemma
-    own = re.compile(rf"\./proofs/\S*\b{name}/\S*: error|: error: `{name}-|\(`{name}-" if edit.is_of_code() else ": error")
+    own = re.compile(rf"{edit.answers()}\S*: error|: error: `{name}-|\(`{name}-" if edit.is_of_code() else ": error")
     said = [line for line in output.splitlines() if own.search(line)]
     return next((line for line in said if not NAMES.search(line)), said[0] if said else "")
 

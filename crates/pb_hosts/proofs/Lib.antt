@@ -2,6 +2,7 @@ pub mod Sames
 pub mod Rising
 pub mod Layers
 pub mod Places
+pub mod Distinct
 pub mod Searches
 pub mod Groups
 pub mod Casting

@@ -40,6 +40,10 @@ earlier_none None y h = (refl, h)
 earlier_none (Some x) None h = absurd (true≢false (cc))
 earlier_none (Some x) (Some y) h = untrue (chosen_none _ y x h)
 
+pub earlier_last : (x : Option Refusal) → earlier x None ≡ x
+earlier_last None = refl
+earlier_last (Some x) = refl
+
 fault_none : (o : Option Fault) (g : Fault → Refusal) → option_map g o ≡ None → o ≡ None
 fault_none None g h = refl
 fault_none (Some f) g h = absurd (true≢false (cc))

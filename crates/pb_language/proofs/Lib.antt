@@ -32,13 +32,7 @@ pub mod Least
 pub mod Short
 pub mod Certain
 pub mod Untaught
-pub mod SameOwn
-pub mod PlainLines
-pub mod PlainFlow
-pub mod PlainViews
 pub mod PlainRows
-pub mod PlainRules
-pub mod PlainJudged
 pub mod PlainSteps
 pub mod PlainGives
 pub mod PlainEval
@@ -53,7 +47,6 @@ pub mod OwnReads
 pub mod FlushOrder
 pub mod FlushesRepeat
 pub mod StartReads
-pub mod PlainTables
 pub mod Spots
 pub mod KindsUp
 pub mod ChangesUp

@@ -16,8 +16,8 @@ use Rattle.pb_language.specs.Start.{kept_argument, eval_arguments, eval_action, 
 use Rattle.pb_language.specs.Machine.{Event, State, enabled, happened, step, run_from, run, history}
 use Rattle.pb_language.specs.plain.Books.{PlainTask, lone_host, is_plain_work, is_plain_task}
 use Rattle.pb_language.specs.plain.Machine.{PlainRun, plain_state, plain_world, plain_step, plain_run_from, ended_opening}
-use Rattle.pb_language.specs.plain.Pass.{plain_action, plain_run}
-use Rattle.pb_language.proofs.PlainFlow.{simple_argument}
+use Rattle.pb_language.specs.plain.Tasks.{plain_action, plain_run}
+use Rattle.pb_language.proofs.PlainRows.{simple_argument}
 use Rattle.pb_language.proofs.PlainSteps.{runs_from}
 
 -- the host's own variables are the same in both, but for the shared names

@@ -21,7 +21,7 @@ use Rattle.pb_language.specs.Give.{Answer, object, unreachable, broken, Admitted
 use Rattle.pb_language.specs.plain.Books.{PlainTask}
 use Rattle.pb_language.specs.plain.Gives.{came_went, came_skipped, came_failed, came_unreached, put_all, result_writes, after_came, action_fields, a_pass}
 use Rattle.pb_language.specs.plain.Machine.{PlainRun, on_admitted, answered}
-use Rattle.pb_language.specs.plain.Pass.{plain_action, plain_run, work_calls}
+use Rattle.pb_language.specs.plain.Tasks.{plain_action, plain_run, work_calls}
 use Rattle.pb_language.proofs.WithSlot.{record_models}
 use Rattle.pb_language.proofs.After.{shape_well}
 use Rattle.pb_language.proofs.GivenFields.{at_put_field, failed_field}

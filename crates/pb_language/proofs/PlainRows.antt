@@ -1,19 +1,22 @@
--- The row of a play of plain tasks, and the calls in it.
-use Rattle.std.proofs.Common.{◌≡◌, ◌+◌, ℕ, suc, List, [], ◌∷◌, true, false, codes, Option, None, refl, arith}
+-- The row of a play of plain tasks.
+use Rattle.std.proofs.Common.{◌≡◌, ℕ, suc, List, [], ◌∷◌, Bool, true, false, cond, codes, bytes_eq, Option, Some, None, refl}
 use Rattle.pb_semantics.proofs.Bools.{untrue, and-left, and-right}
 use Rattle.pb_language.specs.Expression.{Name, equal, Expression, literal, path, negation, conjunction, disjunction, comparison, membership, list_of, record_of, variable, Expressions, no_expressions, expression, Parts, no_parts, part}
 use Rattle.pb_language.specs.Expansion.{expanded, all_expanded, parts_expanded, part_named, trees}
 use Rattle.pb_language.specs.Simple.{is_simple, are_simple, parts_simple}
-use Rattle.pb_language.specs.Task.{Handlers, no_handlers, Row, end, flush}
-use Rattle.pb_language.specs.Book.{Work, module_work, debug_work, set_fact_work, assert_work, fail_work, Registry}
+use Rattle.pb_language.specs.Task.{Handlers, no_handlers, Row, task, end, flush}
+use Rattle.pb_language.specs.Book.{Work, module_work, debug_work, set_fact_work, Registry}
 use Rattle.pb_language.specs.Plays.{Surroundings, argument_or, action_of, task_at, row_of, play_row}
-use Rattle.pb_language.specs.Setting.{Setting}
-use Rattle.pb_language.specs.Judgement.{Exit}
-use Rattle.pb_language.specs.Walk.{Visit, walk}
-use Rattle.pb_language.specs.Tables.{place_calls, row_calls}
 use Rattle.pb_language.specs.plain.Books.{PlainTask, task_data, plain_steps, plain_play, is_plain_work, is_plain_task, are_plain_tasks}
-use Rattle.pb_language.specs.plain.Pass.{plain_action, plain_run, work_calls, plain_calls}
-use Rattle.pb_language.proofs.PlainFlow.{simple_argument, plain_row}
+use Rattle.pb_language.specs.plain.Tasks.{plain_action, plain_run}
+
+-- a task's message is simple
+pub simple_argument : (n : Name) (ps : Parts) → parts_simple ps ≡ true → is_simple (argument_or (part_named n ps)) ≡ true
+simple_argument n no_parts s = refl
+simple_argument n (part m e ps) s = chosen (bytes_eq n m) (and-left (is_simple e) (parts_simple ps) s) (simple_argument n ps (and-right (is_simple e) (parts_simple ps) s)) where
+  chosen : (q : Bool) → is_simple e ≡ true → is_simple (argument_or (part_named n ps)) ≡ true → is_simple (argument_or (cond q (Some e) (part_named n ps))) ≡ true
+  chosen true s r = s
+  chosen false s r = r
 
 -- without `vars` a simple expression stays as it is
 module _ (f : Name → Option Expression) (none : (n : Name) → f n ≡ None) where
@@ -54,7 +57,11 @@ module _ (ms : Registry) where
     all_simple_expanded (trees no_parts) (λ n. refl) t.condition (and-left (are_simple t.condition) (is_plain_work t.work) a),
   ) refl
 
-  row_at : (hs : ℕ → Handlers) (p : ℕ) (ts : List PlainTask) (row : Row) → are_plain_tasks ts ≡ true → row_of hs 0 outside p (plain_steps ts) row ≡ plain_row ms p ts row
+  abbrev pub plain_row : ℕ → List PlainTask → Row → Row
+  plain_row p [] row = row
+  plain_row p (t ∷ ts) row = task (plain_run ms p t) (plain_row (suc p) ts row)
+
+  row_at : (hs : ℕ → Handlers) (p : ℕ) (ts : List PlainTask) (row : Row) → are_plain_tasks ts ≡ true → row_of hs 0 outside p (plain_steps ts) row ≡ plain_row p ts row
   row_at hs p [] row a = refl
   row_at hs p (t ∷ ts) row a = rw (run_at p t (and-left (is_plain_task t) (are_plain_tasks ts) a), row_at hs (suc p) ts row (and-right (is_plain_task t) (are_plain_tasks ts) a)) refl
 
@@ -63,28 +70,6 @@ module _ (ms : Registry) where
   plain_tail [] = end
   plain_tail (t ∷ ts) = flush no_handlers end
 
-  pub plain_play_row : (l : ℕ) (ts : List PlainTask) → are_plain_tasks ts ≡ true → play_row ms (plain_play l ts) ≡ plain_row ms 0 ts (plain_tail ts)
+  pub plain_play_row : (l : ℕ) (ts : List PlainTask) → are_plain_tasks ts ≡ true → play_row ms (plain_play l ts) ≡ plain_row 0 ts (plain_tail ts)
   plain_play_row l [] a = refl
   plain_play_row l (t ∷ ts) a = row_at (λ p. no_handlers) 0 (t ∷ ts) (flush no_handlers end) a
-
-  pub tail_visits : (st : Setting) (ts : List PlainTask) (e : Exit) → (walk st (plain_tail ts) e).visits ≡ []
-  tail_visits st [] e = refl
-  tail_visits st (t ∷ ts) e = refl
-
-  calls_here : (vs : List Visit) (p : ℕ) (t : PlainTask) (w : Work) → place_calls vs (plain_run ms p t) (plain_action ms w) ≡ work_calls w
-  calls_here vs p t (module_work n ps) = refl
-  calls_here vs p t (debug_work ps) = refl
-  calls_here vs p t (set_fact_work ps) = refl
-  calls_here vs p t (assert_work a ps) = refl
-  calls_here vs p t (fail_work ps) = refl
-
-  calls_in : (vs : List Visit) (p : ℕ) (ts : List PlainTask) (row : Row) → row_calls vs (plain_row ms p ts row) ≡ plain_calls ts + row_calls vs row
-  calls_in vs p [] row = omega arith
-  calls_in vs p (t ∷ ts) row = rw (calls_here vs p t t.work, calls_in vs (suc p) ts row) (omega arith)
-
-  tail_calls : (vs : List Visit) (ts : List PlainTask) → row_calls vs (plain_tail ts) ≡ 0
-  tail_calls vs [] = refl
-  tail_calls vs (t ∷ ts) = refl
-
-  pub plain_row_calls : (vs : List Visit) (ts : List PlainTask) → row_calls vs (plain_row ms 0 ts (plain_tail ts)) ≡ plain_calls ts
-  plain_row_calls vs ts = rw (calls_in vs 0 ts (plain_tail ts), tail_calls vs ts) (omega arith)

@@ -16,9 +16,8 @@ use Rattle.pb_language.specs.Machine.{Event, start, give, turn, waits, Stage, no
 use Rattle.pb_language.specs.plain.Books.{PlainTask, plain_play, lone_host, are_plain_tasks}
 use Rattle.pb_language.specs.plain.Machine as plain
 use Rattle.pb_language.specs.plain.Machine.{ended_run, plain_world, running_stage, plain_batch, after_failure, Standing, before, inside, PlainRun, plain_rest, plain_ready, plain_host, plain_state, plain_opening, plain_step, plain_is_enabled, plain_run_from}
-use Rattle.pb_language.specs.plain.Pass.{plain_run}
-use Rattle.pb_language.proofs.PlainFlow.{plain_row}
-use Rattle.pb_language.proofs.PlainRows.{plain_tail, plain_play_row}
+use Rattle.pb_language.specs.plain.Tasks.{plain_run}
+use Rattle.pb_language.proofs.PlainRows.{plain_row, plain_tail, plain_play_row}
 
 never_again : (q : Bool) → q && nat_lt 0 0 ≡ false
 never_again true = refl

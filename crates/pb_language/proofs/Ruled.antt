@@ -18,7 +18,7 @@ use Rattle.pb_language.proofs.Accepted.{earlier_none}
 use Rattle.pb_language.proofs.FlushOrder.{numbered_from}
 
 -- no line breaks a rule
-abbrev AllSites : (Site → Type 0) → List Site → Type 0
+abbrev pub AllSites : (Site → Type 0) → List Site → Type 0
 AllSites P [] = Unit {0}
 AllSites P (s ∷ ss) = P s × AllSites P ss
 
@@ -89,20 +89,20 @@ program_has f g (p ∷ ps) = row_has f (g p) p.row && program_has f g ps
 
 -- what is so of each task at its line and of each flush is so of a play's row
 module _ (f : Task → Bool) (g : Handlers → Bool) (P : Site → Type 0) (play : PlayData) (hs : ℕ → Handlers) (n : ℕ) (flush_has : (p : ℕ) → g (hs p) ≡ true)
-    (task_has : (cs : Expressions) (s : Surroundings) (p : ℕ) (t : TaskData) → P (site play cs s.scope t.line (a_task t) t.vars) → f (task_at s p t) ≡ true) where
-  steps_have : (cs : Expressions) (s : Surroundings) (p : ℕ) (ss : Steps) (row : Row) → AllSites P (sites_in play cs s.scope ss) → row_has f g row ≡ true → row_has f g (row_of hs n s p ss row) ≡ true
-  steps_have cs s p no_steps row a h = h
-  steps_have cs s p (task_step t ss) row a h =
-      and-both (f (task_at s p t)) (row_has f g (row_of hs n s (suc p) ss row)) (task_has (append_expressions cs t.condition) s p t a.0) (steps_have cs s (suc p) ss row a.1 h)
-  steps_have cs s p (flush_step l ss) row a h =
-      and-both (g (hs p)) (row_has f g (row_of hs n s (n + p) ss row)) (flush_has p) (steps_have cs s (n + p) ss row a.1 h)
-  steps_have cs s p (block_step b x y z ss) row a h =
-      let ds = append_expressions cs b.condition in
+    (task_has : (s : Surroundings) (p : ℕ) (t : TaskData) → P (site play (append_expressions s.conditions t.condition) s.scope t.line (a_task t) t.vars) → f (task_at s p t) ≡ true) where
+  steps_have : (s : Surroundings) (p : ℕ) (ss : Steps) (row : Row) → AllSites P (sites_in play s.conditions s.scope ss) → row_has f g row ≡ true → row_has f g (row_of hs n s p ss row) ≡ true
+  steps_have s p no_steps row a h = h
+  steps_have s p (task_step t ss) row a h =
+      and-both (f (task_at s p t)) (row_has f g (row_of hs n s (suc p) ss row)) (task_has s p t a.0) (steps_have s (suc p) ss row a.1 h)
+  steps_have s p (flush_step l ss) row a h =
+      and-both (g (hs p)) (row_has f g (row_of hs n s (n + p) ss row)) (flush_has p) (steps_have s (n + p) ss row a.1 h)
+  steps_have s p (block_step b x y z ss) row a h =
+      let ds = append_expressions s.conditions b.condition in
       let scope = append_parts b.vars s.scope in
       let bodies = sites_in play ds scope x in
       let rescues = sites_in play ds scope y in
       let ends = sites_in play ds scope z in
-      let others = sites_in play cs s.scope ss in
+      let others = sites_in play s.conditions s.scope ss in
       let third = sites_apart P (bodies ++ rescues ++ ends) others a.1 in
       let second = sites_apart P (bodies ++ rescues) ends third.0 in
       let first = sites_apart P bodies rescues second.0 in
@@ -111,25 +111,25 @@ module _ (f : Task → Bool) (g : Handlers → Bool) (P : Site → Type 0) (play
       let always = row_of hs n (inside s b) (places_in n y + (places_in n x + p)) z end in
       let rest = row_of hs n s (places_in n z + (places_in n y + (places_in n x + p))) ss row in
       and-both (row_has f g body) (row_has f g rescued && (row_has f g always && row_has f g rest))
-      (steps_have ds (record (inside s b) { rescued = s.rescued || is_given y }) p x end first.0 refl)
+      (steps_have (record (inside s b) { rescued = s.rescued || is_given y }) p x end first.0 refl)
       (and-both (row_has f g rescued) (row_has f g always && row_has f g rest)
-      (steps_have ds (record (inside s b) { depth = suc s.depth }) (places_in n x + p) y end first.1 refl)
+      (steps_have (record (inside s b) { depth = suc s.depth }) (places_in n x + p) y end first.1 refl)
       (and-both (row_has f g always) (row_has f g rest)
-      (steps_have ds (inside s b) (places_in n y + (places_in n x + p)) z end second.1 refl)
-      (steps_have cs s (places_in n z + (places_in n y + (places_in n x + p))) ss row third.1 h)))
+      (steps_have (inside s b) (places_in n y + (places_in n x + p)) z end second.1 refl)
+      (steps_have s (places_in n z + (places_in n y + (places_in n x + p))) ss row third.1 h)))
 
-  ended_has : (forces : Bool) (s : Surroundings) (p q : ℕ) (ss : Steps) (row : Row) → AllSites P (sites_in play no_expressions s.scope ss) → row_has f g row ≡ true → row_has f g (ended_row forces (hs q) (row_of hs n s p ss) row) ≡ true
+  ended_has : (forces : Bool) (s : Surroundings) (p q : ℕ) (ss : Steps) (row : Row) → AllSites P (sites_in play s.conditions s.scope ss) → row_has f g row ≡ true → row_has f g (ended_row forces (hs q) (row_of hs n s p ss) row) ≡ true
   ended_has true s p q ss row a h =
-      and-both (row_has f g (row_of hs n s p ss end)) (g (hs q) && row_has f g row) (steps_have no_expressions s p ss end a refl) (and-both (g (hs q)) (row_has f g row) (flush_has q) h)
-  ended_has false s p q ss row a h = steps_have no_expressions s p ss (flush (hs q) row) a (and-both (g (hs q)) (row_has f g row) (flush_has q) h)
+      and-both (row_has f g (row_of hs n s p ss end)) (g (hs q) && row_has f g row) (steps_have s p ss end a refl) (and-both (g (hs q)) (row_has f g row) (flush_has q) h)
+  ended_has false s p q ss row a h = steps_have s p ss (flush (hs q) row) a (and-both (g (hs q)) (row_has f g row) (flush_has q) h)
 
-  section_has : (given : Bool) (s : Surroundings) (p : ℕ) (ss : Steps) (go : ℕ → Row) → AllSites P (sites_in play no_expressions s.scope ss) → ((r : ℕ) → row_has f g (go r) ≡ true)
+  section_has : (given : Bool) (s : Surroundings) (p : ℕ) (ss : Steps) (go : ℕ → Row) → AllSites P (sites_in play s.conditions s.scope ss) → ((r : ℕ) → row_has f g (go r) ≡ true)
       → row_has f g (cond given (ended_row play.forces (hs (places_in n ss + p)) (row_of hs n s p ss) (go (n + (places_in n ss + p)))) (go p)) ≡ true
   section_has true s p ss go a h = ended_has play.forces s p (places_in n ss + p) ss (go (n + (places_in n ss + p))) a (h (n + (places_in n ss + p)))
   section_has false s p ss go a h = h p
 
-  module _ (s : Surroundings) (pre : AllSites P (sites_in play no_expressions s.scope play.pre_tasks)) (tasks : AllSites P (sites_in play no_expressions s.scope play.tasks))
-      (post : AllSites P (sites_in play no_expressions s.scope play.post_tasks)) (gathers : (l : ℕ) → f (task_at s 0 (gathering_task l)) ≡ true) where
+  module _ (s : Surroundings) (pre : AllSites P (sites_in play s.conditions s.scope play.pre_tasks)) (tasks : AllSites P (sites_in play s.conditions s.scope play.tasks))
+      (post : AllSites P (sites_in play s.conditions s.scope play.post_tasks)) (gathers : (l : ℕ) → f (task_at s 0 (gathering_task l)) ≡ true) where
     abbrev last : ℕ → Row
     last r = section_row hs n s play.forces r play.post_tasks (λ q. end)
 
@@ -143,8 +143,8 @@ module _ (f : Task → Bool) (g : Handlers → Bool) (P : Site → Type 0) (play
     gathered_has (Some l) = and-both (f (task_at s 0 (gathering_task l))) (row_has f g (sections_row hs n s 1 play)) (gathers l) (sections_have 1)
 
 -- and of each play
-module _ (ms : Registry) (f : Task → Bool) (g : List HandlerNames → Handlers → Bool) (P : Site → Type 0) (gathers : (s : Surroundings) (l : ℕ) → f (task_at s 0 (gathering_task l)) ≡ true)
-    (task_has : (play : PlayData) (cs : Expressions) (s : Surroundings) (p : ℕ) (t : TaskData) → P (site play cs s.scope t.line (a_task t) t.vars) → f (task_at s p t) ≡ true)
+module _ (ms : Registry) (f : Task → Bool) (g : List HandlerNames → Handlers → Bool) (P : Site → Type 0) (gathers : (play : PlayData) (l : ℕ) → f (task_at (play_surroundings ms play) 0 (gathering_task l)) ≡ true)
+    (task_has : (play : PlayData) (s : Surroundings) (p : ℕ) (t : TaskData) → P (site play (append_expressions s.conditions t.condition) s.scope t.line (a_task t) t.vars) → f (task_at s p t) ≡ true)
     (flush_has : (play : PlayData) (p : ℕ) → AllSites P (handler_sites play 0 play.handlers) → g (names_of_handlers play.handlers) (handlers_at (play_surroundings ms play) 0 p play.handlers) ≡ true) where
   play_has : (play : PlayData) → AllSites P (play_sites play) → row_has f (g (names_of_handlers play.handlers)) (play_row ms play) ≡ true
   play_has play a =
@@ -158,9 +158,9 @@ module _ (ms : Registry) (f : Task → Bool) (g : List HandlerNames → Handlers
       let second = sites_apart P (gathering ++ pre) tasks third.0 in
       let first = sites_apart P gathering pre second.0 in
       gathered_has f (g (names_of_handlers play.handlers)) P play (λ p. handlers_at (play_surroundings ms play) 0 p play.handlers) (length play.handlers) (λ p. flush_has play p fourth.1) (task_has play)
-      (play_surroundings ms play) first.1 second.1 third.1 (gathers (play_surroundings ms play)) play.gathering
+      (play_surroundings ms play) first.1 second.1 third.1 (gathers play) play.gathering
 
-  plays_have : (inventory : Inventory) (b : Book) → AllSites P (sites_of b) → program_has f (λ p. g p.handlers) (program_of ms inventory b) ≡ true
+  pub plays_have : (inventory : Inventory) (b : Book) → AllSites P (sites_of b) → program_has f (λ p. g p.handlers) (program_of ms inventory b) ≡ true
   plays_have inventory [] a = refl
   plays_have inventory (p ∷ ps) a =
       let both = sites_apart P (play_sites p) (sites_of ps) a in
@@ -174,7 +174,7 @@ abbrev pub handlers_have : (Task → Bool) → Handlers → Bool
 handlers_have f no_handlers = true
 handlers_have f (handler n t hs) = f t && handlers_have f hs
 
-own_alone : (f : Name → Option Expression) (es : Expressions) → expanded_reads f es ≡ false → any_reads_others (all_expanded f es) ≡ false
+pub own_alone : (f : Name → Option Expression) (es : Expressions) → expanded_reads f es ≡ false → any_reads_others (all_expanded f es) ≡ false
 own_alone f no_expressions h = refl
 own_alone f (expression e es) h =
     let here = reads_others (expanded f e) in
@@ -189,11 +189,11 @@ both_alone f (expression e es) gs h =
     let both = both_alone f es gs (neither-right here rest h) in
     (neither-both here (any_reads_others (all_expanded f es)) (neither-left here rest h) both.0, both.1)
 
-keyword_alone : (f : Name → Option Expression) (o : Option Expressions) → any_reads_others (all_expanded f (list_expressions o)) ≡ false → keyword_reads_others (expanded_list f o) ≡ false
+pub keyword_alone : (f : Name → Option Expression) (o : Option Expressions) → any_reads_others (all_expanded f (list_expressions o)) ≡ false → keyword_reads_others (expanded_list f o) ≡ false
 keyword_alone f None h = refl
 keyword_alone f (Some es) h = h
 
-until_alone : (f : Name → Option Expression) (o : Option Attempts) → any_reads_others (all_expanded f (until_expressions o)) ≡ false → until_reads_others (expanded_attempts f o) ≡ false
+pub until_alone : (f : Name → Option Expression) (o : Option Attempts) → any_reads_others (all_expanded f (until_expressions o)) ≡ false → until_reads_others (expanded_attempts f o) ≡ false
 until_alone f None h = refl
 until_alone f (Some a) h = h
 
@@ -223,7 +223,7 @@ handlers_alone play s i p (h ∷ hs) e a =
 
 pub program_alone : (ms : Registry) (inventory : Inventory) (b : Book) (n : ℕ) → judged ms inventory b ≡ accepted n → program_has reads_alone (λ p. handlers_have reads_alone) (program_of ms inventory b) ≡ true
 program_alone ms inventory b n h =
-    plays_have ms reads_alone (λ names. handlers_have reads_alone) (λ x. breaks_give x ≡ false) (λ s l. refl) (λ play cs s p t e. task_alone s p t e) (λ play p a. handlers_alone play (play_surroundings ms play) 0 p play.handlers refl a)
+    plays_have ms reads_alone (λ names. handlers_have reads_alone) (λ x. breaks_give x ≡ false) (λ play l. refl) (λ play s p t e. task_alone s p t e) (λ play p a. handlers_alone play (play_surroundings ms play) 0 p play.handlers refl a)
     inventory b (gives_kept ms inventory b n h)
 
 -- handlers notify later ones alone
@@ -241,7 +241,7 @@ handlers_notify_on play s i p (h ∷ hs) a =
 
 pub program_in_order : (ms : Registry) (inventory : Inventory) (b : Book) (n : ℕ) → judged ms inventory b ≡ accepted n → program_has (λ t. true) (λ p. in_order p.handlers) (program_of ms inventory b) ≡ true
 program_in_order ms inventory b n h =
-    plays_have ms (λ t. true) in_order (λ x. breaks_order x x.thing ≡ false) (λ s l. refl) (λ play cs s p t e. refl)
+    plays_have ms (λ t. true) in_order (λ x. breaks_order x x.thing ≡ false) (λ play l. refl) (λ play s p t e. refl)
     (λ play p a. and-both (are_numbered 0 (handlers_at (play_surroundings ms play) 0 p play.handlers)) (notify_on (names_of_handlers play.handlers) (handlers_at (play_surroundings ms play) 0 p play.handlers))
     (numbered_from (play_surroundings ms play) 0 p play.handlers) (handlers_notify_on play (play_surroundings ms play) 0 p play.handlers a))
     inventory b (order_kept ms inventory b n h)

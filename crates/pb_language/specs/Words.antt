@@ -48,9 +48,6 @@ pub use Rattle.pb_language.specs.Tokens.{tokens_of, unreadable, word_token}
 pub use Rattle.pb_language.specs.Verdict.{accepted, code_of}
 pub use Rattle.pb_language.specs.World.{World}
 pub use Rattle.pb_language.specs.plain.Books.{are_plain_tasks, is_plain_task, lone_host, task_data}
-pub use Rattle.pb_language.specs.plain.Flow.{plain_writes}
 pub use Rattle.pb_language.specs.plain.Gives.{a_pass, action_fields, goes_on, put_all}
 pub use Rattle.pb_language.specs.plain.Gives.{result_writes}
-pub use Rattle.pb_language.specs.plain.Pass.{plain_action, plain_calls, plain_flow, plain_rules}
-pub use Rattle.pb_language.specs.plain.Pass.{plain_run, work_calls}
-pub use Rattle.pb_language.specs.plain.Tables.{Joins}
+pub use Rattle.pb_language.specs.plain.Tasks.{plain_action, plain_run, work_calls}

@@ -1,7 +1,5 @@
--- Books of the first path, their verdict and their runs in a form of their own.
+-- Books of the first path and their runs in a form of their own.
 pub mod Books
-pub mod Pass
-pub mod Flow
-pub mod Tables
+pub mod Tasks
 pub mod Machine
 pub mod Gives

@@ -1,13 +1,13 @@
 -- The values of `vars` in scope at lines, block after block.
 use denote.Ref.{Bor}
-use Rattle.std.proofs.Common.{◌≡◌, ◌∙◌, ℕ, ◌+◌, ◌<◌, List, [], ◌∷◌, ◌++◌, Bool, not, bytes_eq, cond, Some, get_or, length, map, take, refl, sym, ap, add-one, subst, inl, inr, ◌⊎◌}
+use Rattle.std.proofs.Common.{◌≡◌, ◌∙◌, ℕ, ◌+◌, ◌<◌, List, [], ◌∷◌, ◌++◌, Bool, bytes_eq, cond, Option, Some, get_or, length, map, take, refl, sym, ap, add-one, subst, inl, inr, ◌⊎◌}
 use Rattle.std.proofs.Math.Seq.{take-suc}
 use Rattle.std.proofs.lemmas.List.{map-append}
 use Rattle.pb_language.specs.Expansion.{part_named, trees}
-use Rattle.pb_language.specs.Expression.{Name, Expressions, Parts, no_parts, part}
+use Rattle.pb_language.specs.Expression.{Name, Expression, Expressions, Parts, no_parts, part}
 use Rattle.pb_language.specs.Plays.{append_expressions, append_parts}
-use Rattle.pb_language.specs.Program.{Inventory}
-use Rattle.pb_language.specs.Rules.{breaks_known, expanded_known, task_expressions}
+use Rattle.pb_language.specs.Rules.{task_expressions}
+use Rattle.pb_language.specs.Sites as language
 use Rattle.pb_flow.specs.Nodes.{scope_after}
 use Rattle.pb_flow.proofs.Arounds.{scope-push}
 use Rattle.pb_play.specs.declared.play.BlockHead.{BlockHead}
@@ -50,31 +50,30 @@ scope-next vars now next bs i b lt e h g =
     record { at = λ n. so.at n ∙ ap (part_named n) (sym all) }
 
 -- what a task reads, asked with values that come to the same as those in scope at its line
-abbrev is_unknown : Inventory → Parts → Expressions → Task → Bool
-is_unknown v ps cs t = not (expanded_known v (trees ps) (task_expressions (append_expressions cs (exprs_view t.when.items)) (task_view t)))
+module _ (asks : (Name → Option Expression) → Expressions → Bool) where
+  abbrev asked : Parts → Expressions → Task → Bool
+  asked ps cs t = asks (trees ps) (task_expressions (append_expressions cs (exprs_view t.when.items)) (task_view t))
 
-unknown-same : (v : Inventory) (ps qs : Parts) (s a : Around) (t : Task) → a ≡ s → HaveSame ps qs → is_unknown v ps (conditions_round a) t ≡ is_unknown v qs (conditions_round s) t
-unknown-same v ps qs s a t e h =
-    ap (λ x. is_unknown v ps (conditions_round x) t) e
-    ∙ ap (λ f. not (expanded_known v f (task_expressions (append_expressions (conditions_round s) (exprs_view t.when.items)) (task_view t)))) (same-trees ps qs h)
+  asked-same : (ps qs : Parts) (s a : Around) (t : Task) → a ≡ s → HaveSame ps qs → asked ps (conditions_round a) t ≡ asked qs (conditions_round s) t
+  asked-same ps qs s a t e h =
+      ap (λ x. asked ps (conditions_round x) t) e
+      ∙ ap (λ f. asks f (task_expressions (append_expressions (conditions_round s) (exprs_view t.when.items)) (task_view t))) (same-trees ps qs h)
 
-abbrev unknown_at : Inventory → Around → Thing → Bool
-unknown_at v a x = breaks_known v (site_in a x) (site_in a x).thing
+  abbrev Fits : Parts → Around → Thing → Type 0
+  Fits ps a x = HaveSame ps (site_in a x).scope
 
-abbrev Fits : Parts → Around → Thing → Type 0
-Fits ps a x = HaveSame ps (site_in a x).scope
+  -- of each line that is asked so of its task
+  module _ (told : language.Site → Bool) (tasks : (a : Around) (t : Bor Task) → told (site_in a (thing.Task t)) ≡ asked (site_in a (thing.Task t)).scope (conditions_round a) t.now)
+      (handlers : (a : Around) (i : ℕ) (t : Bor Task) → told (site_in a (thing.Handler i t)) ≡ asked (site_in a (thing.Handler i t)).scope (conditions_round a) t.now) where
+    pub task-told : (ps : Parts) (s : Site) (a : Around) (t : Bor Task) → s.thing ≡ thing.Task t → a ≡ s.around.value → HaveSame ps (site_view s).scope → asked ps (conditions_round a) t.now ≡ told (site_view s)
+    task-told ps s a t e w h =
+        let there = s.around.value in
+        asked-same ps (site_in there (thing.Task t)).scope there a t.now w (subst (Fits ps there) e h) ∙ sym (tasks there t) ∙ ap (λ x. told (site_in there x)) (sym e)
 
-pub task-unknown : (v : Inventory) (ps : Parts) (s : Site) (a : Around) (t : Bor Task) → s.thing ≡ thing.Task t → a ≡ s.around.value → HaveSame ps (site_view s).scope
-    → is_unknown v ps (conditions_round a) t.now ≡ breaks_known v (site_view s) (site_view s).thing
-task-unknown v ps s a t e w h =
-    let there = s.around.value in
-    unknown-same v ps (site_in there (thing.Task t)).scope there a t.now w (subst (Fits ps there) e h) ∙ ap (unknown_at v there) (sym e)
-
-pub handler-unknown : (v : Inventory) (ps : Parts) (s : Site) (a : Around) (i : ℕ) (t : Bor Task) → s.thing ≡ thing.Handler i t → a ≡ s.around.value → HaveSame ps (site_view s).scope
-    → is_unknown v ps (conditions_round a) t.now ≡ breaks_known v (site_view s) (site_view s).thing
-handler-unknown v ps s a i t e w h =
-    let there = s.around.value in
-    unknown-same v ps (site_in there (thing.Handler i t)).scope there a t.now w (subst (Fits ps there) e h) ∙ ap (unknown_at v there) (sym e)
+    pub handler-told : (ps : Parts) (s : Site) (a : Around) (i : ℕ) (t : Bor Task) → s.thing ≡ thing.Handler i t → a ≡ s.around.value → HaveSame ps (site_view s).scope → asked ps (conditions_round a) t.now ≡ told (site_view s)
+    handler-told ps s a i t e w h =
+        let there = s.around.value in
+        asked-same ps (site_in there (thing.Handler i t)).scope there a t.now w (subst (Fits ps there) e h) ∙ sym (handlers there i t) ∙ ap (λ x. told (site_in there x)) (sym e)
 
 -- in scope at a line of a play are its own values over those round it
 is-over : (a : Around) (x y : Thing) → x ≡ y → (site_in a y).scope ≡ append_parts (site_in a y).vars (scope_round a) → (site_in a x).scope ≡ append_parts (site_in a x).vars (scope_round a)

@@ -1,6 +1,7 @@
 -- What the first rule that is broken says of a book.
 use Rattle.std.proofs.Common.{◌≡◌, ◌∙◌, ℕ, List, [], ◌∷◌, ◌++◌, Bool, ◌||◌, bytes_eq, Option, Some, None, option_map, refl, sym, ap, arith}
 use Rattle.pb_semantics.specs.Keeps.{is_among}
+use Rattle.pb_language.proofs.Accepted.{earlier_last}
 use Rattle.pb_language.specs.Book.{Book, Registry}
 use Rattle.pb_language.specs.Expression.{Name}
 use Rattle.pb_language.specs.Program.{Inventory}
@@ -48,13 +49,9 @@ first-same rs v ns ms (s ∷ ss) h =
     ap (λ o. sooner (broken_at s.line o) (first_broken (all_asked rs v ns) ss)) (site-same rs v ns ms s h)
     ∙ ap (sooner (broken_at s.line (site_broken (all_asked rs v ms) s))) (first-same rs v ns ms ss h)
 
-earlier-none : (r : Option Refusal) → earlier r None ≡ r
-earlier-none None = refl
-earlier-none (Some r) = refl
-
 -- the rules in their order are those of a book
 all-told : (rs : Registry) (v : Inventory) (b : Book) (ss : List Site) → sites_offence rs v b ss ≡ earlier (too_many_steps 0 b) (rules_broken (all_asked rs v (vars_names ss)) ss)
-all-told rs v b ss = rw (earlier-none (first_line 9 breaks_give ss)) refl
+all-told rs v b ss = rw (earlier_last (first_line 9 breaks_give ss)) refl
 
 all-in-order : (rs : Registry) (v : Inventory) (ns : List Name) → AreRising 0 (all_asked rs v ns)
 all-in-order rs v ns = (omega arith, (omega arith, (omega arith, (omega arith, (omega arith, (omega arith, (omega arith, tt)))))))

@@ -12,6 +12,7 @@ mod known;
 pub mod laws;
 mod names;
 mod notify;
+pub mod others;
 mod parameters;
 mod pattern;
 mod reads;
@@ -21,4 +22,5 @@ mod sites;
 mod steps;
 
 pub use broken::{Broken, Rule};
+pub use others::reads_others;
 pub use rules::first_broken;

@@ -16,7 +16,7 @@ use Rattle.pb_language.specs.Plays.{module_named}
 use Rattle.pb_language.specs.Start.{Pass, call_count, plan_of}
 use Rattle.pb_language.specs.plain.Books.{PlainTask, is_plain_task, are_plain_tasks}
 use Rattle.pb_language.specs.plain.Machine.{PlainRun, inside, running_stage, plain_step, plain_run_from, plain_is_enabled, is_through, is_going}
-use Rattle.pb_language.specs.plain.Pass.{plain_run, plain_action}
+use Rattle.pb_language.specs.plain.Tasks.{plain_run, plain_action}
 use Rattle.pb_language.proofs.PlainEval.{plain_run_more, history_more}
 use Rattle.pb_value.specs.View.{view, fields_view}
 use Rattle.pb_eval.specs.OwnWorld.{own_world}

@@ -15,7 +15,7 @@ use Rattle.pb_language.specs.Judged.{judged}
 use Rattle.pb_language.specs.Theorem.{host_names, are_distinct, occurrence_events}
 use Rattle.pb_language.specs.plain.Books.{PlainTask}
 use Rattle.pb_language.specs.plain.Machine.{Standing, before, inside, PlainRun, plain_state, plain_world, on_plan, started, answered, is_before, are_left, is_inside, can_begin, is_going, given_to, plain_step, plain_is_enabled}
-use Rattle.pb_language.specs.plain.Pass.{plain_run}
+use Rattle.pb_language.specs.plain.Tasks.{plain_run}
 use Rattle.pb_language.proofs.After.{after_claim}
 use Rattle.pb_language.proofs.Given.{give_claim}
 use Rattle.pb_language.proofs.Started.{start_claim}

@@ -10,7 +10,7 @@ use Rattle.pb_language.specs.Start.{Entry, skips, calls, acts, Pass, plan_of, is
 use Rattle.pb_language.specs.plain.Books.{PlainTask, is_plain_task}
 use Rattle.pb_language.specs.plain.Gives.{Came, after_came, goes_on, came_recap}
 use Rattle.pb_language.specs.plain.Machine.{before, away, PlainRun, answered, plain_world, plain_step, is_before, are_left, is_through}
-use Rattle.pb_language.specs.plain.Pass.{plain_run}
+use Rattle.pb_language.specs.plain.Tasks.{plain_run}
 use Rattle.pb_language.proofs.PlainEval.{SameMine, same_plan, lone_same}
 use Rattle.pb_language.proofs.PlainGives.{put_all_at}
 use Rattle.pb_value.specs.View.{view, fields_view}

@@ -8,7 +8,7 @@ use Rattle.pb_language.specs.Scope.{Later, View, view_of}
 use Rattle.pb_language.specs.Tables.{HostWalk, are_settled, budget_of, hosts_walked, plays_below, plays_calls}
 use Rattle.pb_language.specs.Verdict.{Refusal, earlier, first_offence, plays_offence}
 use Rattle.pb_language.specs.World.{HostVariables}
-use Rattle.pb_language.proofs.PlainLines.{earlier_last}
+use Rattle.pb_language.proofs.Accepted.{earlier_last}
 use Rattle.pb_walks.specs.Agree.{AllHostsAgree, HostsAgree}
 use Rattle.pb_walks.specs.Notified.{HostsNameHandlers, PlaysNameHandlers}
 use Rattle.pb_tables.specs.Found.{host_walk}

@@ -10,6 +10,7 @@ pub mod HostWays
 pub mod HostWrites
 pub mod Joined
 pub mod Lasted
+pub mod OnlyRound
 pub mod LaterTables
 pub mod Putting
 pub mod Rounded

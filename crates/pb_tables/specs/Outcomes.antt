@@ -1,5 +1,5 @@
 -- What the ways of all hosts come to.
-use Rattle.std.specs.Prelude.{ℕ, List, Bool, false, nat_le, Option, Some, None, option_map}
+use Rattle.std.specs.Prelude.{◌≡◌, ℕ, List, Bool, false, nat_le, Option, Some, None, option_map}
 use Rattle.std.specs.Prelude.{string_bytes}
 use Rattle.pb_language.specs.Program.{Inventory, Program}
 use Rattle.pb_language.specs.Scope.{Later, View}
@@ -7,6 +7,7 @@ use Rattle.pb_language.specs.Tables.{all_walked}
 use Rattle.pb_language.specs.Verdict.{Refusal, Verdict, code_of, offence_verdict}
 use Rattle.pb_language.specs.Verdict.{settled_verdict}
 use Rattle.pb_expr.specs.FitView.{fault_view}
+use Rattle.pb_walks.specs.Alone.{plays_read_others}
 use Rattle.pb_walks.specs.Notified.{HostsNameHandlers}
 use Rattle.pb_tables.specs.declared.outcome.HostFault.{HostFault}
 use Rattle.pb_tables.specs.declared.outcome.Outcome.{Outcome}
@@ -15,6 +16,10 @@ use Rattle.pb_tables.specs.declared.outcome.Outcome.{Outcome}
 abbrev pub AlwaysNamesHandlers : Inventory → Program → Type 0
 AlwaysNamesHandlers i ps =
     (views : List View) (ls : List (List Later)) → HostsNameHandlers (all_walked i ps views ls)
+
+-- where it is said that no text reads another host or who is active, none of the plays' does
+abbrev pub MayBeAlone : Bool → Program → Type 0
+MayBeAlone reads_others ps = reads_others ≡ false → plays_read_others ps ≡ false
 
 abbrev pub host_offence : HostFault → Refusal
 host_offence f = record {

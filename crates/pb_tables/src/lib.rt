@@ -2,7 +2,7 @@
 // hosts' variables look like to others.
 //
 //     let scene = Scene::of(alloc, &inventory, &play, gathering.as_ref())?; // for each play
-//     let outcome = outcome_of(alloc, &inventory, &scenes, names)?;
+//     let outcome = outcome_of(alloc, &inventory, &scenes, names, true)?; // its texts read others
 //     if let Some(HostFault { host, fault }) = &outcome.fault {
 //         // the host may meet `fault.unfit` at `fault.line`
 //     }

@@ -1,14 +1,15 @@
 // What the ways of all hosts come to: the first fault, whether the kinds settle, and the budget.
-ghost use Rattle.std.specs.Prelude.{◌≡◌, All, IfOk, option_map};
+ghost use Rattle.std.specs.Prelude.{◌≡◌, All, IfOk, false, option_map};
 ghost use Rattle.pb_language.specs.Program.{Program};
 ghost use Rattle.pb_language.specs.Verdict.{flow_verdict, found_laters, offence_verdict};
 ghost use Rattle.pb_language.specs.Verdict.{settled_verdict};
-ghost use Rattle.pb_language.specs.Tables.{views_after};
+ghost use Rattle.pb_language.specs.Tables.{known_views, views_after};
 ghost use Rattle.pb_inventory.specs.Words.{inventory_view};
 ghost use Rattle.pb_lattice.specs.Words.{IsAscending, names_of};
-ghost use Rattle.pb_walks.specs.Words.{ViewsAgree};
+ghost use Rattle.pb_walks.specs.Words.{ViewsAgree, plays_read_others};
 ghost use Rattle.pb_hosts.specs.Words.{views_view};
-ghost use Rattle.pb_tables.specs.Outcomes.{AlwaysNamesHandlers, host_offence, outcome_verdict};
+ghost use Rattle.pb_tables.specs.Outcomes.{AlwaysNamesHandlers, MayBeAlone, host_offence};
+ghost use Rattle.pb_tables.specs.Outcomes.{outcome_verdict};
 ghost use Rattle.pb_tables.specs.Rounds.{AreAfter};
 ghost use Rattle.pb_tables.specs.Scenes.{AreScenes};
 ghost use Rattle.pb_tables.specs.Tabled.{AreTables, IsStage};
@@ -21,6 +22,7 @@ use pb_find::FaultAt;
 use pb_hosts::{Views, groups_kind};
 use pb_inventory::Inventory;
 use pb_lattice::Environments;
+use pb_walks::one_round_is_enough;
 use std::alloc::{AllocError, Global};
 
 // In so many rounds the kinds of hosts' variables are worked out.
@@ -48,7 +50,8 @@ pub struct Outcome<'i> {
 }
 
 /// What the ways of all hosts through all plays come to, in four rounds of the kinds that hosts see
-/// of each other, or until a round changes nothing. The names are those of all variables.
+/// of each other, or until a round changes nothing; in one alone where it is said that no text reads
+/// another host or who is active. The names are those of all variables.
 ///
 /// # Errors
 ///
@@ -58,16 +61,17 @@ pub fn outcome_of<'i>(
     inventory: &'i Inventory,
     scenes: &[Scene<'i>],
     names: Vec<String>,
+    reads_others: bool,
 ) -> Result<Outcome<'i>, AllocError>
     requires ascending { IsAscending (names_of names.items) }
     requires scenes { All (λ s. s.cast.inventory.now ≡ inventory.now) scenes.now }
     ensures inventory { IfOk result (λ o. o.views.inventory ≡ inventory.entry) }
     ensures verdict { IfOk result (λ o. (ps : Program)
         → AreScenes inventory.entry.now ps scenes.now
-        → AlwaysNamesHandlers (inventory_view inventory.entry.now) ps
+        → AlwaysNamesHandlers (inventory_view inventory.entry.now) ps → MayBeAlone reads_others ps
         → outcome_verdict o ≡ flow_verdict ps (inventory_view inventory.entry.now)) }
     ensures views { IfOk result (λ o. (ps : Program)
-        → AreScenes inventory.entry.now ps scenes.now
+        → AreScenes inventory.entry.now ps scenes.now → MayBeAlone reads_others ps
         → ViewsAgree (views_view o.views) (views_after 4 (inventory_view inventory.entry.now) ps
         (found_laters ps (inventory_view inventory.entry.now)))) }
 {
@@ -81,8 +85,11 @@ pub fn outcome_of<'i>(
         groups: &groups,
         names: &names,
     };
-    let (laters, space) = laters_of(alloc, &stage, space)?;
     let views = known.copy(alloc)?;
+    if !reads_others {
+        return only_round(alloc, &stage, views, space);
+    }
+    let (laters, space) = laters_of(alloc, &stage, space)?;
     last_round(alloc, &stage, Tables { views, laters }, space)
 }
 
@@ -122,6 +129,43 @@ fn last_round<'i>(
     }
     let (round, _) = round_of(alloc, stage, &tables, space)?;
     Ok(outcome_in(round, tables))
+}
+
+// What one round comes to, from what the inventory says: where no text reads another host, no
+// round after it finds anything else, and each write is below what others see then.
+fn only_round<'i>(
+    alloc: Global,
+    stage: &Stage<'i, '_>,
+    views: Views<'i>,
+    space: Environments,
+) -> Result<Outcome<'i>, AllocError>
+    requires stage { IsStage stage.now }
+    requires inventory { views.inventory ≡ stage.now.inventory }
+    requires views { views_view views
+        ≡ known_views (inventory_view stage.now.inventory.now).hosts }
+    requires names { space.names ≡ names_of stage.now.names.now }
+    ensures inventory { IfOk result (λ o. o.views.inventory ≡ stage.now.inventory) }
+    ensures verdict { IfOk result (λ o. (ps : Program)
+        → AreScenes stage.now.inventory.now ps stage.now.scenes.now
+        → AlwaysNamesHandlers (inventory_view stage.now.inventory.now) ps
+        → plays_read_others ps ≡ false
+        → outcome_verdict o ≡ flow_verdict ps (inventory_view stage.now.inventory.now)) }
+    ensures views { IfOk result (λ o. (ps : Program)
+        → AreScenes stage.now.inventory.now ps stage.now.scenes.now
+        → plays_read_others ps ≡ false → ViewsAgree (views_view o.views) (views_after 4
+        (inventory_view stage.now.inventory.now) ps
+        (found_laters ps (inventory_view stage.now.inventory.now)))) }
+{
+    one_round_is_enough();
+    let laters = Vec::new(alloc);
+    let tables = Tables { views, laters };
+    let (round, _) = round_of(alloc, stage, &tables, space)?;
+    Ok(Outcome {
+        fault: round.fault,
+        is_settled: true,
+        calls: round.calls,
+        views: round.next,
+    })
 }
 
 // What is found in a round, with what others see in it.

@@ -1,37 +1,19 @@
 -- A run of what was accepted is never stuck, and stays within the budget.
-use Rattle.std.proofs.Common.{◌≡◌, ◌≤◌, ℕ, List, [], ◌∷◌, map, true, false, not, ◌&&◌, refl, ap, ◌∙◌}
-use Rattle.pb_semantics.specs.Keeps.{is_among}
-use Rattle.pb_language.specs.Expression.{Name}
+use Rattle.std.proofs.Common.{◌≡◌, ◌≤◌, ℕ, List, true, false}
 use Rattle.pb_language.specs.Judged.{judged}
 use Rattle.pb_language.specs.Machine.{Event}
-use Rattle.pb_language.specs.Theorem.{host_names, are_distinct}
 use Rattle.pb_language.specs.Verdict.{accepted}
-use Rattle.pb_language.specs.World.{HostVariables}
 use Rattle.pb_language.proofs.After.{after_claim}
 use Rattle.pb_language.proofs.Given.{give_claim}
 use Rattle.pb_language.proofs.Sound.{never_stuck_from, within_budget_from}
 use Rattle.pb_language.proofs.Started.{start_claim}
 use Rattle.pb_sig.specs.Modules.{modules_of}
 use Rattle.pb_inventory.specs.Inventory.{inventory_view}
-use Rattle.pb_inventory.specs.Numbered.{are_apart}
-use Rattle.pb_inventory.specs.declared.inventory.Inventory.{Inventory}
 use Rattle.pb_book.specs.Books.{book_view}
-use Rattle.pb_hosts.proofs.Places.{apart_hosts}
+use Rattle.pb_hosts.proofs.Distinct.{distinct_hosts}
 use Rattle.pb_verify.specs.Judges.{is_accepted, run_of_accepted}
 use Rattle.pb_verify.specs.declared.checked.Accepted.{Accepted}
 use Rattle.pb_verify.proofs.Verdicts.{accepts-accepted}
-
-listed_names : (xs : List HostVariables) → host_names xs ≡ map (λ h. h.name) xs
-listed_names [] = refl
-listed_names (x ∷ xs) = ap (λ ns. x.name ∷ ns) (listed_names xs)
-
-distinct_apart : (ns : List Name) → are_distinct ns ≡ are_apart ns
-distinct_apart [] = refl
-distinct_apart (n ∷ ns) = ap (λ b. not (is_among n ns) && b) (distinct_apart ns)
-
--- no host stands twice in an inventory
-pub distinct_hosts : (i : Inventory) → are_distinct (host_names (inventory_view i).hosts) ≡ true
-distinct_hosts i = ap are_distinct (listed_names (inventory_view i).hosts) ∙ distinct_apart (map (λ h. h.name) (inventory_view i).hosts) ∙ apart_hosts i
 
 module _ (a : Accepted) (h : is_accepted a ≡ true) where
   judged-accepted : judged (modules_of a.registry) (inventory_view a.inventory) (book_view a.book) ≡ accepted a.budget

@@ -26,11 +26,11 @@ use pb_book::Book;
 use pb_expr::Unfit;
 use pb_inventory::Inventory;
 use pb_play::Play;
-use pb_rules::{Broken, Rule, first_broken};
+use pb_rules::{Broken, Rule, first_broken, reads_others};
 use pb_sig::Registry;
 use pb_tables::{HostFault, Outcome, outcome_of};
 use pb_value::Slots;
-use pb_walks::handlers_are_named;
+use pb_walks::{books_read_alone, handlers_are_named};
 use std::alloc::{AllocError, Global};
 
 // The line of a refusal that stands at none.
@@ -155,10 +155,13 @@ fn judge_ways(
         (map play_view plays.now) f.views.items) }
 {
     handlers_are_named();
+    books_read_alone();
     let gathering = gathering_tasks(alloc, registry, plays)?;
     let scenes = scenes_of(alloc, inventory, plays, gathering.as_slice())?;
     let names = names_of(alloc, inventory, plays)?;
-    told(outcome_of(alloc, inventory, scenes.as_slice(), names)?)
+    let is_shared = reads_others(alloc, plays)?;
+    let outcome = outcome_of(alloc, inventory, scenes.as_slice(), names, is_shared)?;
+    told(outcome)
 }
 
 // The refusal that the ways of all hosts come to, or what is found on them.

@@ -9,4 +9,16 @@ pub mod SameLaters
 pub mod Settles
 pub mod NamedRows
 pub mod NamedWalks
+pub mod SettledWrites
+pub mod SettledPlays
+pub mod SettledViews
+pub mod AloneBooks
+pub mod AloneKinds
+pub mod AloneFaults
+pub mod AloneTasks
+pub mod AloneVisits
+pub mod AlonePlays
+pub mod AloneBudget
+pub mod AloneWalks
+pub mod OneRound
 pub mod WellProp

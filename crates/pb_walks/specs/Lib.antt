@@ -1,4 +1,5 @@
 pub mod Agree
+pub mod Alone
 pub mod Laws
 pub mod Notified
 pub mod Words

@@ -2,6 +2,7 @@
 // other. Each stands on a function that does nothing.
 #![tactic(auto)]
 
+ghost use Rattle.pb_walks.specs.Alone.{BooksReadAlone, OneRoundIsEnough};
 ghost use Rattle.pb_walks.specs.Laws.{AllWalkedAgree, KnownViewsAgree, LatersOfAgree};
 ghost use Rattle.pb_walks.specs.Laws.{NextViewsAgree, RoundsSettle, SameBudget, SameOffence};
 ghost use Rattle.pb_walks.specs.Laws.{SameSettled, ValuesAreVisits, VerdictIsWalked, WalksGoUp};
@@ -53,4 +54,15 @@ pub fn verdict_is_walked()
 pub fn handlers_are_named()
     ensures ruled { RuledNameHandlers }
     ensures agreeing { AgreeingNameHandlers }
+{}
+
+/// Where no text of a book reads another host or who is active, no task of its plays does.
+pub fn books_read_alone()
+    ensures { BooksReadAlone }
+{}
+
+/// Where no text reads another host or who is active, one round from what the inventory says comes
+/// to the verdict, whatever hosts have at their later places.
+pub fn one_round_is_enough()
+    ensures { OneRoundIsEnough }
 {}

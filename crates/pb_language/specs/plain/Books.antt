@@ -1,6 +1,6 @@
 -- Books of the first path: one play on all hosts, of tasks that call a module, show a message or
 -- set variables, on an inventory of one host.
-use Rattle.std.specs.Prelude.{ℕ, suc, List, [], ◌∷◌, Bool, true, false, ◌&&◌, ◌==◌, Option, None}
+use Rattle.std.specs.Prelude.{ℕ, List, [], ◌∷◌, Bool, true, false, ◌&&◌, Option, None}
 use Rattle.std.specs.Prelude.{codes}
 use Rattle.pb_semantics.specs.Data.{no_fields}
 use Rattle.pb_language.specs.Expression.{Name, Expressions, no_parts}
@@ -72,8 +72,3 @@ is_plain_task t = are_simple t.condition && is_plain_work t.work
 abbrev pub are_plain_tasks : List PlainTask → Bool
 are_plain_tasks [] = true
 are_plain_tasks (t ∷ ts) = is_plain_task t && are_plain_tasks ts
-
--- the tasks stand at that line, the next one, and so on
-abbrev pub are_lined : ℕ → List PlainTask → Bool
-are_lined l [] = true
-are_lined l (t ∷ ts) = (t.line == l) && are_lined (suc l) ts

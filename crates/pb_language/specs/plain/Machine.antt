@@ -18,7 +18,7 @@ use Rattle.pb_language.specs.Machine.{Event, start, give, turn, stop, Ready, ove
 use Rattle.pb_language.specs.Machine.{waits, runs, Recap, Host, State, gone, empty_recap}
 use Rattle.pb_language.specs.Machine.{task_recap}
 use Rattle.pb_language.specs.plain.Books.{PlainTask, plain_play, lone_host}
-use Rattle.pb_language.specs.plain.Pass.{plain_run, lone_setting}
+use Rattle.pb_language.specs.plain.Tasks.{plain_run, lone_setting}
 
 -- where the host stands: before its next task, in it with these passes, or gone
 pub data Standing : Type 0 where

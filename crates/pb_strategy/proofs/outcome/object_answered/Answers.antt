@@ -1,5 +1,5 @@
 use Rattle.std.proofs.Common.{◌≡◌, inl, inr, true, Some, String, Global, string_bytes, refl, sym, ap, subst, ◌∙◌}
-use Rattle.pb_language.specs.plain.Pass.{work_calls}
+use Rattle.pb_language.specs.plain.Tasks.{work_calls}
 use Rattle.pb_language.proofs.PlainGives.{stranger_gives}
 use Rattle.pb_value.specs.View.{view}
 use Rattle.pb_sig.specs.Modules.{modules_of, module_at}

@@ -1,7 +1,7 @@
 use Rattle.std.proofs.Common.{◌≡◌, false, refl, sym, ap, ◌∙◌}
 use Rattle.pb_language.specs.Evaluation.{eval}
 use Rattle.pb_language.specs.Start.{eval_action}
-use Rattle.pb_language.specs.plain.Pass.{plain_action}
+use Rattle.pb_language.specs.plain.Tasks.{plain_action}
 use Rattle.pb_syntax.specs.ExprView.{expr_view}
 use Rattle.pb_eval.specs.OwnWorld.{own_world, shown}
 use Rattle.pb_eval.proofs.Trees.{no-names-worth}

@@ -1,7 +1,6 @@
-// Texts that are an inventory, and texts that aren't.
-use pb_inventory::{Inventory, InventoryFault, PatternFault};
+// What inventories say of hosts and groups.
+use pb_inventory::{Inventory, PatternFault};
 use pb_value::{Fields, Value, field_of};
-use std::alloc::Global;
 use std::sync::Arc;
 use std::test::Fail;
 
@@ -10,10 +9,6 @@ const NESTED: &[u8] = br#"{"web":{"hosts":["h1"],"vars":{"p":1},"children":["w2"
     "w2":{"hosts":["h1"],"vars":{"p":2}},
     "all":{"vars":{"p":0,"q":0,"r":1.5}},
     "_meta":{"hostvars":{"h1":{"q":5},"zz":{}}}}"#;
-
-fn is_not_json(alloc: Global, text: &[u8]) -> bool {
-    matches!(&Inventory::read(alloc, text), Err(InventoryFault::NotJson))
-}
 
 // The name of the first host.
 fn first_name(inventory: &Inventory) -> Option<&str> {
@@ -109,35 +104,5 @@ fn patterns(rt: HostRuntime) -> Result<(), Fail> {
     assert!(rt; matches!(&unknown, Err(PatternFault::Unknown)));
     let empty = inventory.hosts_of(rt.alloc(), "web:");
     assert!(rt; matches!(&empty, Err(PatternFault::Unknown)));
-    Ok(())
-}
-
-#[test]
-fn no_json(rt: HostRuntime) {
-    assert!(rt; is_not_json(rt.alloc(), b""));
-    assert!(rt; is_not_json(rt.alloc(), br#"{"all":"#));
-    assert!(rt; is_not_json(rt.alloc(), b"\"\xff\""));
-}
-
-#[test]
-fn no_inventories(rt: HostRuntime) {
-    let form = Inventory::read(rt.alloc(), br#"{"web":1}"#);
-    assert!(rt; matches!(&form, Err(InventoryFault::Form)));
-    let name = Inventory::read(rt.alloc(), br#"{"web":{"hosts":["a b"]}}"#);
-    assert!(rt; matches!(&name, Err(InventoryFault::HostName)));
-    let cycle = br#"{"a":{"children":["b"]},"b":{"children":["a"]}}"#;
-    assert!(rt;
-        matches!(
-            &Inventory::read(rt.alloc(), cycle),
-            Err(InventoryFault::Cycle)
-        )
-    );
-}
-
-#[test]
-fn too_long(rt: HostRuntime) -> Result<(), Fail> {
-    let blanks = vec![in rt.alloc(); b' '; 4_194_305]?;
-    let read = Inventory::read(rt.alloc(), blanks.as_slice());
-    assert!(rt; matches!(&read, Err(InventoryFault::Limit)));
     Ok(())
 }

@@ -9,7 +9,7 @@ use Rattle.pb_rules.proofs.others.reads_others_there.Goals as goal
 pub returns-in-Task : goal.returns-in-Task
 returns-in-Task c =
     IfOk-weaker c.task_reads_others.result _ _
-    (λ b e. e ∙ task-told expanded_reads site_reads_others (λ a t. refl) (λ a i t. refl) (in_scope c.in_ok-scope.scope) c.args.site.now c.deref-in-Task.result.now c.in-Task.task c.in-Task.is c.deref-in-Task.ensures c.in_ok-scope.ensures)
+    (λ b e. e ∙ task-told expanded_reads site_reads_others (λ a t. refl) (λ a i t. refl) (in_scope c.in_ok-scope.scope) c.args.site.now c.deref.result.now c.in-Task.task c.in-Task.is c.deref.ensures c.in_ok-scope.ensures)
     c.task_reads_others.ensures
 
 pub returns-in-Handler : goal.returns-in-Handler

@@ -1,2 +1,1 @@
 pub mod TwoHosts
-pub mod TwoKnown

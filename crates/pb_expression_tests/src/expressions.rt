@@ -1,6 +1,6 @@
 // What texts are read as, and what they are worth.
 use pb_eval::eval::eval;
-use pb_expr::{Expr, ExprFault, parse_expr, parse_template};
+use pb_syntax::{Expr, ExprFault, parse_expr, parse_template};
 use pb_value::{Fields, Value, read_json};
 use std::alloc::{AllocError, Global};
 use std::test::Fail;

@@ -6,7 +6,7 @@ ghost use Rattle.pb_expression_tests.specs.TwoHosts.{two_hosts};
 
 use pb_eval::eval::eval;
 use pb_eval::{Vars, values_of};
-use pb_expr::{Expr, Member, Names, Path, Root, Status, Term};
+use pb_syntax::{Expr, Member, Names, Path, Root, Status, Term};
 use pb_value::{Fields, Value, field_of, read_json};
 use std::alloc::Global;
 use std::test::Fail;

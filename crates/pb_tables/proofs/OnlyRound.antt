@@ -2,7 +2,7 @@
 use Rattle.std.proofs.Common.{◌≡◌, ◌∙◌, List, false, true, option_map, ap, subst}
 use Rattle.pb_language.specs.Program.{Inventory, Program}
 use Rattle.pb_language.specs.Scope.{Later, View}
-use Rattle.pb_language.specs.Tables.{all_walked, budget_of, known_views, views_after}
+use Rattle.pb_language.specs.Tables.{all_walked, known_views, views_after}
 use Rattle.pb_language.specs.Verdict.{first_offence, flow_verdict, found_laters, offence_verdict, settled_verdict}
 use Rattle.pb_language.specs.Theorem.{are_distinct, host_names}
 use Rattle.pb_walks.specs.Agree.{ViewsAgree}

@@ -1,6 +1,6 @@
 -- What tests leave as it is: what is known of hosts of which they taught nothing, which host a root
 -- means, and which paths are there.
-use Rattle.std.proofs.Common.{◌≡◌, List, [], ◌∷◌, Bool, true, false, cond, Option, Some, None, refl, ap}
+use Rattle.std.proofs.Common.{◌≡◌, List, [], ◌∷◌, Bool, true, false, cond, Option, Some, None, refl, ap, ◌∙◌}
 use Rattle.pb_semantics.specs.Join.{join_spot}
 use Rattle.pb_semantics.specs.Kind.{Spot}
 use Rattle.pb_language.specs.Expression.{Name, Root, variable, alias, other, member, named_host, this_host, item_host, group_member}
@@ -10,6 +10,17 @@ use Rattle.pb_language.specs.Narrow.{teach, teach_host, teach_member}
 use Rattle.pb_expr.specs.Before.{Before}
 use Rattle.pb_expr.specs.TaughtView.{scope_view, untaught}
 use Rattle.pb_expr.specs.declared.scope.Taught.{Taught}
+
+-- a path that is there, and where the paths that are there are those
+abbrev pub shown_at : Root → List Name → Present
+shown_at q ns = record { root = q; steps = ns }
+
+abbrev pub with_present : List Present → Scope → Scope
+with_present ps c = record c { present = ps }
+
+pub shown-last : (new mid next : Scope) (p q : Present) (ps : List Present) → new ≡ with_present (p ∷ mid.present) mid → p ≡ q → mid ≡ next → next.present ≡ ps → new ≡ with_present (q ∷ ps) next
+shown-last new mid next p q ps is same then kept =
+    is ∙ ap (λ x. with_present (x ∷ mid.present) mid) same ∙ ap (λ m. with_present (q ∷ m.present) m) then ∙ ap (λ us. with_present (q ∷ us) next) kept
 
 pub each-untold : (k : Before) (t : Taught) (on : Bool) (x : Name) (gs : List Name) → each_spot (untaught k.scope) on x gs ≡ each_spot (unnamed (scope_view k t)) on x gs
 each-untold k t on x [] = refl

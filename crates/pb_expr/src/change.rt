@@ -2,9 +2,9 @@
 ghost use Rattle.std.specs.Prelude.{◌≡◌, IfOk, Some, option_map, string_bytes};
 ghost use Rattle.pb_language.specs.Expansion.{expanded_root};
 ghost use Rattle.pb_language.specs.Expression.{Expression, alias, item_host, other, variable};
-ghost use Rattle.pb_language.specs.Kinds.{kind_of};
+ghost use Rattle.pb_language.specs.Kinds.{kind_of, root_spot};
 ghost use Rattle.pb_language.specs.Narrow.{teach, teach_host};
-ghost use Rattle.pb_language.specs.Scope.{is_certain, spot_kind};
+ghost use Rattle.pb_language.specs.Scope.{is_certain, other_spot, own_spot, spot_kind};
 ghost use Rattle.pb_value.specs.Words.{is_always, kind_view};
 ghost use Rattle.pb_syntax.specs.ExprView.{names_of, root_view};
 ghost use Rattle.pb_expr.specs.Before.{Before};
@@ -73,13 +73,33 @@ fn teach_alias(
         → scope_view b t ≡ teach (scope_view b taught)
         (change_view change (names_of path.now.steps.items)) (alias (string_bytes name.now) e)) }
 {
+    let learned = alias_changed(alloc, change, path, name, &taught, kind)?;
+    let mut taught = taught;
+    taught.learned.insert(0, learned)?;
+    Ok(taught)
+}
+
+// What is known of that value once that changed.
+fn alias_changed(
+    alloc: Global,
+    change: Change,
+    path: &Path,
+    name: &String,
+    taught: &Taught,
+    kind: Kind,
+) -> Result<Learned, AllocError>
+    ensures name { IfOk result (λ l. string_bytes l.name ≡ string_bytes name.now) }
+    ensures kind { IfOk result (λ l. (b : Before) (e : Expression)
+        → b.trees (string_bytes name.now) ≡ Some e
+        → kind_view kind ≡ kind_of (scope_view b taught.now) e
+        → kind_view l.kind ≡ spot_kind (change_view change (names_of path.now.steps.items)
+        (root_spot (scope_view b taught.now) (alias (string_bytes name.now) e)))) }
+{
     let known = alias_kind(&taught.learned, name.as_str(), kind)?;
     let slot = changed(alloc, change, &path.steps, Some(Slot::always(known)))?;
     let name = name.clone()?;
     let kind = slot.kind;
-    let mut taught = taught;
-    taught.learned.insert(0, Learned { name, kind })?;
-    Ok(taught)
+    Ok(Learned { name, kind })
 }
 
 // What is taught of the value at a root that is no name of `vars`.
@@ -129,11 +149,32 @@ fn teach_own<K: Known>(
         IfOk result (λ t. scope_view k t ≡ teach (scope_view k taught)
         (change_view change (names_of path.now.steps.items)) (variable (string_bytes name.now))) }
 {
-    let slot = copied(own_slot(known, &taught, name.as_str()))?;
-    let slot = changed(alloc, change, &path.steps, slot)?;
+    let slot = own_changed(alloc, change, path, name, known, &taught)?;
     let mut taught = taught;
-    place_slot(&mut taught.slots, name.clone()?, slot)?;
+    place_slot(alloc, &mut taught.slots, name.as_str(), slot)?;
     Ok(taught)
+}
+
+// What is known of a variable of the host's own once that changed.
+fn own_changed<K: Known>(
+    alloc: Global,
+    change: Change,
+    path: &Path,
+    name: &String,
+    known: &K,
+    taught: &Taught,
+) -> Result<Slot<Kind>, AllocError>
+    ensures certain { let c = scope_view (K.before known.now) taught.now in
+        IfOk result (λ s. is_always s.presence ≡ is_certain
+        (change_view change (names_of path.now.steps.items)
+        (own_spot c (string_bytes name.now)))) }
+    ensures kind { let c = scope_view (K.before known.now) taught.now in
+        IfOk result (λ s. kind_view s.kind ≡ spot_kind
+        (change_view change (names_of path.now.steps.items)
+        (own_spot c (string_bytes name.now)))) }
+{
+    let slot = copied(own_slot(known, taught, name.as_str()))?;
+    changed(alloc, change, &path.steps, slot)
 }
 
 fn teach_item<K: Known>(
@@ -149,11 +190,32 @@ fn teach_item<K: Known>(
         (change_view change (names_of path.now.steps.items))
         (other item_host (string_bytes name.now))) }
 {
-    let slot = item_slot(alloc, name.as_str(), known, &taught)?;
-    let slot = changed(alloc, change, &path.steps, slot)?;
+    let slot = item_changed(alloc, change, path, name, known, &taught)?;
     let mut taught = taught;
-    place_slot(&mut taught.item_slots, name.clone()?, slot)?;
+    place_slot(alloc, &mut taught.item_slots, name.as_str(), slot)?;
     Ok(taught)
+}
+
+// What is known of a variable of the host that the item names once that changed.
+fn item_changed<K: Known>(
+    alloc: Global,
+    change: Change,
+    path: &Path,
+    name: &String,
+    known: &K,
+    taught: &Taught,
+) -> Result<Slot<Kind>, AllocError>
+    ensures certain { let c = scope_view (K.before known.now) taught.now in
+        IfOk result (λ s. is_always s.presence ≡ is_certain
+        (change_view change (names_of path.now.steps.items)
+        (other_spot c item_host (string_bytes name.now)))) }
+    ensures kind { let c = scope_view (K.before known.now) taught.now in
+        IfOk result (λ s. kind_view s.kind ≡ spot_kind
+        (change_view change (names_of path.now.steps.items)
+        (other_spot c item_host (string_bytes name.now)))) }
+{
+    let slot = item_slot(alloc, name.as_str(), known, taught)?;
+    changed(alloc, change, &path.steps, slot)
 }
 
 fn teach_there<K: Known>(

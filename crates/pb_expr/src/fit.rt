@@ -73,7 +73,8 @@ pub fn infer_kind<K: Known>(
 {
     let turns = all_turns();
     let inquiry = inquiry_of(known, &turns);
-    infer(alloc, expr, &inquiry, taught, &mut Asked::nothing(alloc))
+    let found = infer(alloc, expr, &inquiry, taught, &mut Asked::nothing(alloc))?;
+    Ok(found)
 }
 
 /// The kind of a fit expression by what is known of variables and what tests have taught, or else

@@ -1,10 +1,11 @@
 // What is found of an expression, its kind and its first fault, and what its answer teaches.
-ghost use Rattle.std.specs.Prelude.{◌≡◌, IfOk, None, OnOk, option_map};
+ghost use Rattle.std.specs.Prelude.{◌≡◌, IfOk, None, OnOk, option_map, true};
 ghost use Rattle.pb_semantics.specs.Words.{recs};
+ghost use Rattle.pb_language.specs.Expression.{defined, path as read, path_or, path_status};
 ghost use Rattle.pb_language.specs.Expansion.{all_expanded, expanded, expanded_root};
 ghost use Rattle.pb_language.specs.Expansion.{parts_expanded};
-ghost use Rattle.pb_language.specs.Fit.{active_fault, term_fault};
-ghost use Rattle.pb_language.specs.Kinds.{path_spot, shown_spot};
+ghost use Rattle.pb_language.specs.Fit.{active_fault, read_fault, term_fault, tested_fault};
+ghost use Rattle.pb_language.specs.Kinds.{path_spot, root_spot, shown_spot};
 ghost use Rattle.pb_language.specs.Narrow.{any_teaches, narrow, narrow_each, narrow_some};
 ghost use Rattle.pb_language.specs.Narrow.{where_taught};
 ghost use Rattle.pb_language.specs.Scope.{is_present as is_shown, spot_kind};
@@ -15,7 +16,7 @@ ghost use Rattle.pb_language.specs.Fit.{path_fault};
 ghost use Rattle.pb_semantics.specs.Words.{booleans};
 ghost use Rattle.pb_value.specs.Words.{kind_view};
 ghost use Rattle.pb_syntax.specs.ExprView.{expr_view, exprs_view, names_of, parts_view};
-ghost use Rattle.pb_syntax.specs.ExprView.{root_view, term_view};
+ghost use Rattle.pb_syntax.specs.ExprView.{root_view, status_view, term_view};
 ghost use Rattle.pb_expr.specs.FitView.{fault_view};
 ghost use Rattle.pb_expr.specs.Found.{AreFound, IsRight, alias_tree, fault_in};
 ghost use Rattle.pb_expr.specs.TaughtView.{scope_view, slot_given};
@@ -31,7 +32,7 @@ use crate::roots::{AtRoot, alias_of, at_root};
 use crate::scope::{Taught, is_present};
 use crate::steps::path_unfit;
 use crate::unfit::{Unfit, active_unfit, first_of, term_unfit};
-use pb_syntax::{Expr, Path, Root, Term};
+use pb_syntax::{Expr, Path, Root, Status, Term};
 use pb_value::Kind;
 use std::alloc::{AllocError, Global};
 use std::collections::BTreeMap;
@@ -57,69 +58,37 @@ pub(crate) fn infer<K: Known>(
 {
     match expr {
         Expr::Literal(value) => fit(literal_kind(alloc, value)?),
-        Expr::Path(path) => {
-            let alias = of_alias(alloc, &path.root, inquiry, taught, asked)?;
-            let at = at_root(alloc, &path.root, inquiry.known, taught, alias)?;
-            of_path(path, inquiry.known, taught, at)
-        }
+        Expr::Path(path) => infer_path(alloc, path, inquiry, taught, asked),
         Expr::Hostvars(_) => unfit(Kind::Never, Some(Unfit::WrongKind)),
-        Expr::Not(operand) => {
-            Ok(forms::negation(infer(alloc, operand, inquiry, taught, asked)?))
-        }
+        Expr::Not(of) => Ok(forms::negation(infer(alloc, of, inquiry, taught, asked)?)),
         Expr::And(operands) => of_operands(alloc, operands, true, inquiry, taught, asked),
         Expr::Or(operands) => of_operands(alloc, operands, false, inquiry, taught, asked),
         Expr::Compare(comparison, left, right) => {
-            let left = infer(alloc, left, inquiry, taught, asked)?;
-            let right = infer(alloc, right, inquiry, taught, asked)?;
-            Ok(forms::comparison(*comparison, (left, right)))
+            let operands = infer_both(alloc, left, right, inquiry, taught, asked)?;
+            Ok(forms::comparison(*comparison, operands))
         }
         Expr::In(part, whole) => {
-            let part = infer(alloc, part, inquiry, taught, asked)?;
-            let whole = infer(alloc, whole, inquiry, taught, asked)?;
-            Ok(forms::membership((part, whole)))
+            Ok(forms::membership(infer_both(alloc, part, whole, inquiry, taught, asked)?))
         }
         Expr::InBatch(term) => unfit(Kind::Bool, in_batch_unfit(inquiry.known, taught, term)),
         Expr::Defined(path) => {
-            let alias = of_alias(alloc, &path.root, inquiry, taught, asked)?;
-            let at = at_root(alloc, &path.root, inquiry.known, taught, alias)?;
+            let at = at_path(alloc, path, inquiry, taught, asked)?;
             unfit(Kind::Bool, at.tested)
         }
-        Expr::Undefinable(of) => {
-            Ok(forms::undefinable(infer(alloc, of, inquiry, taught, asked)?))
-        }
+        Expr::Undefinable(of) => Ok(forms::undefinable(infer(alloc, of, inquiry, taught, asked)?)),
         Expr::PathStatus(_, path) => {
-            let alias = of_alias(alloc, &path.root, inquiry, taught, asked)?;
-            let at = at_root(alloc, &path.root, inquiry.known, taught, alias)?;
-            Ok(forms::status(of_path(path, inquiry.known, taught, at)?))
+            Ok(forms::status(infer_path(alloc, path, inquiry, taught, asked)?))
         }
         Expr::Status(_, of) => Ok(forms::status(infer(alloc, of, inquiry, taught, asked)?)),
-        Expr::PathOr(path, other) => {
-            let alias = of_alias(alloc, &path.root, inquiry, taught, asked)?;
-            let at = at_root(alloc, &path.root, inquiry.known, taught, alias)?;
-            let other = infer(alloc, other, inquiry, taught, asked)?;
-            path_or_else(
-                alloc,
-                path,
-                inquiry.known,
-                taught,
-                at,
-                forms::not_any(other),
-            )
-        }
+        Expr::PathOr(path, other) => of_path_or(alloc, path, other, inquiry, taught, asked),
         Expr::ValueOr(value, other) => {
-            let value = infer(alloc, value, inquiry, taught, asked)?;
-            let other = infer(alloc, other, inquiry, taught, asked)?;
-            Ok(forms::value_or((value, other)))
+            Ok(forms::value_or(infer_both(alloc, value, other, inquiry, taught, asked)?))
         }
         Expr::Length(of) => Ok(forms::length(infer(alloc, of, inquiry, taught, asked)?)),
         Expr::Join(items, between) => {
-            let items = infer(alloc, items, inquiry, taught, asked)?;
-            let between = infer(alloc, between, inquiry, taught, asked)?;
-            Ok(forms::joined((items, between)))
+            Ok(forms::joined(infer_both(alloc, items, between, inquiry, taught, asked)?))
         }
-        Expr::Concat(parts) => {
-            Ok(forms::texts(&infer_each(alloc, parts, inquiry, taught, asked)?))
-        }
+        Expr::Concat(parts) => Ok(forms::texts(&infer_each(alloc, parts, inquiry, taught, asked)?)),
         Expr::List(items) => {
             forms::items(alloc, &infer_each(alloc, items, inquiry, taught, asked)?)
         }
@@ -172,6 +141,88 @@ fn of_alias<K: Known>(
     let found = infer(alloc, tree, &deeper, taught, asked)?;
     asked.put(name, &found)?;
     Ok(Some(found))
+}
+
+// That of the root of the path, whose tree is asked where it is a name of `vars`.
+#[cycle(infer)]
+fn at_path<K: Known>(
+    alloc: Global,
+    path: &Path,
+    inquiry: &Inquiry<'_, K>,
+    taught: &Taught,
+    asked: &mut Asked,
+) -> Result<AtRoot, AllocError>
+    requires { IsRight (K.before inquiry.now.known.now) taught.now asked.old }
+    ensures slot { let b = K.before inquiry.now.known.now in
+        IfOk result (λ a. slot_given a.slot ≡ root_spot (scope_view b taught.now)
+        (expanded_root b.trees (root_view path.now.root))) }
+    ensures read { let b = K.before inquiry.now.known.now in
+        IfOk result (λ a. option_map fault_view a.read ≡ read_fault (scope_view b taught.now)
+        (expanded_root b.trees (root_view path.now.root))) }
+    ensures tested { let b = K.before inquiry.now.known.now in
+        IfOk result (λ a. option_map fault_view a.tested ≡ tested_fault (scope_view b taught.now)
+        (expanded_root b.trees (root_view path.now.root))) }
+    ensures right { OnOk result
+        (IsRight (K.before inquiry.now.known.now) taught.now asked.new) }
+{
+    let alias = of_alias(alloc, &path.root, inquiry, taught, asked)?;
+    at_root(alloc, &path.root, inquiry.known, taught, alias)
+}
+
+// What is found of the value at the end of the path.
+#[cycle(infer)]
+fn infer_path<K: Known>(
+    alloc: Global,
+    path: &Path,
+    inquiry: &Inquiry<'_, K>,
+    taught: &Taught,
+    asked: &mut Asked,
+) -> Result<Inferred, AllocError>
+    requires { IsRight (K.before inquiry.now.known.now) taught.now asked.old }
+    ensures kind { let b = K.before inquiry.now.known.now in
+        let r = expanded_root b.trees (root_view path.now.root) in
+        IfOk result (λ f. kind_view f.kind
+        ≡ kind_found (scope_view b taught.now) (read r (names_of path.now.steps.items))) }
+    ensures fault { let b = K.before inquiry.now.known.now in
+        let r = expanded_root b.trees (root_view path.now.root) in
+        IfOk result (λ f. fault_in f
+        ≡ fault (scope_view b taught.now) (read r (names_of path.now.steps.items))) }
+    ensures right { OnOk result
+        (IsRight (K.before inquiry.now.known.now) taught.now asked.new) }
+{
+    let at = at_path(alloc, path, inquiry, taught, asked)?;
+    of_path(path, inquiry.known, taught, at)
+}
+
+// What is found of one operand, and then of the other.
+#[cycle(infer)]
+fn infer_both<K: Known>(
+    alloc: Global,
+    one: &Expr,
+    other: &Expr,
+    inquiry: &Inquiry<'_, K>,
+    taught: &Taught,
+    asked: &mut Asked,
+) -> Result<(Inferred, Inferred), AllocError>
+    requires { IsRight (K.before inquiry.now.known.now) taught.now asked.old }
+    ensures kind { let b = K.before inquiry.now.known.now in
+        IfOk result (λ f. kind_view f.0.kind
+        ≡ kind_found (scope_view b taught.now) (expanded b.trees (expr_view one.now))) }
+    ensures fault { let b = K.before inquiry.now.known.now in
+        IfOk result (λ f. fault_in f.0
+        ≡ fault (scope_view b taught.now) (expanded b.trees (expr_view one.now))) }
+    ensures other_kind { let b = K.before inquiry.now.known.now in
+        IfOk result (λ f. kind_view f.1.kind
+        ≡ kind_found (scope_view b taught.now) (expanded b.trees (expr_view other.now))) }
+    ensures other_fault { let b = K.before inquiry.now.known.now in
+        IfOk result (λ f. fault_in f.1
+        ≡ fault (scope_view b taught.now) (expanded b.trees (expr_view other.now))) }
+    ensures right { OnOk result
+        (IsRight (K.before inquiry.now.known.now) taught.now asked.new) }
+{
+    let one = infer(alloc, one, inquiry, taught, asked)?;
+    let other = infer(alloc, other, inquiry, taught, asked)?;
+    Ok((one, other))
 }
 
 // What is found of each of them.
@@ -310,24 +361,9 @@ pub(crate) fn narrow_here<K: Known>(
             let taught = show_active(alloc, term, inquiry.known, here.taught)?;
             Ok(here_anew(alloc, taught))
         }
-        Expr::Defined(path) if answer => {
-            let mut here = here;
-            let alias = of_alias(alloc, &path.root, inquiry, &here.taught, &mut here.asked)?;
-            let taught = show(alloc, path, inquiry.known, here.taught, alias)?;
-            Ok(here_anew(alloc, taught))
-        }
+        Expr::Defined(path) if answer => narrow_there(alloc, path, inquiry, here),
         Expr::PathStatus(status, path) => {
-            let mut here = here;
-            let alias = of_alias(alloc, &path.root, inquiry, &here.taught, &mut here.asked)?;
-            let taught = show_status(
-                alloc,
-                (*status, answer),
-                path,
-                inquiry.known,
-                here.taught,
-                alias,
-            )?;
-            Ok(here_anew(alloc, taught))
+            narrow_status(alloc, (*status, answer), path, inquiry, here)
         }
         Expr::InBatch(_) | Expr::Hostvars(_) => Ok(here),
         Expr::Literal(_) | Expr::Path(_) | Expr::Compare(_, _, _) | Expr::In(_, _) => Ok(here),
@@ -335,6 +371,51 @@ pub(crate) fn narrow_here<K: Known>(
         Expr::PathOr(_, _) | Expr::ValueOr(_, _) | Expr::Length(_) => Ok(here),
         Expr::Join(_, _) | Expr::Concat(_) | Expr::List(_) | Expr::Record(_) => Ok(here),
     }
+}
+
+// The path was tested to be there.
+#[cycle(infer)]
+fn narrow_there<K: Known>(
+    alloc: Global,
+    path: &Path,
+    inquiry: &Inquiry<'_, K>,
+    here: Here,
+) -> Result<Here, AllocError>
+    requires { IsRight (K.before inquiry.now.known.now) here.taught here.asked }
+    ensures taught { let b = K.before inquiry.now.known.now in
+        IfOk result (λ h. scope_view b h.taught ≡ narrow (scope_view b here.taught)
+        (defined (expanded_root b.trees (root_view path.now.root))
+        (names_of path.now.steps.items)) true) }
+    ensures right { IfOk result
+        (λ h. IsRight (K.before inquiry.now.known.now) h.taught h.asked) }
+{
+    let mut here = here;
+    let alias = of_alias(alloc, &path.root, inquiry, &here.taught, &mut here.asked)?;
+    let taught = show(alloc, path, inquiry.known, here.taught, alias)?;
+    Ok(here_anew(alloc, taught))
+}
+
+// The test of a status at the end of the path had that answer.
+#[cycle(infer)]
+fn narrow_status<K: Known>(
+    alloc: Global,
+    test: (Status, bool),
+    path: &Path,
+    inquiry: &Inquiry<'_, K>,
+    here: Here,
+) -> Result<Here, AllocError>
+    requires { IsRight (K.before inquiry.now.known.now) here.taught here.asked }
+    ensures taught { let b = K.before inquiry.now.known.now in
+        IfOk result (λ h. scope_view b h.taught ≡ narrow (scope_view b here.taught)
+        (path_status (status_view test.0) (expanded_root b.trees (root_view path.now.root))
+        (names_of path.now.steps.items)) test.1) }
+    ensures right { IfOk result
+        (λ h. IsRight (K.before inquiry.now.known.now) h.taught h.asked) }
+{
+    let mut here = here;
+    let alias = of_alias(alloc, &path.root, inquiry, &here.taught, &mut here.asked)?;
+    let taught = show_status(alloc, test, path, inquiry.known, here.taught, alias)?;
+    Ok(here_anew(alloc, taught))
 }
 
 // Each operand had that answer.
@@ -385,16 +466,63 @@ fn narrow_some<K: Known>(
     let mut ways = Vec::new(alloc);
     let mut here = before;
     for operand in operands {
-        let way = inquiry.way(alloc, &here)?;
-        let way = narrow_here(alloc, operand, answer, inquiry, way)?;
-        ways.push(way.taught)?;
+        let way = narrow_way(alloc, operand, answer, inquiry, &here)?;
+        ways.push(way)?;
         here = narrow_here(alloc, operand, !answer, inquiry, here)?;
     }
     let taught = taught_by_all(alloc, ways, here.taught)?;
     Ok(here_anew(alloc, taught))
 }
 
+// What is taught on a way of several, on which the operand had that answer.
+#[cycle(infer)]
+fn narrow_way<K: Known>(
+    alloc: Global,
+    operand: &Expr,
+    answer: bool,
+    inquiry: &Inquiry<'_, K>,
+    here: &Here,
+) -> Result<Taught, AllocError>
+    requires { IsRight (K.before inquiry.now.known.now) here.now.taught here.now.asked }
+    ensures { let b = K.before inquiry.now.known.now in
+        IfOk result (λ t. scope_view b t ≡ narrow (scope_view b here.now.taught)
+        (expanded b.trees (expr_view operand.now)) answer) }
+{
+    let way = inquiry.way(alloc, here)?;
+    let way = narrow_here(alloc, operand, answer, inquiry, way)?;
+    Ok(way.taught)
+}
+
 // Of the value at the end of the path, or of the other where there may be none.
+#[cycle(infer)]
+fn of_path_or<K: Known>(
+    alloc: Global,
+    path: &Path,
+    other: &Expr,
+    inquiry: &Inquiry<'_, K>,
+    taught: &Taught,
+    asked: &mut Asked,
+) -> Result<Inferred, AllocError>
+    requires { IsRight (K.before inquiry.now.known.now) taught.now asked.old }
+    ensures kind { let b = K.before inquiry.now.known.now in
+        let r = expanded_root b.trees (root_view path.now.root) in
+        let e = expanded b.trees (expr_view other.now) in
+        IfOk result (λ f. kind_view f.kind ≡ kind_found (scope_view b taught.now)
+        (path_or r (names_of path.now.steps.items) e)) }
+    ensures fault { let b = K.before inquiry.now.known.now in
+        let r = expanded_root b.trees (root_view path.now.root) in
+        let e = expanded b.trees (expr_view other.now) in
+        IfOk result (λ f. fault_in f ≡ fault (scope_view b taught.now)
+        (path_or r (names_of path.now.steps.items) e)) }
+    ensures right { OnOk result
+        (IsRight (K.before inquiry.now.known.now) taught.now asked.new) }
+{
+    let at = at_path(alloc, path, inquiry, taught, asked)?;
+    let other = forms::not_any(infer(alloc, other, inquiry, taught, asked)?);
+    path_or_else(alloc, path, inquiry.known, taught, at, other)
+}
+
+// The same by what was found of both.
 fn path_or_else<K: Known>(
     alloc: Global,
     path: &Path,

@@ -1,5 +1,5 @@
 // What the answer of a test teaches of what is known.
-ghost use Rattle.std.specs.Prelude.{◌∷◌, ◌≡◌, IfOk, option_map, string_bytes};
+ghost use Rattle.std.specs.Prelude.{[], ◌++◌, ◌∷◌, ◌≡◌, IfOk, option_map, string_bytes};
 ghost use Rattle.pb_language.specs.Expansion.{all_expanded, expanded, expanded_root};
 ghost use Rattle.pb_language.specs.Kinds.{kind_of};
 ghost use Rattle.pb_language.specs.Narrow.{answers, any_teaches, cases_with, changed_at};
@@ -63,6 +63,15 @@ pub(crate) fn taught_by_all(
     let Some(last) = ways.pop() else {
         return Ok(before);
     };
+    taught_by_each(alloc, ways, last)
+}
+
+// What the last way and all before it teach.
+fn taught_by_each(alloc: Global, before: Vec<Taught>, last: Taught) -> Result<Taught, AllocError>
+    ensures { IfOk result (λ t. (b : Before) → let c = scope_view b last in
+        scope_view b t ≡ taught_by (scopes_view b before.items ++ c ∷ []) c) }
+{
+    let mut ways = before;
     let mut all = last;
     while let Some(way) = ways.pop() {
         all = both(alloc, &way, &all)?;
@@ -143,8 +152,26 @@ pub(crate) fn show<K: Known>(
         IfOk result (λ t. scope_view b t ≡ teach_present (scope_view b taught)
         (expanded_root b.trees (root_view path.now.root)) (names_of path.now.steps.items)) }
 {
+    let taught = teach(alloc, Change::There, path, known, taught, alias)?;
+    add_shown(alloc, path, known, taught)
+}
+
+// The path is the last one that was tested to be there.
+fn add_shown<K: Known>(
+    alloc: Global,
+    path: &Path,
+    known: &K,
+    taught: Taught,
+) -> Result<Taught, AllocError>
+    ensures { let b = K.before known.now in
+        let c = scope_view b taught in
+        let r = expanded_root b.trees (root_view path.now.root) in
+        let ns = names_of path.now.steps.items in
+        IfOk result (λ t. scope_view b t
+        ≡ record c { present = record { root = resolved b.scope r; steps = ns } ∷ c.present }) }
+{
     let shown = Arc::new(alloc, shown_path(alloc, path, known)?)?;
-    let mut taught = teach(alloc, Change::There, path, known, taught, alias)?;
+    let mut taught = taught;
     taught.paths.insert(0, shown)?;
     Ok(taught)
 }

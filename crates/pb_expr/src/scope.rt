@@ -325,15 +325,37 @@ pub(crate) fn both(alloc: Global, one: &Taught, other: &Taught) -> Result<Taught
     ensures { IfOk result (λ t. (b : Before) →
         scope_view b t ≡ both_scopes (scope_view b one.now) (scope_view b other.now)) }
 {
+    let (learned, paths, active) = both_shown(alloc, one, other)?;
     Ok(Taught {
         slots: both_slots(alloc, &one.slots, &other.slots)?,
         views: both_views(alloc, &one.views, &other.views)?,
-        learned: both_learned(alloc, &one.learned, &other.learned)?,
-        paths: both_paths(alloc, &one.paths, &other.paths)?,
-        active: both_names(alloc, &one.active, &other.active)?,
+        learned,
+        paths,
+        active,
         item_slots: both_slots(alloc, &one.item_slots, &other.item_slots)?,
         item_active: one.item_active & other.item_active,
     })
+}
+
+// What both ways of two teach of names of `vars`, of paths and of active hosts.
+fn both_shown(
+    alloc: Global,
+    one: &Taught,
+    other: &Taught,
+) -> Result<(Vec<Learned>, Vec<Arc<Path>>, Names), AllocError>
+    ensures learned { IfOk result (λ s. (f : Trees) → learned_view f s.0.items
+        ≡ both_learned (learned_view f one.now.learned.items)
+        (learned_view f other.now.learned.items)) }
+    ensures paths { IfOk result (λ s. (f : Trees) → presents_view f s.1.items
+        ≡ both_present (presents_view f one.now.paths.items)
+        (presents_view f other.now.paths.items)) }
+    ensures active { IfOk result (λ s. names_of s.2.items
+        ≡ both_names (names_of one.now.active.items) (names_of other.now.active.items)) }
+{
+    let learned = both_learned(alloc, &one.learned, &other.learned)?;
+    let paths = both_paths(alloc, &one.paths, &other.paths)?;
+    let active = both_names(alloc, &one.active, &other.active)?;
+    Ok((learned, paths, active))
 }
 
 fn both_learned(

@@ -183,7 +183,7 @@ fn teach_view(
 {
     let key = String::from_str(alloc, host)?;
     let mut slots = take_slots(alloc, views, key.clone()?)?;
-    place_slot(&mut slots, String::from_str(alloc, name)?, slot)?;
+    place_slot(alloc, &mut slots, name, slot)?;
     put_slots(views, key, slots)
 }
 
@@ -206,13 +206,15 @@ fn take_slots(
 
 // Puts the slot in place of any other of its name.
 pub(crate) fn place_slot(
+    alloc: Global,
     slots: &mut Slots,
-    name: String,
+    name: &str,
     slot: Slot<Kind>,
 ) -> Result<(), AllocError>
-    ensures { OnOk result (slots_view slots.new.entries ≡ with_slot (string_bytes name)
+    ensures { OnOk result (slots_view slots.new.entries ≡ with_slot name.now
         (is_always slot.presence) (kind_view slot.kind) (slots_view slots.old.entries)) }
 {
+    let name = String::from_str(alloc, name)?;
     drop(slots.insert(name, slot)?);
     Ok(())
 }

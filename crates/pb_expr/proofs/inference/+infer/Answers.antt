@@ -2,6 +2,7 @@ use Rattle.std.proofs.Common.{rules, ◌≡◌, true, false, Some, not, ◌&&◌
 use Rattle.std.proofs.lemmas.List.{append-nil, drop_all}
 use Rattle.std.proofs.lemmas.Result.{IfOk-weaker}
 use Rattle.pb_semantics.specs.Kind.{lists, recs, put_slot}
+use Rattle.pb_language.specs.Expression.{path_status}
 use Rattle.pb_language.specs.Expansion.{all_expanded, expanded, expanded_root, parts_expanded}
 use Rattle.pb_language.specs.Kinds.{items_kind, kind_of}
 use Rattle.pb_language.specs.Fit.{asks, first, fault, is_any, wrong_kind, chain_fault, are_booleans, fields_fault, parts_fault}
@@ -146,12 +147,12 @@ narrow_some-loop-operand-preserved g t c =
     let e = c.operand-item.result in
     let w = expanded m.trees (expr_view e) in
     let rest = all_expanded m.trees (exprs_view (drop (i + 1) items)) in
-    let way = c.in_ok-way-2.way in
+    let way = c.in_ok-way.way in
     let next : drop i items ≡ e ∷ drop (i + 1) items = drop-at items i e c.loop-operand-test.true c.operand-item.is in
     record {
       ways = l.invariant.ways ∙ ap (λ es. scopes_view m l.ways.items ++ ways s (all_expanded m.trees (exprs_view es)) q) next
-          ∙ ways-turn m l.ways.items c.push.new.self.items way.taught l.here.taught c.in_ok-here.here.taught w rest q (c.in_ok-way-2.ensures.taught ∙ ap (λ d. narrow d w q) c.in_ok-way.ensures.taught) c.in_ok-here.ensures.taught c.in_ok-push.ensures.items;
-      before = same-last m l.ways.items c.push.new.self.items way.taught (scope_view m c.in_ok-here.here.taught) (scope_view m c.args.before.taught) c.in_ok-push.ensures.items;
+          ∙ ways-turn m l.ways.items c.push.new.self.items way l.here.taught c.in_ok-here.here.taught w rest q c.in_ok-way.ensures c.in_ok-here.ensures.taught c.in_ok-push.ensures.items;
+      before = same-last m l.ways.items c.push.new.self.items way (scope_view m c.in_ok-here.here.taught) (scope_view m c.args.before.taught) c.in_ok-push.ensures.items;
       right = c.in_ok-here.ensures.right;
     }
 
@@ -194,23 +195,32 @@ infer-returns-in_ok-infer_each-in-List-clause-fault g t c =
 pub narrow_here-returns-in_ok-taught-in-InBatch-clause-right : goal.narrow_here-returns-in_ok-taught-in-InBatch-clause-right
 narrow_here-returns-in_ok-taught-in-InBatch-clause-right g t c = c.here_anew.ensures.right (g.K.Known.before c.args.inquiry.now.known.now)
 
-pub narrow_here-returns-in_ok-taught-in-Defined-clause-right : goal.narrow_here-returns-in_ok-taught-in-Defined-clause-right
-narrow_here-returns-in_ok-taught-in-Defined-clause-right g t c = c.here_anew-in-Defined.ensures.right (g.K.Known.before c.args.inquiry.now.known.now)
-
-pub narrow_here-returns-in_ok-taught-in-PathStatus-clause-taught : goal.narrow_here-returns-in_ok-taught-in-PathStatus-clause-taught
-narrow_here-returns-in_ok-taught-in-PathStatus-clause-taught g t c =
+pub narrow_here-returns-in-PathStatus-clause-taught : goal.narrow_here-returns-in-PathStatus-clause-taught
+narrow_here-returns-in-PathStatus-clause-taught g t c =
     let b = g.K.Known.before c.args.inquiry.now.known.now in
     let f = b.trees in
     let d = scope_view b c.args.here.taught in
-    let status = c.in-PathStatus.status in
+    let e = expanded f (expr_view c.args.expr.now) in
+    let s = status_view c.in-PathStatus.status in
     let path = c.in-PathStatus.path in
-    let tree = ap (expanded f) (ap expr_view c.in-PathStatus.is ∙ view-PathStatus status path) in
-    ap (scope_view b) c.here_anew-in-PathStatus.ensures.taught
-    ∙ status-narrowed d (scope_view b c.in_ok-taught-in-PathStatus.taught) (expanded f (expr_view c.args.expr.now)) (status_view status) (expanded_root f (root_view path.root)) (names_of path.steps.items) c.args.answer
-    tree c.in_ok-taught-in-PathStatus.ensures
+    let r = expanded_root f (root_view path.root) in
+    let ns = names_of path.steps.items in
+    let q = c.args.answer in
+    let tree = ap (expanded f) (ap expr_view c.in-PathStatus.is ∙ view-PathStatus c.in-PathStatus.status path) in
+    IfOk-weaker c.narrow_status.result (λ h. scope_view b h.taught ≡ narrow d (path_status s r ns) q) (λ h. scope_view b h.taught ≡ narrow d e q)
+    (λ h is. status-narrowed d (scope_view b h.taught) e s r ns q tree is) c.narrow_status.ensures.taught
 
-pub narrow_here-returns-in_ok-taught-in-PathStatus-clause-right : goal.narrow_here-returns-in_ok-taught-in-PathStatus-clause-right
-narrow_here-returns-in_ok-taught-in-PathStatus-clause-right g t c = c.here_anew-in-PathStatus.ensures.right (g.K.Known.before c.args.inquiry.now.known.now)
+pub narrow_there-returns-clause-taught : goal.narrow_there-returns-clause-taught
+narrow_there-returns-clause-taught g t c = ap (scope_view (g.K.Known.before c.args.inquiry.now.known.now)) c.here_anew.ensures.taught ∙ c.in_ok-taught.ensures
+
+pub narrow_there-returns-clause-right : goal.narrow_there-returns-clause-right
+narrow_there-returns-clause-right g t c = c.here_anew.ensures.right (g.K.Known.before c.args.inquiry.now.known.now)
+
+pub narrow_status-returns-clause-taught : goal.narrow_status-returns-clause-taught
+narrow_status-returns-clause-taught g t c = ap (scope_view (g.K.Known.before c.args.inquiry.now.known.now)) c.here_anew.ensures.taught ∙ c.in_ok-taught.ensures
+
+pub narrow_status-returns-clause-right : goal.narrow_status-returns-clause-right
+narrow_status-returns-clause-right g t c = c.here_anew.ensures.right (g.K.Known.before c.args.inquiry.now.known.now)
 
 pub narrow_some-returns-clause-taught : goal.narrow_some-returns-clause-taught
 narrow_some-returns-clause-taught g t c =

@@ -1,11 +1,11 @@
-use Rattle.std.proofs.Common.{◌≡◌, ℕ, ◌+◌, ◌*◌, ◌++◌, ◌&&◌, List, drop, String, Global, option_map}
+use Rattle.std.proofs.Common.{◌≡◌, ℕ, ◌+◌, ◌*◌, ◌++◌, ◌&&◌, List, drop, String, Global, max, option_map}
 use Rattle.pb_language.specs.Expansion.{all_expanded, expanded, parts_expanded}
 use Rattle.pb_language.specs.Kinds.{kind_of}
 use Rattle.pb_language.specs.Fit.{first, chain_fault, are_booleans, fields_fault}
 use Rattle.pb_language.specs.Narrow.{narrow_each}
 use Rattle.pb_value.specs.KindView.{slots_view}
 use Rattle.pb_syntax.specs.ExprView.{expr_view, exprs_view, parts_view}
-use Rattle.pb_syntax.specs.declared.expr.Expr.{Expr}
+use Rattle.pb_syntax.specs.declared.expr.Expr.{Expr, size-Expr}
 use Rattle.pb_expr.specs.FitView.{fault_view}
 use Rattle.pb_expr.specs.Found.{AreFound, IsRight}
 use Rattle.pb_expr.specs.TaughtView.{scope_view, scopes_view, taught_by}
@@ -19,10 +19,19 @@ abbrev pub left : ℕ → ℕ → ℕ
 left chain depth = chain * (6 * depth + 12)
 
 abbrev pub decreases-infer : goal.decreases-infer
-decreases-infer g l = 6 * goal.size-infer g l + 1 + left l.inquiry.now.chain (g.K.Known.depth l.inquiry.now.known.now)
+decreases-infer g l = 6 * goal.size-infer g l + 3 + left l.inquiry.now.chain (g.K.Known.depth l.inquiry.now.known.now)
 
 abbrev pub decreases-of_alias : goal.decreases-of_alias
 decreases-of_alias g l = left l.inquiry.now.chain (g.K.Known.depth l.inquiry.now.known.now)
+
+abbrev pub decreases-at_path : goal.decreases-at_path
+decreases-at_path g l = 1 + left l.inquiry.now.chain (g.K.Known.depth l.inquiry.now.known.now)
+
+abbrev pub decreases-infer_path : goal.decreases-infer_path
+decreases-infer_path g l = 2 + left l.inquiry.now.chain (g.K.Known.depth l.inquiry.now.known.now)
+
+abbrev pub decreases-infer_both : goal.decreases-infer_both
+decreases-infer_both g l = 6 * max (size-Expr l.one.now) (size-Expr l.other.now) + 4 + left l.inquiry.now.chain (g.K.Known.depth l.inquiry.now.known.now)
 
 abbrev pub decreases-infer_each : goal.decreases-infer_each
 decreases-infer_each g l = 6 * goal.size-infer_each g l + 4 + left l.inquiry.now.chain (g.K.Known.depth l.inquiry.now.known.now)
@@ -38,6 +47,18 @@ decreases-of_fields g l = 6 * goal.size-of_fields g l + 4 + left l.inquiry.now.c
 
 abbrev pub decreases-narrow_here : goal.decreases-narrow_here
 decreases-narrow_here g l = 6 * goal.size-narrow_here g l + 2 + left l.inquiry.now.chain (g.K.Known.depth l.inquiry.now.known.now)
+
+abbrev pub decreases-narrow_there : goal.decreases-narrow_there
+decreases-narrow_there g l = 1 + left l.inquiry.now.chain (g.K.Known.depth l.inquiry.now.known.now)
+
+abbrev pub decreases-narrow_status : goal.decreases-narrow_status
+decreases-narrow_status g l = 1 + left l.inquiry.now.chain (g.K.Known.depth l.inquiry.now.known.now)
+
+abbrev pub decreases-narrow_way : goal.decreases-narrow_way
+decreases-narrow_way g l = 6 * goal.size-narrow_way g l + 3 + left l.inquiry.now.chain (g.K.Known.depth l.inquiry.now.known.now)
+
+abbrev pub decreases-of_path_or : goal.decreases-of_path_or
+decreases-of_path_or g l = 6 * size-Expr l.other.now + 4 + left l.inquiry.now.chain (g.K.Known.depth l.inquiry.now.known.now)
 
 abbrev pub decreases-narrow_each : goal.decreases-narrow_each
 decreases-narrow_each g l = 6 * goal.size-narrow_each g l + 4 + left l.inquiry.now.chain (g.K.Known.depth l.inquiry.now.known.now)

@@ -1,16 +1,13 @@
-use Rattle.std.proofs.Common.{◌≡◌, [], sym, ap, ◌∙◌, arith}
+use Rattle.std.proofs.Common.{sym, ◌∙◌}
+use Rattle.std.proofs.lemmas.Result.{IfOk-weaker}
 use Rattle.pb_expr.specs.TaughtView.{scope_view, scopes_view}
-use Rattle.pb_expr.proofs.Ways.{last-taken, met_by, no-entries, way-met}
+use Rattle.pb_expr.proofs.Ways.{last-taken, taught-last}
 use Rattle.pb_expr.proofs.narrow.taught_by_all.Goals as goal
 
-pub loop-way-preserved : goal.loop-way-preserved
-loop-way-preserved c = λ k.
-    let l = c.loop-way in
-    l.invariant k ∙ way-met k l.ways.items c.pop-in-loop-way.new.self.items c.in-Some-pop.way l.all c.in_ok-all.all c.in-Some-pop.ensures.items (c.in_ok-all.ensures k)
-
 pub returns : goal.returns
-returns c = λ k.
-    let l = c.loop-way in
-    let none : l.ways.items ≡ [] = no-entries l.ways.items (omega (arith, l.ways.ok, c.in_default-pop.ensures.cases.0)) in
-    sym (last-taken k c.args.ways.items c.pop.new.self.items c.in-Some.last (scope_view k c.args.before) c.in-Some.ensures.items ∙ l.invariant k
-    ∙ ap (λ us. met_by (scopes_view k us) (scope_view k l.all)) none)
+returns c =
+    let ws = c.pop.new.self.items in
+    let last = c.in-Some.last in
+    IfOk-weaker c.taught_by_each.result _ _
+    (λ t h. λ k. h k ∙ taught-last (scopes_view k ws) (scope_view k last) (scope_view k last)
+    ∙ sym (last-taken k c.args.ways.items ws last (scope_view k c.args.before) c.in-Some.ensures.items)) c.taught_by_each.ensures

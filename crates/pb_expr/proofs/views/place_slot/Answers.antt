@@ -1,4 +1,5 @@
 use Rattle.std.proofs.Common.{string_bytes, ap, ◌∙◌}
+use Rattle.pb_language.specs.Scope.{with_slot}
 use Rattle.pb_value.specs.KindView.{is_always, kind_view, slots_view}
 use Rattle.pb_value.proofs.GrowLemmas.{ascend_slots}
 use Rattle.pb_value.proofs.JoinLemmas.{slots_view-insert_entry}
@@ -9,5 +10,9 @@ pub returns : goal.returns
 returns c =
     let es = c.args.slots.now.entries in
     let s = c.args.slot in
-    ap slots_view c.in_ok-insert.ensures.entries ∙ slots_view-insert_entry es c.args.name s
-    ∙ put-placed (string_bytes c.args.name) (is_always s.presence) (kind_view s.kind) (slots_view es) (ascend_slots es c.in_ok-insert.ensures.was_ordered)
+    let key = c.in_ok-name.name in
+    let a = is_always s.presence in
+    let k = kind_view s.kind in
+    ap slots_view c.in_ok-insert.ensures.entries ∙ slots_view-insert_entry es key s
+    ∙ put-placed (string_bytes key) a k (slots_view es) (ascend_slots es c.in_ok-insert.ensures.was_ordered)
+    ∙ ap (λ n. with_slot n a k (slots_view es)) c.in_ok-name.ensures.ok

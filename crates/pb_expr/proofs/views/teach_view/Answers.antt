@@ -19,8 +19,7 @@ returns c =
     let key : string_bytes c.in_ok-key.key ≡ g = c.in_ok-key.ensures.ok in
     let copy : string_bytes c.in_ok-clone.field-0 ≡ g = c.in_ok-clone.ensures.cases ∙ key in
     let now : placed ≡ new =
-    c.in_ok-place_slot.ensures ∙ ap (λ n. with_slot n a k (slots_view c.in_ok-slots.slots.entries)) c.in_ok-from_str.ensures.ok
-    ∙ ap (with_slot c.args.name.now a k) (c.in_ok-slots.ensures.taken ∙ ap (λ n. view_of n vs) copy) in
+    c.in_ok-place_slot.ensures ∙ ap (with_slot c.args.name.now a k) (c.in_ok-slots.ensures.taken ∙ ap (λ n. view_of n vs) copy) in
     let rest : left ≡ put_view g no_slots vs = c.in_ok-slots.ensures.left ∙ ap (λ n. put_view n no_slots vs) copy in
     subst (λ us. OnOk c.put_slots.result (views_view c.put_slots.new.views.entries ≡ us))
     (ap (λ n. put_view n placed left) key ∙ ap (λ ss. put_view g ss left) now ∙ ap (put_view g new) rest ∙ put-twice g new no_slots vs) c.put_slots.ensures

@@ -2,7 +2,7 @@ use Rattle.std.proofs.Common.{◌≡◌, length}
 use Rattle.pb_expr.specs.Before.{Before}
 use Rattle.pb_expr.specs.TaughtView.{scope_view, scopes_view}
 use Rattle.pb_expr.proofs.Ways.{met_by}
-use Rattle.pb_expr.proofs.narrow.taught_by_all.Given as goal
+use Rattle.pb_expr.proofs.narrow.taught_by_each.Given as goal
 
 abbrev pub decreases-loop-way : goal.decreases-loop-way
 decreases-loop-way l = length l.ways.items

@@ -1,10 +1,10 @@
 -- Where no text of a book reads another host, no task of its plays does.
-use Rattle.std.proofs.Common.{◌≡◌, ℕ, suc, List, [], ◌∷◌, Bool, true, false, not, ◌&&◌, ◌||◌, cond, bytes_eq, Option, Some, None, codes, refl, ap, ◌∙◌, sym}
+use Rattle.std.proofs.Common.{◌≡◌, ℕ, suc, List, [], ◌∷◌, Bool, true, false, not, ◌&&◌, ◌||◌, cond, bytes_eq, Option, Some, None, codes, refl, ap, ◌∙◌}
 use Rattle.pb_semantics.proofs.Bools.{and-left, and-right, and-both, neither-left, neither-right, neither-both, not-true}
 use Rattle.pb_language.specs.Expression.{Name, Expression, Expressions, no_expressions, expression, Parts, no_parts, part}
 use Rattle.pb_language.specs.Expansion.{expanded, all_expanded, parts_expanded, part_named, trees}
 use Rattle.pb_language.specs.Book.{Asserted, not_given, not_well_formed, conditions_are, Work, module_work, debug_work, set_fact_work, assert_work, fail_work, TaskData, HandlerData, PlayData, Registry}
-use Rattle.pb_language.specs.Plays.{append_parts, append_expressions, argument_or, conditions_of, expanded_option, expanded_list, expanded_attempts, action_of, Surroundings, task_at, handlers_at, play_surroundings, program_of}
+use Rattle.pb_language.specs.Plays.{append_parts, append_expressions, argument_or, conditions_of, expanded_option, action_of, Surroundings, task_at, handlers_at, play_surroundings, program_of}
 use Rattle.pb_language.specs.Program.{Program}
 use Rattle.pb_language.specs.Task.{Task, Handlers, no_handlers, handler, Row, end, task, flush, section, block}
 use Rattle.pb_language.specs.Sites.{Site, handler_sites, sites_of}
@@ -41,9 +41,9 @@ module _ (f : Name → Option Expression) where
       let here = reads_others (expanded f e) in
       let rest = any_reads_others (all_expanded f (part_expressions ps)) in
       chosen (bytes_eq n m) (neither-left here rest h) (named_alone n ps (neither-right here rest h)) where
-    chosen : (q : Bool) → reads_others (expanded f e) ≡ false → text_reads_others (expanded_option f (part_named n ps)) ≡ false → text_reads_others (expanded_option f (cond q (Some e) (part_named n ps))) ≡ false
-    chosen true a b = a
-    chosen false a b = b
+        chosen : (q : Bool) → reads_others (expanded f e) ≡ false → text_reads_others (expanded_option f (part_named n ps)) ≡ false → text_reads_others (expanded_option f (cond q (Some e) (part_named n ps))) ≡ false
+        chosen true a b = a
+        chosen false a b = b
 
   argument_alone : (o : Option Expression) → text_reads_others (expanded_option f o) ≡ false → reads_others (expanded f (argument_or o)) ≡ false
   argument_alone None h = refl

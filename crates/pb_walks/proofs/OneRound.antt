@@ -1,5 +1,5 @@
 -- Where no text reads another host, one round of the tables is enough.
-use Rattle.std.proofs.Common.{◌≡◌, ◌≤◌, ◌∙◌, List, true, false, sym, ap, subst, arith}
+use Rattle.std.proofs.Common.{◌≡◌, ◌∙◌, List, true, false, sym, ap, subst, arith}
 use Rattle.pb_language.specs.Scope.{Later, View}
 use Rattle.pb_language.specs.Program.{Inventory, Program}
 use Rattle.pb_language.specs.Tables.{HostWalk, all_walked, are_settled, budget_of, known_views, next_views, views_after}
@@ -8,7 +8,7 @@ use Rattle.pb_language.specs.Verdict.{first_offence, found_laters, offence_verdi
 use Rattle.pb_language.specs.Wells.{WellViews}
 use Rattle.pb_walks.specs.Agree.{AllHostsAgree, ViewsAgree}
 use Rattle.pb_walks.specs.Alone.{plays_read_others, OneRoundIsEnough}
-use Rattle.pb_walks.proofs.Agreeing.{laters_own, views_own, views_through}
+use Rattle.pb_walks.proofs.Agreeing.{laters_own, views_through}
 use Rattle.pb_walks.proofs.AloneWalks.{AreAlike, alone_walks}
 use Rattle.pb_walks.proofs.SameWalks.{all_walked_agree, known_views_agree}
 use Rattle.pb_walks.proofs.SameOffence.{same_offence}

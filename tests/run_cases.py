@@ -1,5 +1,5 @@
-# Runs the cases of tests/cases, the worked rows of tests/semantics and the checks of program_checks.py and refused_checks.py:
-# python3 tests/run_cases.py [PROGRAM [TESTS]]
+# Runs the cases of tests/cases, the refusals of refusals.jsonl, the worked rows of tests/semantics, and the checks of
+# program_checks.py and refused_checks.py: python3 tests/run_cases.py [PROGRAM [TESTS]]
 import json
 import os
 import subprocess
@@ -47,7 +47,7 @@ def check_of(case):
 
 
 def cases():
-    for path in [*sorted((TESTS / "cases").glob("*.jsonl")), TESTS / "semantics/rows.jsonl"]:
+    for path in [*sorted((TESTS / "cases").glob("*.jsonl")), TESTS / "refusals.jsonl", TESTS / "semantics/rows.jsonl"]:
         with open(path, encoding="utf-8") as lines:
             for line in lines:
                 yield check_of(json.loads(line))

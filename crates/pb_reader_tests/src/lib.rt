@@ -1,5 +1,5 @@
-// Tests of the public calls that read inventories and plays and that `check` doesn't go through. They
-// stand here, so that no crate with code is proved twice.
+// Tests of the public calls that read inventories and plays and that `check` doesn't go through.
+// They stand here, so that no crate with code is proved twice.
 #![tactic(auto)]
 
 #[cfg(test)]

@@ -50,8 +50,8 @@ pub struct Outcome<'i> {
 }
 
 /// What the ways of all hosts through all plays come to, in four rounds of the kinds that hosts see
-/// of each other, or until a round changes nothing; in one alone where it is said that no text reads
-/// another host or who is active. The names are those of all variables.
+/// of each other, or until a round changes nothing; in one alone where it is said that no text
+/// reads another host or who is active. The names are those of all variables.
 ///
 /// # Errors
 ///

@@ -170,8 +170,9 @@ class Trial:
         return decided or {left[0]: self.judged_alone(left[0])}
 
     def are_of_two_functions(self, edit, other):
-        """Whether either may be refused by goals of its own beside the other; an edit of a definition may be seen in any proof."""
-        return edit.is_of_code() and other.is_of_code() and edit.function != other.function
+        """Whether either may be refused by goals of its own beside the other, by whose names they are told apart; an edit of a
+        definition may be seen in any proof."""
+        return edit.is_of_code() and other.is_of_code() and edit.last_name() != other.last_name()
 
     def are_apart(self, edit, other):
         """Whether neither waits for the other."""

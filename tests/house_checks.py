@@ -12,6 +12,9 @@ COLUMNS = 100
 IS_ONE_TEXT = re.compile(r'^\s*(b"|r#").*;$')
 # At the margin, so that the methods of a trait, which is public, aren't meant.
 IS_PRIVATE = re.compile(r"^((fn|const|struct|enum|type|static) |\s*pub\(crate\) )")
+# The crates in which values and kinds are weighed.
+WEIGHING = ("pb_value", "pb_kind")
+MAKES_WEIGHTS = re.compile(r"\b(Weighed|Weight)::")
 COMPARED = 29
 NOT_BUILT = re.compile(r"^(\S+) of the cases of `tests/cases` aren't built yet", re.M)
 
@@ -56,6 +59,16 @@ def documented_privates():
             is_documented = line.lstrip().startswith("///") or (is_documented and line.lstrip().startswith("#["))
 
 
+def makers_of_weights():
+    """What a list, a record or a result weighs is said by the crates of values and kinds alone, which prove of each maker that it is so."""
+    for path in (TOP / "crates").glob("*/src/**/*.rt"):
+        if path.relative_to(TOP / "crates").parts[0] in WEIGHING:
+            continue
+        for number, line in enumerate(path.read_text(encoding="utf-8").splitlines(), 1):
+            if MAKES_WEIGHTS.search(line):
+                yield f"{path.relative_to(TOP)}:{number}: {line.strip()}"
+
+
 def wrong_counts():
     """README says how many cases aren't built yet, as tests/not_built_yet does."""
     wanted = (TOP / "tests/not_built_yet").read_text().strip()
@@ -83,6 +96,7 @@ def main():
         ("a file of src/ or specs/ cites a proof", proofs_cited),
         ("a line is too long", long_lines),
         ("`///` on what isn't public", documented_privates),
+        ("weights are made elsewhere", makers_of_weights),
         ("a count is wrong", wrong_counts),
         ("a compared book is wrong", wrong_comparisons),
     ]

@@ -1,5 +1,3 @@
 pub mod RunTexts
-pub mod Commands
 mod Verdicts
-mod Refusals
 mod ReadyRuns

@@ -22,12 +22,12 @@ use Rattle.pb_cli.specs.declared.outcome.Bytes.{Bytes}
 use Rattle.pb_cli.specs.declared.outcome.Outcome.{Outcome}
 use Rattle.pb_cli.specs.declared.outcome.Stream.{Stream}
 use Rattle.pb_cli.specs.declared.outcome.Stream.TheVariants.{Output, Error}
-use Rattle.pb_cli.specs.declared.words.LineFault.{LineFault}
-use Rattle.pb_cli.specs.declared.words.LineFault.TheVariants as words
-use Rattle.pb_cli.specs.declared.words.Options.{Options}
-use Rattle.pb_cli.specs.declared.words.Options.TheVariants.{Check, Run}
-use Rattle.pb_cli.specs.declared.words.Source.{Source}
-use Rattle.pb_cli.specs.declared.words.Source.TheVariants.{Answers, Modules}
+use Rattle.pb_options.specs.declared.words.LineFault.{LineFault}
+use Rattle.pb_options.specs.declared.words.LineFault.TheVariants as words
+use Rattle.pb_options.specs.declared.words.Options.{Options}
+use Rattle.pb_options.specs.declared.words.Options.TheVariants.{Check, Run}
+use Rattle.pb_options.specs.declared.words.Source.{Source}
+use Rattle.pb_options.specs.declared.words.Source.TheVariants.{Answers, Modules}
 
 -- the statuses: all is well, a refusal, a bad command line
 abbrev pub fine_status : ℕ

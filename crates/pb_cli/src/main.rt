@@ -2,13 +2,10 @@
 #![tactic(auto)]
 
 mod files;
-mod input;
 mod judge;
-mod options;
 mod outcome;
 mod program;
 mod texts;
-mod words;
 
 use std::env::Env;
 use std::process::ExitCode;

@@ -10,7 +10,7 @@ ghost use Rattle.pb_cli.specs.Texts.{not_built_line};
 
 use crate::judge::{Fault, judge};
 use crate::texts::{recap_text, refusal_text, status_of, verdict_text};
-use crate::words::{LineFault, Options, Source};
+use pb_options::{LineFault, Options, Source};
 use pb_strategy::drive::drive;
 use pb_strategy::{Run, Runnable, Runner, ScriptRunner};
 use pb_verify::Checked;

@@ -1,12 +1,12 @@
 // The program: reads its words and the files that they name, and prints what comes of them.
 
 use crate::files::read_bounded;
-use crate::input::{is_input, names_input_twice};
-use crate::options::options;
 use crate::outcome::{Bytes, NO_MEMORY, Outcome, Stream, USAGE, line_outcome, outcome_of};
-use crate::words::{Options, Source, Subject};
 use pb_book::BOOK_LIMIT;
 use pb_inventory::INVENTORY_LIMIT;
+use pb_options::input::{is_input, names_input_twice};
+use pb_options::options::options;
+use pb_options::{Options, Source, Subject};
 use pb_sig::SIGNATURES_LIMIT;
 use pb_strategy::ANSWERS_LIMIT;
 use std::alloc::AllocError;

@@ -3,11 +3,11 @@ use Rattle.std.proofs.Common.{◌≡◌, ℕ, ◌+◌, ◌<◌, List, [], ◌∷
 use Rattle.pb_semantics.specs.Kind.{KindData, Shape}
 use Rattle.pb_semantics.specs.Join.{join, append_cases}
 use Rattle.pb_language.specs.Narrow.{cases_with, least_record}
-use Rattle.pb_value.specs.Growing.{joined_onto}
-use Rattle.pb_value.specs.KindView.{cases_view, kind_view, shape_view}
-use Rattle.pb_value.specs.declared.kind.Case.{Case}
-use Rattle.pb_value.specs.declared.kind.Kind.{Kind}
-use Rattle.pb_value.proofs.JoinLemmas.{append_through, cases_view-append}
+use Rattle.pb_kind.specs.Growing.{joined_onto}
+use Rattle.pb_kind.specs.KindView.{cases_view, kind_view, shape_view}
+use Rattle.pb_kind.specs.declared.kind.Case.{Case}
+use Rattle.pb_kind.specs.declared.kind.Kind.{Kind}
+use Rattle.pb_kind.proofs.JoinLemmas.{append_through, cases_view-append}
 use Rattle.pb_expr.proofs.Findings.{onto-last}
 use Rattle.pb_syntax.proofs.Left.{drop-at}
 

@@ -7,11 +7,11 @@ use Rattle.pb_language.specs.Scope.{Scope, spot_kind, below_spot}
 use Rattle.pb_language.specs.Kinds.{path_spot, step_spot, count, kind_of, default_kind, shown_spot}
 use Rattle.pb_language.specs.Fit.{Fault, perhaps_missing, first, is_boolean, field_fault, steps_fault, fault, chain_fault, are_booleans}
 use Rattle.pb_language.specs.Narrow.{narrow}
-use Rattle.pb_value.specs.KindView.{kind_view}
-use Rattle.pb_value.specs.declared.kind.Kind.{Kind}
+use Rattle.pb_kind.specs.KindView.{kind_view}
+use Rattle.pb_kind.specs.declared.kind.Kind.{Kind}
 use Rattle.pb_syntax.specs.ExprView.{expr_view, exprs_view, names_of}
 use Rattle.pb_expr.specs.FitView.{LeadsTo, certain}
-use Rattle.pb_value.specs.Growing.{joined_onto}
+use Rattle.pb_kind.specs.Growing.{joined_onto}
 use Rattle.pb_syntax.specs.declared.expr.Expr.{Expr}
 use Rattle.pb_syntax.proofs.Left.{drop-at}
 

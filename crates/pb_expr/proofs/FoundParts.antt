@@ -8,7 +8,7 @@ use Rattle.pb_language.specs.Kinds.{count, items_kind, kind_of}
 use Rattle.pb_language.specs.Narrow.{any_teaches, narrow, teaches}
 use Rattle.pb_language.specs.Scope.{Scope}
 use Rattle.pb_language.proofs.Untaught.{narrow_untaught}
-use Rattle.pb_value.specs.KindView.{kind_view}
+use Rattle.pb_kind.specs.KindView.{kind_view}
 use Rattle.pb_expr.specs.Found.{AreFound, IsFound, IsFoundOf, are_bools, are_plain_kinds, fault_in, faults_in, joined_in, part_fault, part_faults_in}
 use Rattle.pb_expr.specs.FitView.{fault_view}
 use Rattle.pb_expr.specs.declared.inferred.Inferred.{Inferred}

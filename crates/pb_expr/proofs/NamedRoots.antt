@@ -9,7 +9,7 @@ use Rattle.pb_language.specs.Expansion.{expanded_root, root_named}
 use Rattle.pb_language.specs.Same.{same_expression, same_root}
 use Rattle.pb_language.specs.Scope.{Scope, Learned, nothing, taught, learned_kind, with_both_kinds, both_learned, resolved, resolved_term}
 use Rattle.pb_language.proofs.Same.{own_expression, own_root}
-use Rattle.pb_value.specs.KindView.{kind_view}
+use Rattle.pb_kind.specs.KindView.{kind_view}
 use Rattle.pb_syntax.specs.ExprView.{root_view, term_view}
 use Rattle.pb_syntax.specs.declared.expr.Root.{Root as WrittenRoot}
 use Rattle.pb_syntax.specs.declared.expr.Root.TheVariants as roots

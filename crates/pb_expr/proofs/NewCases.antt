@@ -5,10 +5,10 @@ use Rattle.pb_semantics.specs.Join.{append_cases}
 use Rattle.pb_language.specs.Expression.{Name}
 use Rattle.pb_language.specs.Narrow.{can_have, cases_changed, cases_stepped, changed_spot, there_spot, with_change, with_step}
 use Rattle.pb_language.specs.Scope.{with_slot, with_spot}
-use Rattle.pb_value.specs.KindView.{cases_view, kind_view, shape_view}
-use Rattle.pb_value.specs.declared.kind.Case.{Case}
-use Rattle.pb_value.specs.declared.kind.Kind.{Kind}
-use Rattle.pb_value.proofs.JoinLemmas.{append_through, cases_view-append}
+use Rattle.pb_kind.specs.KindView.{cases_view, kind_view, shape_view}
+use Rattle.pb_kind.specs.declared.kind.Case.{Case}
+use Rattle.pb_kind.specs.declared.kind.Kind.{Kind}
+use Rattle.pb_kind.proofs.JoinLemmas.{append_through, cases_view-append}
 use Rattle.pb_syntax.proofs.Left.{drop-at}
 
 -- the case with that record

@@ -9,9 +9,9 @@ use Rattle.pb_semantics.proofs.Bools.{true-false}
 use Rattle.pb_semantics.proofs.Names.{same_name, own_name}
 use Rattle.pb_language.specs.Expression.{Name}
 use Rattle.pb_language.specs.Scope.{View, both_slots, both_views, has_view, put_view, view_of}
-use Rattle.pb_value.specs.KindView.{slots_view}
-use Rattle.pb_value.specs.declared.kind.Kind.{Kind}
-use Rattle.pb_value.specs.declared.kind.Slot.{Slot}
+use Rattle.pb_kind.specs.KindView.{slots_view}
+use Rattle.pb_kind.specs.declared.kind.Kind.{Kind}
+use Rattle.pb_kind.specs.declared.kind.Slot.{Slot}
 use Rattle.pb_expr.specs.TaughtView.{views_view}
 
 abbrev pub SlotMap : Type 0

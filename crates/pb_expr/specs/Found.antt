@@ -10,7 +10,7 @@ use Rattle.pb_language.specs.Fit.{Fault, asks, fault, first, is_any, is_boolean,
 use Rattle.pb_language.specs.Fit.{wrong_kind}
 use Rattle.pb_language.specs.Kinds.{kind_of}
 use Rattle.pb_language.specs.Scope.{Scope}
-use Rattle.pb_value.specs.KindView.{kind_view}
+use Rattle.pb_kind.specs.KindView.{kind_view}
 use Rattle.pb_syntax.specs.Aliases.{Trees}
 use Rattle.pb_expr.specs.Before.{Before}
 use Rattle.pb_expr.specs.FitView.{fault_view}

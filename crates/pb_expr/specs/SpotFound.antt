@@ -2,8 +2,8 @@
 use Rattle.std.specs.Prelude.{Bool, Option, Some, None}
 use denote.Ref.{Bor}
 use Rattle.pb_semantics.specs.Kind.{Spot, nowhere, spot}
-use Rattle.pb_value.specs.KindView.{kind_view}
-use Rattle.pb_value.specs.declared.kind.Kind.{Kind}
+use Rattle.pb_kind.specs.KindView.{kind_view}
+use Rattle.pb_kind.specs.declared.kind.Kind.{Kind}
 
 -- a kind that is found, and whether it is certainly there
 abbrev pub spot_found : Option (Bool × Bor Kind) → Spot

@@ -7,9 +7,9 @@ use Rattle.pb_semantics.specs.Kind.{KindData, Spot, no_slots, nowhere, spot}
 use Rattle.pb_language.specs.Expansion.{expanded_root}
 use Rattle.pb_language.specs.Expression.{Name, Expression}
 use Rattle.pb_language.specs.Scope.{Scope, Learned, Present, View, nothing, taught, both_scopes}
-use Rattle.pb_value.specs.KindView.{is_always, kind_view, slots_view}
-use Rattle.pb_value.specs.declared.kind.Kind.{Kind}
-use Rattle.pb_value.specs.declared.kind.Slot.{Slot}
+use Rattle.pb_kind.specs.KindView.{is_always, kind_view, slots_view}
+use Rattle.pb_kind.specs.declared.kind.Kind.{Kind}
+use Rattle.pb_kind.specs.declared.kind.Slot.{Slot}
 use Rattle.pb_syntax.specs.ExprView.{names_of, root_view}
 use Rattle.pb_syntax.specs.declared.expr.Path.{Path}
 use Rattle.pb_expr.specs.declared.scope.Learned.{Learned as MadeLearned}

@@ -3,14 +3,14 @@ ghost use Rattle.std.specs.Prelude.{◌&&◌, ◌≡◌, IfOk, OnOk, string_byte
 ghost use Rattle.pb_semantics.specs.Words.{join as join_of, put_slot as put_slot_of};
 ghost use Rattle.pb_language.specs.Scope.{both_slots as both_taught, both_views as both_seen};
 ghost use Rattle.pb_language.specs.Scope.{put_view, view_of};
-ghost use Rattle.pb_value.specs.Words.{is_always, kind_view, slots_view};
+ghost use Rattle.pb_kind.specs.Words.{is_always, kind_view, slots_view};
 ghost use Rattle.pb_expr.specs.TaughtView.{views_view};
 
 use crate::scope::slots_copied;
 use indexmap::IndexMap;
-use pb_value::below::find;
-use pb_value::join::join;
-use pb_value::{Kind, Presence, Slot, Slots, put_slot};
+use pb_kind::below::find;
+use pb_kind::join::join;
+use pb_kind::{Kind, Presence, Slot, Slots, put_slot};
 use std::alloc::{AllocError, Global};
 use std::collections::BTreeMap;
 

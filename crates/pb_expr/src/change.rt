@@ -5,7 +5,7 @@ ghost use Rattle.pb_language.specs.Expression.{Expression, alias, item_host, oth
 ghost use Rattle.pb_language.specs.Kinds.{kind_of, root_spot};
 ghost use Rattle.pb_language.specs.Narrow.{teach, teach_host};
 ghost use Rattle.pb_language.specs.Scope.{is_certain, other_spot, own_spot, spot_kind};
-ghost use Rattle.pb_value.specs.Words.{is_always, kind_view};
+ghost use Rattle.pb_kind.specs.Words.{is_always, kind_view};
 ghost use Rattle.pb_syntax.specs.ExprView.{names_of, root_view};
 ghost use Rattle.pb_expr.specs.Before.{Before};
 ghost use Rattle.pb_expr.specs.ChangeView.{change_view};
@@ -19,8 +19,8 @@ use crate::roots::item_slot;
 use crate::scope::{Learned, Taught, alias_kind, own_slot};
 use crate::teach::answered_at;
 use crate::views::{copied, host_slot, place_slot, teach_host};
+use pb_kind::{Kind, Slot};
 use pb_syntax::{Path, Root, Status, Term};
-use pb_value::{Kind, Slot};
 use std::alloc::{AllocError, Global};
 
 /// What a test showed of the value at the end of a path.

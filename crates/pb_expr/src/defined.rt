@@ -5,12 +5,12 @@ ghost use Rattle.pb_semantics.specs.Kind.{KindData};
 ghost use Rattle.pb_semantics.specs.Words.{Cases, results, slot_at, spot};
 ghost use Rattle.pb_language.specs.Narrow.{can_have, cases_stepped, defined_at, may_step};
 ghost use Rattle.pb_language.specs.Narrow.{there_spot, with_step};
-ghost use Rattle.pb_value.specs.Words.{cases_view, kind_view, slots_view};
+ghost use Rattle.pb_kind.specs.Words.{cases_view, kind_view, slots_view};
 ghost use Rattle.pb_syntax.specs.ExprView.{names_of};
 
 use crate::teach::{case_with, record_with, result_of};
-use pb_value::below::find;
-use pb_value::{Case, Kind, Slot, Slots};
+use pb_kind::below::find;
+use pb_kind::{Case, Kind, Slot, Slots};
 use std::alloc::{AllocError, Global};
 
 /// Whether a value of the kind may have the steps.

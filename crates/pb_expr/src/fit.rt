@@ -3,7 +3,7 @@ ghost use Rattle.std.specs.Prelude.{◌≡◌, IfOk, None, option_map};
 ghost use Rattle.pb_semantics.specs.Words.{Gives};
 ghost use Rattle.pb_language.specs.Expansion.{expanded};
 ghost use Rattle.pb_language.specs.Words.{fault, kind_of as kind_found};
-ghost use Rattle.pb_value.specs.Words.{kind_view};
+ghost use Rattle.pb_kind.specs.Words.{kind_view};
 ghost use Rattle.pb_syntax.specs.ExprView.{expr_view};
 ghost use Rattle.pb_expr.specs.FitView.{fault_found, fault_view};
 ghost use Rattle.pb_expr.specs.TaughtView.{scope_view};
@@ -14,8 +14,8 @@ use crate::inferred::Inferred;
 use crate::known::Known;
 use crate::scope::Taught;
 use crate::unfit::Unfit;
+use pb_kind::Kind;
 use pb_syntax::Expr;
-use pb_value::Kind;
 use std::alloc::{AllocError, AllocFailed, Global};
 use thiserror::Error;
 

@@ -8,7 +8,7 @@ ghost use Rattle.pb_language.specs.Words.{has_length as can_be_counted, is_any a
 ghost use Rattle.pb_language.specs.Words.{is_boolean, is_plain_list as is_plain_list_kind};
 ghost use Rattle.pb_language.specs.Words.{is_result as is_result_kind, is_text as is_textual};
 ghost use Rattle.pb_language.specs.Words.{wrong_kind};
-ghost use Rattle.pb_value.specs.Words.{kind_view};
+ghost use Rattle.pb_kind.specs.Words.{kind_view};
 ghost use Rattle.pb_syntax.specs.ExprView.{comparison_view};
 ghost use Rattle.pb_expr.specs.FitView.{fault_view};
 ghost use Rattle.pb_expr.specs.Found.{are_bools, are_plain_kinds, fault_in, faults_in};
@@ -17,8 +17,8 @@ ghost use Rattle.pb_expr.specs.Found.{joined_in, part_fault, part_faults_in};
 use crate::inferred::Inferred;
 use crate::kinds::{has_length, holds_any, is_int, is_plain, is_plain_list, is_result, is_text};
 use crate::unfit::{Unfit, asked_of, first_of};
+use pb_kind::{Kind, join_all};
 use pb_syntax::Comparison;
-use pb_value::{Kind, join_all};
 use std::alloc::{AllocError, Global};
 
 // A form of that kind, where the fault of its operands comes before what it asks of them.

@@ -14,7 +14,7 @@ ghost use Rattle.pb_language.specs.Words.{fields_fault, first, kind_of as kind_f
 ghost use Rattle.pb_language.specs.Words.{parts_slots, steps_fault, wrong_kind};
 ghost use Rattle.pb_language.specs.Fit.{path_fault};
 ghost use Rattle.pb_semantics.specs.Words.{booleans};
-ghost use Rattle.pb_value.specs.Words.{kind_view};
+ghost use Rattle.pb_kind.specs.Words.{kind_view};
 ghost use Rattle.pb_syntax.specs.ExprView.{expr_view, exprs_view, names_of, parts_view};
 ghost use Rattle.pb_syntax.specs.ExprView.{root_view, status_view, term_view};
 ghost use Rattle.pb_expr.specs.FitView.{fault_view};
@@ -32,8 +32,8 @@ use crate::roots::{AtRoot, alias_of, at_root};
 use crate::scope::{Taught, is_present};
 use crate::steps::path_unfit;
 use crate::unfit::{Unfit, active_unfit, first_of, term_unfit};
+use pb_kind::Kind;
 use pb_syntax::{Expr, Path, Root, Status, Term};
-use pb_value::Kind;
 use std::alloc::{AllocError, Global};
 use std::collections::BTreeMap;
 

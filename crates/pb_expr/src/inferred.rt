@@ -1,9 +1,9 @@
 // What is found of an expression, fit or not.
 ghost use Rattle.std.specs.Prelude.{◌≡◌, IfOk};
-ghost use Rattle.pb_value.specs.Words.{kind_view};
+ghost use Rattle.pb_kind.specs.Words.{kind_view};
 
 use crate::unfit::Unfit;
-use pb_value::Kind;
+use pb_kind::Kind;
 use std::alloc::AllocError;
 
 /// What is found of an expression, fit or not.

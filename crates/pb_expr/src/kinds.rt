@@ -10,14 +10,14 @@ ghost use Rattle.pb_language.specs.Words.{is_text as is_textual, may_be_flag as 
 ghost use Rattle.pb_language.specs.Words.{path_spot, spot_kind, step_spot};
 ghost use Rattle.pb_language.specs.Fit.{is_list as is_listed_kind};
 ghost use Rattle.pb_language.specs.Kinds.{shown_spot};
-ghost use Rattle.pb_value.specs.Words.{cases_view, is_always, kind_view, slots_view};
+ghost use Rattle.pb_kind.specs.Words.{cases_view, is_always, kind_view, slots_view};
 ghost use Rattle.pb_syntax.specs.ExprView.{names_of};
 ghost use Rattle.pb_expr.specs.SpotFound.{spot_found};
 ghost use Rattle.pb_expr.specs.TaughtView.{slot_given};
 
-use pb_value::below::find;
-use pb_value::join::join;
-use pb_value::{Case, Kind, Slot, Slots};
+use pb_kind::below::find;
+use pb_kind::join::join;
+use pb_kind::{Case, Kind, Slot, Slots};
 use std::alloc::{AllocError, Global};
 
 pub(crate) fn is_int(kind: &Kind) -> bool

@@ -4,16 +4,16 @@ ghost use Rattle.pb_semantics.specs.Words.{slot_at};
 ghost use Rattle.pb_language.specs.Expansion.{expanded};
 ghost use Rattle.pb_language.specs.Scope.{has_view, is_later, later_of, view_of};
 ghost use Rattle.pb_language.specs.World.{member_of};
-ghost use Rattle.pb_value.specs.Words.{slots_view, spot_view};
+ghost use Rattle.pb_kind.specs.Words.{slots_view, spot_view};
 ghost use Rattle.pb_syntax.specs.ExprView.{expr_view};
 ghost use Rattle.pb_syntax.specs.declared.expr.Expr.{size-Expr};
 ghost use Rattle.pb_syntax.specs.Aliases.{no_trees};
 ghost use Rattle.pb_expr.specs.Before.{Before};
 ghost use Rattle.pb_expr.specs.OwnScope.{own_scope};
 
+use pb_kind::below::find;
+use pb_kind::{Kind, Slot, Slots};
 use pb_syntax::Expr;
-use pb_value::below::find;
-use pb_value::{Kind, Slot, Slots};
 
 /// What is known of variables before any test, and the trees of the names that are values of
 /// `vars`. Such a name hides a variable of that name.

@@ -2,10 +2,12 @@
 ghost use Rattle.std.specs.Prelude.{◌≡◌, IfOk, OnOk, string_bytes, true};
 ghost use Rattle.pb_semantics.specs.Words.{count_of, lists, put_slot, recs};
 ghost use Rattle.pb_language.specs.Words.{known_items, known_kind, known_slots};
-ghost use Rattle.pb_value.specs.Words.{fields_view, items_view, kind_view, slots_view, view};
+ghost use Rattle.pb_kind.specs.Words.{kind_view, slots_view};
+ghost use Rattle.pb_value.specs.Words.{fields_view, items_view, view};
 
-use pb_value::grow::{Growing, close, grow};
-use pb_value::{Fields, Kind, Slot, Slots, Value, put_slot};
+use pb_kind::grow::{Growing, close, grow};
+use pb_kind::{Kind, Slot, Slots, put_slot};
+use pb_value::{Fields, Value};
 use std::alloc::{AllocError, Global};
 use std::collections::BTreeMap;
 

@@ -6,7 +6,7 @@ ghost use Rattle.pb_language.specs.Narrow.{answers, any_teaches, cases_with, cha
 ghost use Rattle.pb_language.specs.Narrow.{changed_spot, narrow, on_results, teach, teach_active};
 ghost use Rattle.pb_language.specs.Narrow.{teach_present, teaches};
 ghost use Rattle.pb_language.specs.Scope.{resolved, resolved_term};
-ghost use Rattle.pb_value.specs.Words.{kind_view};
+ghost use Rattle.pb_kind.specs.Words.{kind_view};
 ghost use Rattle.pb_syntax.specs.ExprView.{expr_view, exprs_view, names_of, root_view};
 ghost use Rattle.pb_syntax.specs.ExprView.{status_view, term_view};
 ghost use Rattle.pb_syntax.specs.Aliases.{Trees};

@@ -6,13 +6,13 @@ ghost use Rattle.pb_language.specs.Narrow.{answers, cases_changed, cases_with, c
 ghost use Rattle.pb_language.specs.Narrow.{has_slot, least_record, on_results, with_change};
 ghost use Rattle.pb_language.specs.Scope.{with_slot};
 ghost use Rattle.pb_language.specs.Words.{results_of};
-ghost use Rattle.pb_value.specs.Words.{cases_view, is_always, kind_view, shape_view, slots_view};
+ghost use Rattle.pb_kind.specs.Words.{cases_view, is_always, kind_view, shape_view, slots_view};
 ghost use Rattle.pb_syntax.specs.ExprView.{names_of, status_view};
 
 use crate::scope::slots_copied;
+use pb_kind::below::{find, has_field};
+use pb_kind::{Case, Kind, Shape, Slot, Slots, join_all, put_slot};
 use pb_syntax::Status;
-use pb_value::below::{find, has_field};
-use pb_value::{Case, Kind, Shape, Slot, Slots, join_all, put_slot};
 use std::alloc::{AllocError, Global};
 
 /// The kind of what a test of that status had that answer of: a result keeps the cases that may

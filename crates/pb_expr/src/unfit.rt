@@ -13,8 +13,8 @@ use crate::kinds::holds_any;
 use crate::known::Known;
 use crate::roots::has_item;
 use crate::scope::{Taught, own_slot};
+use pb_kind::{Kind, Slot};
 use pb_syntax::{Root, Term};
-use pb_value::{Kind, Slot};
 use thiserror::Error;
 
 /// Why an expression isn't fit.

@@ -2,10 +2,10 @@
 ghost use Rattle.std.specs.Prelude.{[], ◌∷◌, ◌≡◌, IfOk, codes};
 ghost use Rattle.pb_lattice.specs.Words.{Stands};
 
+use pb_kind::{Kind, Slot, Slots, copy_slots, put_slot};
 use pb_lattice::environment::{is_below, join};
 use pb_lattice::{Environment, Environments};
 use pb_transfer::{Set, with_register, with_sets};
-use pb_value::{Kind, Slot, Slots, copy_slots, put_slot};
 use std::alloc::Global;
 use std::sync::Arc;
 use std::test::Fail;

@@ -4,8 +4,8 @@ ghost use Rattle.std.specs.Prelude.{◌≡◌, ◌≤◌, ◌<◌, ◌+◌, ℕ,
 ghost use Rattle.std.specs.Option.{option_map_or};
 ghost use Rattle.pb_lattice.specs.Words.{Extends, IsWell};
 
+use pb_kind::Kind;
 use pb_lattice::{FlowGraph, Lattice, Transfer, solve};
-use pb_value::Kind;
 use std::alloc::{AllocError, Global};
 use std::collections::BTreeSet;
 use std::sync::Arc;

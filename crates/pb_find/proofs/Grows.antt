@@ -20,9 +20,9 @@ use Rattle.pb_language.proofs.ChangesUp.{at_spot}
 use Rattle.pb_language.proofs.Rounds.{written_well}
 use Rattle.pb_language.proofs.Taught.{well_with_spot}
 use Rattle.pb_language.proofs.WellKinds.{well_slot}
-use Rattle.pb_value.specs.KindView.{is_always, kind_view}
-use Rattle.pb_value.specs.declared.kind.Kind.{Kind}
-use Rattle.pb_value.specs.declared.kind.Slot.{Slot}
+use Rattle.pb_kind.specs.KindView.{is_always, kind_view}
+use Rattle.pb_kind.specs.declared.kind.Kind.{Kind}
+use Rattle.pb_kind.specs.declared.kind.Slot.{Slot}
 use Rattle.pb_walks.specs.Agree.{SlotsAgree}
 use Rattle.pb_walks.proofs.Agreeing.{slots_own}
 use Rattle.pb_find.specs.Written.{Grown, IsPut, Written}

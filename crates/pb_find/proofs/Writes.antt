@@ -12,7 +12,7 @@ use Rattle.pb_language.specs.Tables.{with_writes, written_spot, writes_below}
 use Rattle.pb_language.specs.Wells.{WellSets}
 use Rattle.pb_language.proofs.Rounds.{writes_well}
 use Rattle.pb_language.proofs.TablesUp.{writes_up}
-use Rattle.pb_value.specs.KindView.{slots_view}
+use Rattle.pb_kind.specs.KindView.{slots_view}
 use Rattle.pb_visit.specs.Visits.{registered}
 use Rattle.pb_walks.specs.Agree.{SlotsAgree}
 use Rattle.pb_walks.proofs.Agreeing.{slots_own, slots_through}

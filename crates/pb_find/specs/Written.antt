@@ -7,9 +7,9 @@ use Rattle.pb_language.specs.Cases.{Sets}
 use Rattle.pb_language.specs.Expression.{Name}
 use Rattle.pb_language.specs.Scope.{spot_kind}
 use Rattle.pb_language.specs.Tables.{with_writes, writes_below, written_spot}
-use Rattle.pb_value.specs.KindView.{is_always, kind_view, slots_view}
-use Rattle.pb_value.specs.declared.kind.Kind.{Kind}
-use Rattle.pb_value.specs.declared.kind.Slot.{Slot}
+use Rattle.pb_kind.specs.KindView.{is_always, kind_view, slots_view}
+use Rattle.pb_kind.specs.declared.kind.Kind.{Kind}
+use Rattle.pb_kind.specs.declared.kind.Slot.{Slot}
 use Rattle.pb_walks.specs.Agree.{SlotsAgree}
 use Rattle.pb_find.specs.declared.find.Find.{Find}
 

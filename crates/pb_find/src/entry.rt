@@ -4,11 +4,11 @@ ghost use Rattle.pb_semantics.specs.Words.{recs};
 ghost use Rattle.pb_semantics.specs.Well.{Well};
 ghost use Rattle.pb_language.specs.Judgement.{live};
 ghost use Rattle.pb_lattice.specs.Words.{IsKept, Stands, exit_of};
-ghost use Rattle.pb_value.specs.Words.{slots_view};
+ghost use Rattle.pb_kind.specs.Words.{slots_view};
 ghost use Rattle.pb_walks.specs.Words.{ExitsAgree};
 
+use pb_kind::Slots;
 use pb_lattice::{Environment, Environments};
-use pb_value::Slots;
 use std::alloc::{AllocError, Global};
 
 /// The environment of what is known before anything is run.

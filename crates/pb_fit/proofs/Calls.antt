@@ -11,7 +11,7 @@ use Rattle.pb_language.specs.Plays.{module_named}
 use Rattle.pb_language.specs.Scope.{Scope}
 use Rattle.pb_language.specs.Task.{call_of}
 use Rattle.pb_language.specs.TaskForm.{module_at}
-use Rattle.pb_value.specs.KindView.{kind_view}
+use Rattle.pb_kind.specs.KindView.{kind_view}
 use Rattle.pb_sig.specs.ModuleView.{known_view}
 use Rattle.pb_sig.specs.declared.registry.Known.{Known}
 use Rattle.pb_sig.specs.declared.registry.Known.TheVariants as known

@@ -1,7 +1,7 @@
 -- Names that are set, one after the other.
 use Rattle.std.proofs.Common.{◌≡◌, List, [], ◌∷◌, ◌++◌, Bool, string_bytes, refl, ap}
 use Rattle.pb_language.specs.Cases.{Sets, no_sets, sets, append_sets}
-use Rattle.pb_value.specs.KindView.{kind_view}
+use Rattle.pb_kind.specs.KindView.{kind_view}
 use Rattle.pb_fit.specs.SetsView.{sets_view}
 use Rattle.pb_fit.specs.declared.sets.Set.{Set}
 

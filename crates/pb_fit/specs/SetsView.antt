@@ -1,7 +1,7 @@
 -- The names that a `set_fact` sets.
 use Rattle.std.specs.Prelude.{List, [], ◌∷◌, Bool, string_bytes}
 use Rattle.pb_language.specs.Cases.{Sets, no_sets, sets}
-use Rattle.pb_value.specs.KindView.{kind_view}
+use Rattle.pb_kind.specs.KindView.{kind_view}
 use Rattle.pb_fit.specs.declared.sets.Set.{Set}
 
 -- each of them for certain, or none

@@ -6,7 +6,7 @@ ghost use Rattle.pb_language.specs.Plays.{expanded_option};
 ghost use Rattle.pb_language.specs.Words.{argument_or, arguments_fault, fields_fault};
 ghost use Rattle.pb_language.specs.Words.{parameter_kind, part_named};
 ghost use Rattle.pb_semantics.specs.Words.{below as is_below};
-ghost use Rattle.pb_value.specs.Words.{kind_view};
+ghost use Rattle.pb_kind.specs.Words.{kind_view};
 ghost use Rattle.pb_syntax.specs.Words.{expr_view};
 ghost use Rattle.pb_expr.specs.Words.{fault_view, scope_view};
 ghost use Rattle.pb_sig.specs.Words.{parameter_view};
@@ -15,11 +15,11 @@ ghost use Rattle.pb_fit.specs.Asked.{argument_fault, value_fault};
 
 use crate::asked::{asked, text_unfit, value_unfit};
 use pb_expr::{Known, Taught, Unfit, infer_kind};
+use pb_kind::Kind;
+use pb_kind::below::below;
 use pb_sig::Parameter;
 use pb_syntax::Expr;
 use pb_template::Entry;
-use pb_value::Kind;
-use pb_value::below::below;
 use std::alloc::{AllocError, Global};
 
 // The first fault of the arguments of a call, each of which keeps its parameter's kind.

@@ -3,7 +3,7 @@ ghost use Rattle.std.specs.Prelude.{◌≡◌, IfOk, Some, option_map};
 ghost use Rattle.pb_language.specs.Expansion.{expanded};
 ghost use Rattle.pb_language.specs.Judgement.{loop_fault};
 ghost use Rattle.pb_language.specs.Words.{kind_of};
-ghost use Rattle.pb_value.specs.Words.{kind_view};
+ghost use Rattle.pb_kind.specs.Words.{kind_view};
 ghost use Rattle.pb_syntax.specs.Words.{expr_view};
 ghost use Rattle.pb_expr.specs.Words.{fault_view, scope_view};
 

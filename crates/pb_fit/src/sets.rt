@@ -7,8 +7,8 @@ ghost use Rattle.pb_template.specs.Words.{entries_view};
 ghost use Rattle.pb_fit.specs.SetsView.{sets_view};
 
 use pb_expr::{Known, Taught, infer_kind};
+use pb_kind::Kind;
 use pb_template::Entry;
-use pb_value::Kind;
 use std::alloc::{AllocError, Global};
 use std::sync::Arc;
 

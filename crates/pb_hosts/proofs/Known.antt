@@ -10,9 +10,9 @@ use Rattle.pb_language.specs.Scope.{View}
 use Rattle.pb_language.specs.Tables.{known_views}
 use Rattle.pb_language.specs.Wells.{WellViews}
 use Rattle.pb_language.specs.World.{HostVariables}
-use Rattle.pb_value.specs.KindView.{slots_view}
-use Rattle.pb_value.specs.declared.kind.Kind.{Kind}
-use Rattle.pb_value.specs.declared.kind.Slot.{Slot}
+use Rattle.pb_kind.specs.KindView.{slots_view}
+use Rattle.pb_kind.specs.declared.kind.Kind.{Kind}
+use Rattle.pb_kind.specs.declared.kind.Slot.{Slot}
 use Rattle.pb_walks.specs.Agree.{ViewsAgree}
 use Rattle.pb_walks.proofs.SameWalks.{known_views_agree}
 use Rattle.pb_hosts.specs.Tables.{host_names, slots_of_each, views_from}

@@ -16,9 +16,9 @@ use Rattle.pb_language.specs.Scope.{Since, has_view, later_of, no_since, view_of
 use Rattle.pb_language.specs.Tables.{known_views}
 use Rattle.pb_language.specs.Wells.{WellViews}
 use Rattle.pb_language.specs.World.{HostVariables}
-use Rattle.pb_value.specs.KindView.{slots_view}
-use Rattle.pb_value.specs.declared.kind.Kind.{Kind}
-use Rattle.pb_value.specs.declared.kind.Slot.{Slot}
+use Rattle.pb_kind.specs.KindView.{slots_view}
+use Rattle.pb_kind.specs.declared.kind.Kind.{Kind}
+use Rattle.pb_kind.specs.declared.kind.Slot.{Slot}
 use Rattle.pb_inventory.specs.Inventory.{inventory_view}
 use Rattle.pb_inventory.specs.Numbered.{are_apart, name_of}
 use Rattle.pb_inventory.specs.declared.inventory.Inventory.{Inventory}

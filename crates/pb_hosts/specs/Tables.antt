@@ -8,9 +8,9 @@ use Rattle.pb_language.specs.Expression.{Name}
 use Rattle.pb_language.specs.Kinds.{known_kind}
 use Rattle.pb_language.specs.Program.{Inventory}
 use Rattle.pb_language.specs.Scope.{Later, Since, View, every_name, no_since, since}
-use Rattle.pb_value.specs.KindView.{slots_view}
-use Rattle.pb_value.specs.declared.kind.Kind.{Kind}
-use Rattle.pb_value.specs.declared.kind.Slot.{Slot}
+use Rattle.pb_kind.specs.KindView.{slots_view}
+use Rattle.pb_kind.specs.declared.kind.Kind.{Kind}
+use Rattle.pb_kind.specs.declared.kind.Slot.{Slot}
 use Rattle.pb_inventory.specs.Inventory.{inventory_view}
 use Rattle.pb_inventory.specs.declared.inventory.Inventory as inventory
 use Rattle.pb_hosts.specs.declared.lasting.Lasting.{Lasting}

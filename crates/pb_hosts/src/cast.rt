@@ -3,14 +3,14 @@ ghost use Rattle.std.specs.Prelude.{◌≡◌, ◌<◌, length, true};
 ghost use Rattle.std.specs.List.{All};
 ghost use Rattle.pb_language.specs.Setting.{host_list};
 ghost use Rattle.pb_inventory.specs.Words.{inventory_view, names_at};
-ghost use Rattle.pb_value.specs.Words.{kind_view};
+ghost use Rattle.pb_kind.specs.Words.{kind_view};
 ghost use Rattle.pb_hosts.specs.Equal.{same_kind};
 ghost use Rattle.pb_hosts.specs.Tables.{host_names};
 
 use crate::names::hosts_list;
 use pb_inventory::{Inventory, PatternFault};
+use pb_kind::Kind;
 use pb_play::Play;
-use pb_value::Kind;
 use std::alloc::{AllocError, Global};
 
 /// The hosts of a play.

@@ -5,11 +5,11 @@ ghost use Rattle.std.specs.List.{All};
 ghost use Rattle.pb_semantics.specs.Words.{hosts, lists, put_slot, recs, texts};
 ghost use Rattle.pb_language.specs.Setting.{group_slots, host_list};
 ghost use Rattle.pb_inventory.specs.Words.{inventory_view, names_at};
-ghost use Rattle.pb_value.specs.Words.{kind_view, slots_view};
+ghost use Rattle.pb_kind.specs.Words.{kind_view, slots_view};
 ghost use Rattle.pb_hosts.specs.Tables.{host_names};
 
 use pb_inventory::Inventory;
-use pb_value::{Kind, Slot, Slots, put_slot};
+use pb_kind::{Kind, Slot, Slots, put_slot};
 use std::alloc::{AllocError, Global};
 use std::collections::BTreeSet;
 use std::sync::Arc;

@@ -5,14 +5,16 @@ ghost use Rattle.pb_semantics.specs.Well.{Well};
 ghost use Rattle.pb_language.specs.Kinds.{known_slots};
 ghost use Rattle.pb_language.specs.Wells.{WellViews};
 ghost use Rattle.pb_walks.proofs.WellProp.{well_views_prop};
-ghost use Rattle.pb_value.specs.Words.{fields_view, slots_view};
+ghost use Rattle.pb_kind.specs.Words.{slots_view};
+ghost use Rattle.pb_value.specs.Words.{fields_view};
 ghost use Rattle.pb_inventory.specs.Words.{inventory_view};
 ghost use Rattle.pb_hosts.specs.Tables.{slots_of_each, views_with, with_layer};
 
 use pb_expr::literal_kind;
 use pb_inventory::Inventory;
-use pb_value::below::find;
-use pb_value::{Fields, Kind, Slot, Slots, copy_slots, put_slot};
+use pb_kind::below::find;
+use pb_kind::{Kind, Slot, Slots, copy_slots, put_slot};
+use pb_value::Fields;
 use std::alloc::{AllocError, Global};
 use std::sync::Arc;
 
@@ -34,7 +36,7 @@ impl<'i> Views<'i> {
     ghost use Rattle.pb_semantics.specs.Words.{slot_at};
     ghost use Rattle.pb_language.specs.Scope.{has_view, view_of};
     ghost use Rattle.pb_language.specs.Tables.{known_views};
-    ghost use Rattle.pb_value.specs.Words.{spot_view};
+    ghost use Rattle.pb_kind.specs.Words.{spot_view};
     ghost use Rattle.pb_walks.specs.Words.{ViewsAgree};
     ghost use Rattle.pb_hosts.specs.Shown.{views_view};
     ghost use Rattle.pb_hosts.specs.Tables.{host_names, views_from};

@@ -11,7 +11,7 @@ use Rattle.pb_semantics.specs.Keeps.{is_among}
 use Rattle.pb_language.specs.Inventories.{items_of, fields_of as fields_meant, overlaid, variable_of}
 use Rattle.pb_language.specs.Rules.{reserved_names}
 use Rattle.pb_value.proofs.Fields.{Entry}
-use Rattle.pb_value.proofs.Projections.{IsAbove, IsAbove-append, IsAbove-further, items_view-push, put_field-above}
+use Rattle.pb_value.proofs.Appended.{IsAbove, IsAbove-append, IsAbove-further, items_view-push, put_field-above}
 use Rattle.pb_value.specs.Append.{append_fields, append_items}
 use Rattle.pb_value.specs.View.{view, items_view, fields_of, fields_view}
 use Rattle.pb_value.specs.declared.value.Value.{Value}

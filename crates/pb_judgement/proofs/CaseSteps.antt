@@ -4,10 +4,10 @@ use Rattle.pb_semantics.specs.Kind.{KindData, Cases, Shape, no_cases, one}
 use Rattle.pb_semantics.specs.Join.{append_cases}
 use Rattle.pb_language.specs.Cases.{either_status, perhaps_failed}
 use Rattle.pb_language.specs.Narrow.{cases_with, results_of}
-use Rattle.pb_value.specs.KindView.{cases_view}
-use Rattle.pb_value.specs.declared.kind.Case.{Case}
-use Rattle.pb_value.specs.declared.kind.Kind.{Kind}
-use Rattle.pb_value.proofs.JoinLemmas.{append_through}
+use Rattle.pb_kind.specs.KindView.{cases_view}
+use Rattle.pb_kind.specs.declared.kind.Case.{Case}
+use Rattle.pb_kind.specs.declared.kind.Kind.{Kind}
+use Rattle.pb_kind.proofs.JoinLemmas.{append_through}
 use Rattle.pb_semantics.proofs.Bools.{untrue}
 use Rattle.pb_judgement.specs.Ends.{case_kind}
 

@@ -6,10 +6,10 @@ use Rattle.pb_semantics.specs.Kind.{KindData, Slots, recs, is_listed, slot_at}
 use Rattle.pb_semantics.specs.Signature.{is_certain_boolean}
 use Rattle.pb_semantics.proofs.Bools.{and-left, and-right, not-true}
 use Rattle.pb_language.specs.Cases.{are_plain, is_lawful_shape, shape_slots, slots_of}
-use Rattle.pb_value.specs.KindView.{kind_view}
-use Rattle.pb_value.specs.declared.kind.Slot.{Slot}
-use Rattle.pb_value.specs.declared.kind.Kind.{Kind, the_lemmas as kind_lemmas}
-use Rattle.pb_value.specs.declared.kind.Kind as Kind-of
+use Rattle.pb_kind.specs.KindView.{kind_view}
+use Rattle.pb_kind.specs.declared.kind.Slot.{Slot}
+use Rattle.pb_kind.specs.declared.kind.Kind.{Kind, the_lemmas as kind_lemmas}
+use Rattle.pb_kind.specs.declared.kind.Kind as Kind-of
 use Rattle.pb_value.specs.declared.weight.Weighed.{Weighed}
 
 -- what is no record keeps no law

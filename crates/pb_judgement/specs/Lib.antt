@@ -1,3 +1,4 @@
 pub mod Ends
 pub mod Surrounded
+pub mod Worked
 pub mod Words

@@ -5,14 +5,14 @@ ghost use Rattle.pb_semantics.specs.Kind.{failure_shape};
 ghost use Rattle.pb_language.specs.Cases.{action_name, answered_cases, skipped_slots};
 ghost use Rattle.pb_language.specs.Expression.{no_parts};
 ghost use Rattle.pb_language.specs.Task.{call_of};
-ghost use Rattle.pb_value.specs.Words.{cases_view, kind_view, shape_view};
+ghost use Rattle.pb_kind.specs.Words.{cases_view, kind_view, shape_view};
 ghost use Rattle.pb_sig.specs.Words.{known_view};
 ghost use Rattle.pb_judgement.specs.Ends.{doing};
 
 use crate::shapes::{changed_record, ended_shape, message_record};
+use pb_kind::{Case, Kind, Shape};
 use pb_sig::{Known, Module, case_of, shared_name, skipped_record};
 use pb_task::Work;
-use pb_value::{Case, Kind, Shape};
 use std::alloc::{AllocError, Global};
 use std::sync::Arc;
 

@@ -3,15 +3,15 @@ ghost use Rattle.std.specs.Prelude.{◌≡◌, IfOk, option_map};
 ghost use Rattle.pb_language.specs.Cases.{all_results, failing_cases, going_cases};
 ghost use Rattle.pb_language.specs.Narrow.{least_record, results_of};
 ghost use Rattle.pb_language.specs.Task.{Task};
-ghost use Rattle.pb_value.specs.Words.{cases_view, kind_view};
+ghost use Rattle.pb_kind.specs.Words.{cases_view, kind_view};
 ghost use Rattle.pb_judgement.specs.Ends.{Does, IsJudgedIn, case_kind, doing, ended_in};
 ghost use Rattle.pb_judgement.specs.Ends.{failing_in, going_in, judged_in, results_in};
 
 use crate::answers::{answered_cases, name_of, skipped_cases};
 use crate::status::{cases_of_status, copies, either_status, perhaps_failed};
+use pb_kind::join::join;
+use pb_kind::{Case, Kind};
 use pb_task::Work;
-use pb_value::join::join;
-use pb_value::{Case, Kind};
 use std::alloc::{AllocError, Global};
 
 /// How a task's results are judged.

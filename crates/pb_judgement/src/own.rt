@@ -3,14 +3,14 @@ ghost use Rattle.std.specs.Prelude.{◌≡◌, IfOk};
 ghost use Rattle.pb_language.specs.Cases.{answered_cases, judged_cases};
 ghost use Rattle.pb_language.specs.Narrow.{results_of};
 ghost use Rattle.pb_language.specs.Task.{Task};
-ghost use Rattle.pb_value.specs.Words.{kind_view};
+ghost use Rattle.pb_kind.specs.Words.{kind_view};
 ghost use Rattle.pb_judgement.specs.Ends.{Does, IsJudgedIn};
 
 use crate::answers::{answered_cases, name_of};
 use crate::ends::{Manner, judged_in, result_of};
 use crate::status::copies;
+use pb_kind::Kind;
 use pb_task::Work;
-use pb_value::Kind;
 use std::alloc::{AllocError, Global};
 
 /// Of which kinds the own result of a task is that is asked about.

@@ -2,10 +2,10 @@
 ghost use Rattle.std.specs.Prelude.{◌≡◌, IfOk};
 ghost use Rattle.pb_semantics.specs.Words.{lists};
 ghost use Rattle.pb_language.specs.Cases.{listed_kind, looped_kind};
-ghost use Rattle.pb_value.specs.Words.{kind_view};
+ghost use Rattle.pb_kind.specs.Words.{kind_view};
 
+use pb_kind::Kind;
 use pb_sig::rows::{must, shape_of};
-use pb_value::Kind;
 use std::alloc::{AllocError, Global};
 
 /// The kind of what a task registers whose results are of that kind (or, of a loop, whose items'

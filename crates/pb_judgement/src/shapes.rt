@@ -2,11 +2,11 @@
 ghost use Rattle.std.specs.Prelude.{◌≡◌, IfOk, true};
 ghost use Rattle.pb_language.specs.Cases.{changed_slots, ended_kind, is_lawful_shape};
 ghost use Rattle.pb_language.specs.Cases.{message_slots, shape_slots};
-ghost use Rattle.pb_value.specs.Words.{kind_view};
+ghost use Rattle.pb_kind.specs.Words.{kind_view};
 
+use pb_kind::Kind;
 use pb_sig::ended_record;
 use pb_sig::rows::{must, shape_of};
-use pb_value::Kind;
 use std::alloc::{AllocError, Global};
 
 // The record of a module's shape with the final status.

@@ -3,9 +3,9 @@ ghost use Rattle.std.specs.Prelude.{[], ◌∷◌, ◌≡◌, IfOk, OnOk, cond, 
 ghost use Rattle.pb_semantics.specs.Words.{append_cases, no_cases, one};
 ghost use Rattle.pb_language.specs.Cases.{either_status, perhaps_failed};
 ghost use Rattle.pb_language.specs.Narrow.{cases_with};
-ghost use Rattle.pb_value.specs.Words.{cases_view, kind_view, shape_view};
+ghost use Rattle.pb_kind.specs.Words.{cases_view, kind_view, shape_view};
 
-use pb_value::{Case, Kind};
+use pb_kind::{Case, Kind};
 use std::alloc::{AllocError, Global};
 
 // Each case with either status.

@@ -4,10 +4,10 @@ use Rattle.std.proofs.lemmas.Bool.Decides.{nat_tests}
 use Rattle.std.proofs.lemmas.List.{take-append-drop, take_rest, length-map}
 use Rattle.pb_semantics.specs.Kind.{KindData, Slots, no_slots, slot}
 use Rattle.pb_semantics.specs.Well.{WellSlots}
-use Rattle.pb_value.specs.KindView.{kind_view, slots_view, is_always}
-use Rattle.pb_value.specs.declared.kind.Slot.{Slot}
-use Rattle.pb_value.specs.declared.kind.Kind.{Kind}
-use Rattle.pb_value.proofs.KindLemmas.{SlotEntry}
+use Rattle.pb_kind.specs.KindView.{kind_view, slots_view, is_always}
+use Rattle.pb_kind.specs.declared.kind.Slot.{Slot}
+use Rattle.pb_kind.specs.declared.kind.Kind.{Kind}
+use Rattle.pb_kind.proofs.KindLemmas.{SlotEntry}
 use Rattle.pb_language.specs.Expression.{Name}
 use Rattle.pb_lattice.specs.Trees.{known, fork, fits, left_half, right_half, append_slots, slots_over, WellTree}
 use Rattle.pb_lattice.specs.Arena.{names_of, tree_at, IsGrown, IsNew}

@@ -4,9 +4,9 @@ use Rattle.pb_semantics.specs.Join.{join}
 use Rattle.pb_semantics.specs.Well.{Well}
 use Rattle.pb_semantics.proofs.Bools.{and-left, and-right}
 use Rattle.pb_semantics.proofs.JoinWell.{joins_well}
-use Rattle.pb_value.specs.KindView.{is_always, kind_view}
-use Rattle.pb_value.specs.declared.kind.Slot.{Slot}
-use Rattle.pb_value.specs.declared.kind.Kind.{Kind}
+use Rattle.pb_kind.specs.KindView.{is_always, kind_view}
+use Rattle.pb_kind.specs.declared.kind.Slot.{Slot}
+use Rattle.pb_kind.specs.declared.kind.Kind.{Kind}
 use Rattle.pb_lattice.specs.Trees.{Tree, bare, known, fork, WellTree, are_alike}
 use Rattle.pb_lattice.specs.Arena.{part_view, are_parts_below, IsMeeting}
 use Rattle.pb_lattice.specs.declared.tree.Part.{Part}

@@ -5,7 +5,7 @@ use Rattle.std.specs.Prelude.{String, string_bytes}
 use Rattle.std.specs.declared.alloc.Global.{Global}
 use Rattle.pb_semantics.specs.Kind.{KindData, put_slot}
 use Rattle.pb_semantics.specs.Well.{Well}
-use Rattle.pb_value.specs.KindView.{is_always, kind_view}
+use Rattle.pb_kind.specs.KindView.{is_always, kind_view}
 use Rattle.pb_language.specs.Expression.{Name}
 use Rattle.pb_lattice.specs.Trees.{Tree, bare, known, fork, WellTree, tree_below, are_alike, IsJoin}
 use Rattle.pb_lattice.specs.Trees.{fits, slots_over}

@@ -3,9 +3,9 @@ use denote.Ref.{Bor}
 use Rattle.std.specs.Prelude.{◌≡◌, ℕ, ◌<◌, List, [], ◌∷◌, length, true, String, string_bytes}
 use Rattle.std.specs.declared.alloc.Global.{Global}
 use Rattle.pb_semantics.specs.Kind.{Slots, no_slots, slot}
-use Rattle.pb_value.specs.KindView.{is_always, kind_view}
-use Rattle.pb_value.specs.declared.kind.Kind.{Kind}
-use Rattle.pb_value.specs.declared.kind.Slot.{Slot}
+use Rattle.pb_kind.specs.KindView.{is_always, kind_view}
+use Rattle.pb_kind.specs.declared.kind.Kind.{Kind}
+use Rattle.pb_kind.specs.declared.kind.Slot.{Slot}
 use Rattle.pb_language.specs.Expression.{Name}
 use Rattle.pb_lattice.specs.Trees.{WellTree, fits, slots_over}
 use Rattle.pb_lattice.specs.Arena.{tree_at}

@@ -5,8 +5,8 @@ use Rattle.pb_semantics.specs.Kind.{KindData}
 use Rattle.pb_semantics.specs.Keeps.{keeps}
 use Rattle.pb_semantics.specs.Below.{below}
 use Rattle.pb_semantics.specs.Well.{Well}
-use Rattle.pb_value.specs.KindView.{kind_view}
-use Rattle.pb_value.specs.declared.kind.Kind.{Kind}
+use Rattle.pb_kind.specs.KindView.{kind_view}
+use Rattle.pb_kind.specs.declared.kind.Kind.{Kind}
 
 abbrev pub IsBelow : KindData → KindData → Type 0
 IsBelow k m = below k m ≡ true

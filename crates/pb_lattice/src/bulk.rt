@@ -1,13 +1,13 @@
 // A tree that is built of all slots at once: a node for each of them, and one for each fork above.
 ghost use Rattle.std.specs.Prelude.{◌≡◌, ◌≤◌, IfOk, length};
 ghost use Rattle.pb_semantics.specs.Well.{WellSlots};
-ghost use Rattle.pb_value.specs.Words.{is_always, kind_view, slots_view};
+ghost use Rattle.pb_kind.specs.Words.{is_always, kind_view, slots_view};
 ghost use Rattle.pb_lattice.specs.Arena.{IsGrown, names_of};
 ghost use Rattle.pb_lattice.specs.Bulk.{IsBuilt, pairs_view};
 ghost use Rattle.pb_lattice.specs.Trees.{known, slots_over};
 
 use crate::tree::{Nodes, Part};
-use pb_value::{Kind, Slot, Slots};
+use pb_kind::{Kind, Slot, Slots};
 use std::alloc::{AllocError, Global};
 
 // The tree over the names in which those slots are known, and nothing else; want of memory also

@@ -6,7 +6,7 @@ ghost use Rattle.pb_semantics.specs.Words.{is_among, no_slots, recs};
 ghost use Rattle.pb_language.specs.Judgement.{Exit, live};
 ghost use Rattle.pb_language.specs.Ordered.{ExitLe};
 ghost use Rattle.pb_language.specs.Wells.{WellExit};
-ghost use Rattle.pb_value.specs.Words.{is_always, kind_view, slots_view, spot_view};
+ghost use Rattle.pb_kind.specs.Words.{is_always, kind_view, slots_view, spot_view};
 ghost use Rattle.pb_lattice.specs.Arena.{names_of};
 ghost use Rattle.pb_lattice.specs.Environments.{IsKept, Stands, exit_of, is_dead, is_over};
 ghost use Rattle.pb_lattice.specs.Environments.{put_in, spot_in};
@@ -16,7 +16,7 @@ ghost use Rattle.pb_lattice.specs.Trees.{IsAscending};
 
 use crate::bulk;
 use crate::tree::{self, Nodes};
-use pb_value::{Kind, Slot, Slots};
+use pb_kind::{Kind, Slot, Slots};
 use std::alloc::{AllocError, Global};
 use std::marker::Model;
 
@@ -31,7 +31,7 @@ pub struct Environments {
 
 impl Model for Environments {
     ghost use Rattle.std.specs.Coded.{codes};
-    ghost use Rattle.pb_value.specs.contracts.kind.Kind as kind;
+    ghost use Rattle.pb_kind.specs.contracts.kind.Kind as kind;
     ghost use Rattle.pb_lattice.specs.Shared.{Shared};
 
     ghost Value = { Shared };
@@ -76,7 +76,8 @@ impl Environments {
     /// Want of memory.
     pub fn new(alloc: Global, names: Vec<String>) -> Result<Environments, AllocError>
         requires { IsAscending (names_of names.items) }
-        ensures { IfOk result (λ s. s.names ≡ names_of names.items) }
+        ensures over { IfOk result (λ s. s.names ≡ names_of names.items) }
+        ensures lone { IfOk result (λ s. length s.nodes ≡ 1) }
     {
         let nodes = Nodes::new(alloc)?;
         Ok(Environments { names, nodes })
@@ -88,7 +89,8 @@ impl Environments {
     ///
     /// Want of memory.
     pub fn emptied(self, alloc: Global) -> Result<Environments, AllocError>
-        ensures { IfOk result (λ s. s.names ≡ self.names) }
+        ensures over { IfOk result (λ s. s.names ≡ self.names) }
+        ensures lone { IfOk result (λ s. length s.nodes ≡ 1) }
     {
         Environments::new(alloc, self.names)
     }

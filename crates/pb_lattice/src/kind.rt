@@ -3,13 +3,13 @@ ghost use Rattle.std.specs.Prelude.{◌≡◌, ◌↔◌, IfOk, IsTrue};
 ghost use Rattle.pb_semantics.specs.Kind.{KindData};
 ghost use Rattle.pb_semantics.specs.Well.{Well};
 ghost use Rattle.pb_semantics.specs.Words.{join as join_of};
-ghost use Rattle.pb_value.specs.Words.{kind_view};
+ghost use Rattle.pb_kind.specs.Words.{kind_view};
 ghost use Rattle.pb_lattice.specs.KindOrder.{HaveSameValues, IsBelow, IsWell};
 
 use crate::lattice::Lattice;
-use pb_value::Kind;
-use pb_value::below::below;
-use pb_value::join::join;
+use pb_kind::Kind;
+use pb_kind::below::below;
+use pb_kind::join::join;
 use std::alloc::{AllocError, Global};
 
 /// A kind is below another where each of its values is one of that, as far as the kinds tell. Two

@@ -4,7 +4,7 @@ ghost use Rattle.std.specs.Prelude.{◌≡◌, ◌&&◌, ◌<◌, ◌||◌, List
 ghost use Rattle.std.specs.Prelude.{IsTrue};
 ghost use Rattle.pb_semantics.specs.Words.{below as below_of, is_among, join as join_of, slot_at};
 ghost use Rattle.pb_semantics.specs.Well.{Well};
-ghost use Rattle.pb_value.specs.Words.{is_always, kind_view, spot_view};
+ghost use Rattle.pb_kind.specs.Words.{is_always, kind_view, spot_view};
 ghost use Rattle.pb_language.specs.Judgement.{live};
 ghost use Rattle.pb_language.specs.Expression.{Name};
 ghost use Rattle.pb_lattice.specs.Lost.{is_surely, lost_marks};
@@ -14,9 +14,9 @@ ghost use Rattle.pb_lattice.specs.Arena.{IsGrown, IsMade, IsNew, are_made_below,
 ghost use Rattle.pb_lattice.specs.Arena.{IsJoined, IsMeeting, IsPut, IsSplit, MayJoin, names_of};
 ghost use Rattle.pb_lattice.specs.Arena.{part_view, tree_at};
 
-use pb_value::below::below;
-use pb_value::join::join;
-use pb_value::{Kind, Slot};
+use pb_kind::below::below;
+use pb_kind::join::join;
+use pb_kind::{Kind, Slot};
 use std::alloc::{AllocError, Global};
 use std::marker::Model;
 
@@ -51,7 +51,7 @@ enum Meeting {
 impl Model for Nodes {
     ghost use Rattle.std.specs.Prelude.{List};
     ghost use Rattle.std.specs.Coded.{codes};
-    ghost use Rattle.pb_value.specs.contracts.kind.Kind as kind;
+    ghost use Rattle.pb_kind.specs.contracts.kind.Kind as kind;
     ghost use Rattle.pb_lattice.specs.declared.tree.Node.{Node};
 
     ghost Value = { List Node };
@@ -68,7 +68,8 @@ impl Model for Nodes {
 impl Nodes {
     // A table with the tree of which nothing is known.
     pub(crate) fn new(alloc: Global) -> Result<Nodes, AllocError>
-        ensures { IfOk result (λ t. IsNew bare t 0) }
+        ensures first { IfOk result (λ t. IsNew bare t 0) }
+        ensures lone { IfOk result (λ t. length t ≡ 1) }
     {
         let mut nodes = Vec::new(alloc);
         let first = Node {

@@ -12,9 +12,9 @@ use Rattle.pb_language.proofs.WithSlot.{at_with}
 use Rattle.pb_syntax.specs.ExprView.{expr_view}
 use Rattle.pb_syntax.specs.declared.expr.Expr.{Expr}
 use Rattle.pb_lattice.specs.Environments.{spot_in}
-use Rattle.pb_value.specs.KindView.{is_always, kind_view}
-use Rattle.pb_value.specs.declared.kind.Kind.{Kind}
-use Rattle.pb_value.specs.declared.kind.Slot.{Slot}
+use Rattle.pb_kind.specs.KindView.{is_always, kind_view}
+use Rattle.pb_kind.specs.declared.kind.Kind.{Kind}
+use Rattle.pb_kind.specs.declared.kind.Slot.{Slot}
 use Rattle.pb_outlook.specs.Standing.{failure_spot, known_of, with_given, with_known}
 use Rattle.pb_outlook.specs.declared.standing.Given.{Given}
 

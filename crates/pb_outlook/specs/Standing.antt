@@ -6,9 +6,9 @@ use Rattle.pb_language.specs.Expression.{Name, Parts}
 use Rattle.pb_language.specs.Judgement.{Exit, dead, live}
 use Rattle.pb_language.specs.Scope.{with_slot}
 use Rattle.pb_language.specs.Setting.{Setting, named_slots, scope_at, with_failure_slot}
-use Rattle.pb_value.specs.KindView.{is_always, kind_view}
-use Rattle.pb_value.specs.declared.kind.Kind.{Kind}
-use Rattle.pb_value.specs.declared.kind.Slot.{Slot}
+use Rattle.pb_kind.specs.KindView.{is_always, kind_view}
+use Rattle.pb_kind.specs.declared.kind.Kind.{Kind}
+use Rattle.pb_kind.specs.declared.kind.Slot.{Slot}
 use Rattle.pb_expr.specs.Before.{Before}
 use Rattle.pb_outlook.specs.declared.standing.Given.{Given}
 

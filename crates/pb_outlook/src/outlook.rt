@@ -5,10 +5,10 @@ ghost use Rattle.pb_language.specs.Scope.{has_view, is_later, later_of, view_of}
 ghost use Rattle.pb_language.specs.Setting.{Setting, named_slots};
 ghost use Rattle.pb_language.specs.Wells.{WellViews};
 ghost use Rattle.pb_language.specs.World.{member_of};
-ghost use Rattle.pb_value.specs.Words.{is_always, kind_view, spot_view};
+ghost use Rattle.pb_kind.specs.Words.{is_always, kind_view, spot_view};
 ghost use Rattle.pb_outlook.specs.Standing.{failure_spot};
 
-use pb_value::{Kind, Slot};
+use pb_kind::{Kind, Slot};
 
 /// What a host of a play sees beside its own variables: the names that are always there, and what
 /// is known of the variables of each host.

@@ -8,15 +8,15 @@ ghost use Rattle.pb_language.specs.Cases.{item_kind as kind_of_items};
 ghost use Rattle.pb_language.specs.Rules.{any_too_long};
 ghost use Rattle.pb_language.specs.Setting.{named_slots, with_failure_slot, with_item};
 ghost use Rattle.pb_lattice.specs.Words.{exit_of, is_over};
-ghost use Rattle.pb_value.specs.Words.{is_always, kind_view, spot_view};
+ghost use Rattle.pb_kind.specs.Words.{is_always, kind_view, spot_view};
 ghost use Rattle.pb_vars.specs.Words.{in_scope};
 ghost use Rattle.pb_outlook.specs.Standing.{known_of, own_names, with_given, with_known};
 ghost use Rattle.pb_outlook.specs.Standing.{with_result};
 
 use crate::outlook::Outlook;
 use pb_expr::{Expr, Known};
+use pb_kind::{Kind, Slot};
 use pb_lattice::{Environment, Environments};
-use pb_value::{Kind, Slot};
 use pb_vars::InScope;
 use std::alloc::AllocError;
 

@@ -22,7 +22,8 @@ use crate::words::{fault_word, sort_word};
 use pb_eval::eval::eval;
 use pb_expr::narrow::narrow;
 use pb_expr::{Expr, ExprFault, KindFault, Taught, kind_of, parse_expr, parse_template};
-use pb_value::{Fields, Kind, Value};
+use pb_kind::Kind;
+use pb_value::{Fields, Value};
 use std::alloc::{AllocError, Global};
 
 /// The line of the answer, without its end.

@@ -2,7 +2,8 @@
 ghost use Rattle.std.specs.Prelude.{◌≡◌, IfOk, OnOk, false, string_bytes, true};
 ghost use Rattle.pb_semantics.specs.Words.{put_field, put_slot};
 ghost use Rattle.pb_language.specs.Words.{known_kind};
-ghost use Rattle.pb_value.specs.Words.{fields_view, kind_view, slots_view, view};
+ghost use Rattle.pb_kind.specs.Words.{kind_view, slots_view};
+ghost use Rattle.pb_value.specs.Words.{fields_view, view};
 ghost use Rattle.pb_syntax.specs.Words.{no_trees};
 ghost use Rattle.pb_sig.specs.Words.{known_view, result_kind};
 ghost use Rattle.pb_probe.specs.OneHost.{one_host_scope};
@@ -10,9 +11,10 @@ ghost use Rattle.pb_probe.specs.Registered.{registered_kind};
 
 use crate::records::lay;
 use pb_expr::{Expr, KindFault, Known as KnownVariables, Taught, kind_of};
+use pb_kind::below::find;
+use pb_kind::{Kind, Slot, Slots, put_slot};
 use pb_sig::{Known, Module, Registry, Results};
-use pb_value::below::find;
-use pb_value::{Fields, Kind, Slot, Slots, Value, put_field, put_slot};
+use pb_value::{Fields, Value, put_field};
 use std::alloc::{AllocError, Global};
 
 /// What is known of the variables of the one host, which stands in the groups `all` and

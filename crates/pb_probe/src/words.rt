@@ -1,11 +1,11 @@
 // The words for kinds and faults.
 ghost use Rattle.std.specs.Prelude.{◌≡◌};
-ghost use Rattle.pb_value.specs.Words.{kind_view};
+ghost use Rattle.pb_kind.specs.Words.{kind_view};
 ghost use Rattle.pb_expr.specs.Words.{fault_view};
 ghost use Rattle.pb_probe.specs.Said.{fault_said, sort_said};
 
 use pb_expr::Unfit;
-use pb_value::Kind;
+use pb_kind::Kind;
 
 /// The sort of a kind.
 pub fn sort_word(kind: &Kind) -> &'static str

@@ -2,9 +2,9 @@
 use Rattle.std.proofs.Common.{◌≡◌, List, [], ◌∷◌, string_bytes, refl}
 use Rattle.std.specs.List.{AllZip}
 use Rattle.pb_value.specs.View.{view, fields_view}
-use Rattle.pb_value.specs.KindView.{kind_view, slots_view}
+use Rattle.pb_kind.specs.KindView.{kind_view, slots_view}
 use Rattle.pb_value.proofs.Fields.{Entry}
-use Rattle.pb_value.proofs.KindLemmas.{SlotEntry}
+use Rattle.pb_kind.proofs.KindLemmas.{SlotEntry}
 
 pub fields_view-copy : (es fs : List Entry) → AllZip (λ (p q : Entry). (string_bytes q.0 ≡ string_bytes p.0) × (view q.1 ≡ view p.1)) es fs → fields_view fs ≡ fields_view es
 fields_view-copy [] [] h = refl

@@ -9,9 +9,9 @@ use Rattle.pb_semantics.specs.Signature.{ParameterData}
 use Rattle.pb_language.specs.Evaluation.{field_count}
 use Rattle.pb_language.specs.Expression.{Name}
 use Rattle.pb_value.specs.View.{view, fields_view, truth}
-use Rattle.pb_value.specs.KindView.{slots_view}
-use Rattle.pb_value.specs.declared.kind.Kind.{Kind}
-use Rattle.pb_value.specs.declared.kind.Slot.{Slot}
+use Rattle.pb_kind.specs.KindView.{slots_view}
+use Rattle.pb_kind.specs.declared.kind.Kind.{Kind}
+use Rattle.pb_kind.specs.declared.kind.Slot.{Slot}
 use Rattle.pb_value.proofs.Fields.{Entry}
 use Rattle.pb_sig.specs.Signatures.{kind_in, inner_kind, shape_in, spot_in, bound_in, list_kind, record_kind, field_spot, pair_in, lone_in, module_form, module_name, parameters_of, shape_of, slot_count, is_within, are_within, most_fields, most_list_items}
 

@@ -6,7 +6,7 @@ use Rattle.pb_semantics.specs.Signature.{ModuleData, is_shape, is_failure_shape,
 use Rattle.pb_semantics.proofs.Bools.{and-left, and-right, and-both, neither-left, neither-right, untrue}
 use Rattle.pb_language.specs.Cases.{are_plain, is_lawful_shape}
 use Rattle.pb_language.specs.Judgement.{is_lawful}
-use Rattle.pb_value.specs.KindView.{slots_view}
+use Rattle.pb_kind.specs.KindView.{slots_view}
 use Rattle.pb_sig.specs.Drafts.{draft_view}
 use Rattle.pb_sig.specs.Lawful.{IsLawful}
 use Rattle.pb_sig.specs.ModuleView.{are_lawful_modules}

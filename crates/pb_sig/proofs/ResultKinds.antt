@@ -7,9 +7,9 @@ use Rattle.pb_semantics.proofs.Bools.{untrue}
 use Rattle.pb_language.specs.Expression.{Name}
 use Rattle.pb_language.specs.Cases.{ended_kind}
 use Rattle.pb_language.specs.Scope.{without_slot}
-use Rattle.pb_value.specs.KindView.{kind_view}
-use Rattle.pb_value.specs.declared.kind.Kind as Kind-of
-use Rattle.pb_value.specs.declared.kind.Kind.{the_lemmas as kind_lemmas}
+use Rattle.pb_kind.specs.KindView.{kind_view}
+use Rattle.pb_kind.specs.declared.kind.Kind as Kind-of
+use Rattle.pb_kind.specs.declared.kind.Kind.{the_lemmas as kind_lemmas}
 
 unlisted_first : (q r : Bool) → cond q true r ≡ false → (q ≡ false) × (r ≡ false)
 unlisted_first true r h = untrue (sym h)

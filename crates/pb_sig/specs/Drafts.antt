@@ -2,9 +2,9 @@
 use Rattle.std.specs.Prelude.{None, map, string_bytes}
 use Rattle.pb_semantics.specs.Kind.{Spot, recs, spot}
 use Rattle.pb_semantics.specs.Signature.{ModuleData}
-use Rattle.pb_value.specs.KindView.{is_always, kind_view, slots_view}
-use Rattle.pb_value.specs.declared.kind.Kind.{Kind}
-use Rattle.pb_value.specs.declared.kind.Slot.{Slot}
+use Rattle.pb_kind.specs.KindView.{is_always, kind_view, slots_view}
+use Rattle.pb_kind.specs.declared.kind.Kind.{Kind}
+use Rattle.pb_kind.specs.declared.kind.Slot.{Slot}
 use Rattle.pb_sig.specs.Views.{parameter_view}
 use Rattle.pb_sig.specs.declared.draft.Draft.{Draft}
 

@@ -4,7 +4,7 @@ use Rattle.pb_semantics.specs.Kind.{KindData, Slots, Cases, recs, no_cases, one,
 use Rattle.pb_semantics.specs.Join.{append_cases}
 use Rattle.pb_language.specs.Expression.{Name}
 use Rattle.pb_language.specs.Cases.{ok_case, skipped_slots}
-use Rattle.pb_value.specs.KindView.{kind_view}
+use Rattle.pb_kind.specs.KindView.{kind_view}
 use Rattle.pb_sig.specs.declared.results.Results.{Results}
 
 -- skipped, where that may be, or ok and not failed

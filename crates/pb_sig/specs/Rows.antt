@@ -1,7 +1,7 @@
 -- The slots and the parameters that rows describe.
 use Rattle.std.specs.Prelude.{List, [], ◌∷◌}
 use Rattle.pb_semantics.specs.Kind.{Slots, put_slot}
-use Rattle.pb_value.specs.KindView.{kind_view, is_always}
+use Rattle.pb_kind.specs.KindView.{kind_view, is_always}
 use Rattle.pb_semantics.specs.Signature.{ParameterData}
 use Rattle.pb_sig.specs.declared.rows.Row.{Row}
 

@@ -1,6 +1,6 @@
 -- What parameters and modules mean.
 use Rattle.std.specs.Prelude.{string_bytes}
-use Rattle.pb_value.specs.KindView.{kind_view}
+use Rattle.pb_kind.specs.KindView.{kind_view}
 use Rattle.pb_semantics.specs.Signature.{ParameterData}
 use Rattle.pb_sig.specs.declared.signature.Parameter.{Parameter}
 

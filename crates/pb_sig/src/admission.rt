@@ -2,12 +2,14 @@
 ghost use Rattle.std.specs.Prelude.{◌≡◌, IfOk, Some, codes, cond, option_map};
 ghost use Rattle.pb_semantics.specs.Words.{admission, boolean, changed_fields, ended, failed_of};
 ghost use Rattle.pb_semantics.specs.Words.{field_value, projected, put_field, rec};
-ghost use Rattle.pb_value.specs.Words.{fields_view, kind_view, view};
+ghost use Rattle.pb_kind.specs.Words.{kind_view};
+ghost use Rattle.pb_value.specs.Words.{fields_view, view};
 ghost use Rattle.pb_sig.specs.AdmissionView.{admission_view};
 
 use crate::signature::Module;
-use pb_value::project::project;
-use pb_value::{Fields, Kind, Value, Weighed, field_of, own_fields, put_field};
+use pb_kind::Kind;
+use pb_kind::project::project;
+use pb_value::{Fields, Value, Weighed, field_of, own_fields, put_field};
 use std::alloc::{AllocError, Global};
 use std::sync::Arc;
 

@@ -2,7 +2,7 @@
 ghost use Rattle.std.specs.Prelude.{◌≡◌, IfOk, map, option_map, string_bytes, true};
 ghost use Rattle.pb_semantics.specs.Signature.{has_message};
 ghost use Rattle.pb_language.specs.Cases.{is_lawful_shape};
-ghost use Rattle.pb_value.specs.Words.{kind_view};
+ghost use Rattle.pb_kind.specs.Words.{kind_view};
 ghost use Rattle.pb_sig.specs.Table.{command, copy, file, ping, program, service, setup, shell};
 ghost use Rattle.pb_sig.specs.Table.{stat};
 ghost use Rattle.pb_sig.specs.Views.{parameter_view};
@@ -13,7 +13,7 @@ use crate::table::{
     ping_shape, program_failure_shape, program_parameters, program_shape, service_parameters,
     service_shape, setup_parameters, setup_shape, stat_parameters, stat_shape,
 };
-use pb_value::Kind;
+use pb_kind::Kind;
 use std::alloc::{AllocError, Global};
 use std::sync::Arc;
 

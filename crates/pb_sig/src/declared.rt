@@ -1,13 +1,13 @@
 // The modules that a file of signatures declares.
 ghost use Rattle.std.specs.Prelude.{◌≡◌, IfOk, string_bytes, true};
-ghost use Rattle.pb_value.specs.Words.{kind_view};
+ghost use Rattle.pb_kind.specs.Words.{kind_view};
 ghost use Rattle.pb_sig.specs.Drafts.{draft_view};
 ghost use Rattle.pb_sig.specs.Lawful.{IsLawful};
 ghost use Rattle.pb_sig.specs.Signatures.{keeps_laws};
 
 use crate::draft::Draft;
 use crate::signature::{Module, Parameter};
-use pb_value::Kind;
+use pb_kind::Kind;
 use std::alloc::{AllocError, Global};
 use std::sync::Arc;
 

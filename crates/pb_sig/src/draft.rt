@@ -1,10 +1,10 @@
 // A module as a file describes it.
 ghost use Rattle.std.specs.Prelude.{◌&&◌, ◌≡◌, true};
 ghost use Rattle.pb_language.specs.Cases.{are_plain};
-ghost use Rattle.pb_value.specs.Words.{slots_view};
+ghost use Rattle.pb_kind.specs.Words.{slots_view};
 
 use crate::signature::Parameter;
-use pb_value::Slots;
+use pb_kind::Slots;
 
 // A module as a file describes it, of which no more is known than that its shapes hold no result
 // and have each name once.

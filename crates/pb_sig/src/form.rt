@@ -1,8 +1,10 @@
 // What the values in a file of signatures describe: kinds, fields, parameters, modules.
 ghost use Rattle.std.specs.Prelude.{◌≡◌, Some, map, option_map, string_bytes};
 ghost use Rattle.pb_semantics.specs.Words.{Gives};
-ghost use Rattle.pb_value.specs.Words.{fields_view, is_always as is_certain, kind_view};
-ghost use Rattle.pb_value.specs.Words.{slots_view, view};
+ghost use Rattle.pb_kind.specs.Words.{is_always as is_certain, kind_view};
+ghost use Rattle.pb_value.specs.Words.{fields_view};
+ghost use Rattle.pb_kind.specs.Words.{slots_view};
+ghost use Rattle.pb_value.specs.Words.{view};
 ghost use Rattle.pb_sig.specs.Drafts.{draft_view, slot_spot};
 ghost use Rattle.pb_sig.specs.Offences.{no_form, no_spot};
 ghost use Rattle.pb_sig.specs.Signatures.{bound_in, inner_kind, kind_in as kind_meant};
@@ -16,7 +18,8 @@ use crate::draft::Draft;
 use crate::fault::FormFault;
 use crate::names::{is_module, is_variable};
 use crate::signature::Parameter;
-use pb_value::{Fields, Kind, Presence, Slot, Slots, Value, field_of, put_slot};
+use pb_kind::{Kind, Presence, Slot, Slots, put_slot};
+use pb_value::{Fields, Value, field_of};
 use std::alloc::Global;
 
 // The module that a value describes.

@@ -7,7 +7,7 @@ ghost use Rattle.pb_sig.specs.ModuleView.{shared_view};
 use crate::builtin::Builtin;
 use crate::declared::Declared;
 use crate::signature::{Module, Parameter};
-use pb_value::Kind;
+use pb_kind::Kind;
 use std::alloc::{AllocError, Global};
 use std::sync::Arc;
 

@@ -3,13 +3,13 @@ ghost use Rattle.std.specs.Prelude.{[], ◌∷◌, ◌≡◌, IfOk, codes, false
 ghost use Rattle.pb_semantics.specs.Words.{booleans, is_listed, join, no_cases, ok_shape, one};
 ghost use Rattle.pb_semantics.specs.Words.{put_slot, recs, results, skipped_shape};
 ghost use Rattle.pb_language.specs.Words.{ended_kind, failure_case, results_of, skipped_slots};
-ghost use Rattle.pb_value.specs.Words.{cases_view, kind_view, shape_view, slots_view};
+ghost use Rattle.pb_kind.specs.Words.{cases_view, kind_view, shape_view, slots_view};
 ghost use Rattle.pb_sig.specs.Results.{result_cases, result_kind};
 
 use crate::rows::{must, shape_of};
 use crate::signature::shared_name;
-use pb_value::join::join;
-use pb_value::{Case, Kind, Shape, Slot, Slots, put_slot};
+use pb_kind::join::join;
+use pb_kind::{Case, Kind, Shape, Slot, Slots, put_slot};
 use std::alloc::{AllocError, Global};
 use std::sync::Arc;
 

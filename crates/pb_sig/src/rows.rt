@@ -1,12 +1,12 @@
 // Records of kinds and lists of parameters, written as rows.
 ghost use Rattle.std.specs.Prelude.{◌≡◌, IfOk, map};
 ghost use Rattle.pb_semantics.specs.Words.{lists, most_output_lines, no_slots, recs, texts};
-ghost use Rattle.pb_value.specs.Words.{kind_view};
+ghost use Rattle.pb_kind.specs.Words.{kind_view};
 ghost use Rattle.pb_sig.specs.Views.{parameter_view};
 ghost use Rattle.pb_sig.specs.Rows.{row_parameter, with_rows};
 
 use crate::signature::Parameter;
-use pb_value::{Kind, Presence, Slot, Slots, put_slot};
+use pb_kind::{Kind, Presence, Slot, Slots, put_slot};
 use std::alloc::{AllocError, Global};
 
 // The most lines that one answer gives.

@@ -2,9 +2,9 @@
 ghost use Rattle.std.specs.Prelude.{◌≡◌, IfOk, map, option_map, string_bytes, true};
 ghost use Rattle.pb_semantics.specs.Words.{ModuleData, is_failure_shape, is_shape};
 ghost use Rattle.pb_language.specs.Cases.{is_lawful_shape};
-ghost use Rattle.pb_value.specs.Words.{kind_view};
+ghost use Rattle.pb_kind.specs.Words.{kind_view};
 
-use pb_value::Kind;
+use pb_kind::Kind;
 use std::alloc::{AllocError, Global};
 use std::sync::Arc;
 

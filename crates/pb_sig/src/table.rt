@@ -1,14 +1,14 @@
 // The parameters and the shapes of the built-in modules, as rows.
 ghost use Rattle.std.specs.Prelude.{◌≡◌, IfOk, map};
 ghost use Rattle.pb_semantics.specs.Words.{recs};
-ghost use Rattle.pb_value.specs.Words.{kind_view};
+ghost use Rattle.pb_kind.specs.Words.{kind_view};
 ghost use Rattle.pb_sig.specs.Table.{command, copy, file, file_facts, host_facts, ping, service};
 ghost use Rattle.pb_sig.specs.Table.{setup, slots, stat};
 ghost use Rattle.pb_sig.specs.Views.{parameter_view};
 
 use crate::rows::{lines, may, must, parameters_of, shape_of};
 use crate::signature::Parameter;
-use pb_value::Kind;
+use pb_kind::Kind;
 use std::alloc::{AllocError, Global};
 
 // The most parts of the facts that one call of `setup` asks for.

@@ -66,7 +66,7 @@ impl Model for Run {
     ghost use Rattle.pb_strategy.specs.History.{RunState};
     ghost use Rattle.pb_strategy.specs.Inside.{run_state, IsRun};
     ghost use Rattle.pb_value.specs.contracts.value.Value as value;
-    ghost use Rattle.pb_value.specs.contracts.kind.Kind as kind;
+    ghost use Rattle.pb_kind.specs.contracts.kind.Kind as kind;
     ghost use Rattle.pb_syntax.specs.contracts.expr.Expr as expr;
     ghost use Rattle.std.specs.Coded.{codes};
     ghost use Rattle.std_collections.specs.Layout.BTreeMap.{btree_map_code};

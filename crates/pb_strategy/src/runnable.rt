@@ -79,7 +79,7 @@ impl Model for Runnable {
     ghost use Rattle.pb_strategy.specs.Readiness.{IsReady};
     ghost use Rattle.pb_strategy.specs.declared.runnable.Ready.{Ready};
     ghost use Rattle.pb_value.specs.contracts.value.Value as value;
-    ghost use Rattle.pb_value.specs.contracts.kind.Kind as kind;
+    ghost use Rattle.pb_kind.specs.contracts.kind.Kind as kind;
     ghost use Rattle.pb_syntax.specs.contracts.expr.Expr as expr;
     ghost use Rattle.std.specs.Coded.{codes};
     ghost use Rattle.std_collections.specs.Layout.BTreeMap.{btree_map_code};

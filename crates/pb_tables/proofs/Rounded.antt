@@ -10,9 +10,9 @@ use Rattle.pb_language.specs.Tables.{HostWalk, all_walked, are_settled, hosts_wa
 use Rattle.pb_language.specs.Verdict.{earlier, first_offence, flow_verdict, found_laters, offence_verdict, plays_offence, settled_verdict}
 use Rattle.pb_language.specs.Wells.{WellViews}
 use Rattle.pb_language.specs.World.{HostVariables}
-use Rattle.pb_value.specs.KindView.{slots_view}
-use Rattle.pb_value.specs.declared.kind.Kind.{Kind}
-use Rattle.pb_value.specs.declared.kind.Slot.{Slot}
+use Rattle.pb_kind.specs.KindView.{slots_view}
+use Rattle.pb_kind.specs.declared.kind.Kind.{Kind}
+use Rattle.pb_kind.specs.declared.kind.Slot.{Slot}
 use Rattle.pb_walks.specs.Agree.{AllHostsAgree, LatersAgree, SlotsAgree, ViewsAgree}
 use Rattle.pb_walks.specs.Notified.{HostsNameHandlers}
 use Rattle.pb_walks.proofs.NamedWalks.{agreeing_name_handlers}

@@ -12,7 +12,7 @@ use Rattle.pb_language.specs.Tables.{HostWalk, PlayWalk, after_first, known_view
 use Rattle.pb_language.specs.Tables.{plays_calls, plays_walked, since_first, with_plays}
 use Rattle.pb_language.specs.Verdict.{plays_offence}
 use Rattle.pb_language.specs.World.{HostVariables}
-use Rattle.pb_value.specs.KindView.{slots_view}
+use Rattle.pb_kind.specs.KindView.{slots_view}
 use Rattle.pb_walks.specs.Agree.{HostsAgree, SlotsAgree}
 use Rattle.pb_walks.specs.Notified.{PlaysNameHandlers}
 use Rattle.pb_find.specs.Finds.{offence_of}

@@ -9,7 +9,7 @@ use Rattle.pb_language.specs.Program.{Inventory}
 use Rattle.pb_language.specs.Scope.{Later}
 use Rattle.pb_language.specs.Setting.{group_slots}
 use Rattle.pb_language.specs.Tables.{known_views}
-use Rattle.pb_value.specs.KindView.{kind_view}
+use Rattle.pb_kind.specs.KindView.{kind_view}
 use Rattle.pb_lattice.specs.Arena.{names_of}
 use Rattle.pb_lattice.specs.Trees.{IsAscending}
 use Rattle.pb_inventory.specs.Inventory.{inventory_view}

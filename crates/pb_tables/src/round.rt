@@ -7,7 +7,7 @@ ghost use Rattle.pb_language.specs.Program.{Program};
 ghost use Rattle.pb_language.specs.Scope.{Later};
 ghost use Rattle.pb_language.specs.Verdict.{earlier};
 ghost use Rattle.pb_language.specs.World.{HostVariables};
-ghost use Rattle.pb_value.specs.Words.{slots_view};
+ghost use Rattle.pb_kind.specs.Words.{slots_view};
 ghost use Rattle.pb_lattice.specs.Words.{names_of};
 ghost use Rattle.pb_inventory.specs.Words.{inventory_view};
 ghost use Rattle.pb_hosts.specs.Words.{views_view};
@@ -24,8 +24,8 @@ use crate::table::{Stage, Tables};
 use pb_find::FaultAt;
 use pb_hosts::Views;
 use pb_inventory::Inventory;
+use pb_kind::Slots;
 use pb_lattice::Environments;
-use pb_value::Slots;
 use std::alloc::{AllocError, Global};
 
 /// What the ways of all hosts come to in a round.

@@ -2,7 +2,7 @@
 use crate::scene::Scene;
 use pb_hosts::{Lasting, Views};
 use pb_inventory::Inventory;
-use pb_value::Kind;
+use pb_kind::Kind;
 use std::sync::Arc;
 
 /// All plays, and what is the same for all hosts.

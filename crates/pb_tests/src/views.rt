@@ -1,6 +1,6 @@
 // What is known of the variables of an accepted book.
 use crate::runs::{ONE_HOST, checked};
-use pb_value::Kind;
+use pb_kind::Kind;
 use pb_verify::Checked;
 use std::test::Fail;
 

@@ -4,7 +4,7 @@ use Rattle.pb_semantics.specs.Kind.{Slots, slot_at}
 use Rattle.pb_language.specs.Expression.{Name}
 use Rattle.pb_language.specs.Cases.{Sets, no_sets, sets}
 use Rattle.pb_language.specs.Judgement.{Exit, dead, live}
-use Rattle.pb_value.specs.KindView.{kind_view}
+use Rattle.pb_kind.specs.KindView.{kind_view}
 use Rattle.pb_transfer.specs.declared.written.Set.{Set}
 
 -- the names that are set

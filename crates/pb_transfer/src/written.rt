@@ -5,13 +5,13 @@ ghost use Rattle.pb_semantics.specs.Well.{Well};
 ghost use Rattle.pb_language.specs.Cases.{set_spot, with_register, with_sets};
 ghost use Rattle.pb_language.specs.Scope.{with_slot, with_spot};
 ghost use Rattle.pb_language.specs.Wells.{WellSets};
-ghost use Rattle.pb_value.specs.Words.{is_always, kind_view, spot_view};
+ghost use Rattle.pb_kind.specs.Words.{is_always, kind_view, spot_view};
 ghost use Rattle.pb_lattice.specs.Words.{IsKept, Stands, exit_of};
 ghost use Rattle.pb_transfer.specs.Written.{AreSame, sets_view, where_led};
 
+use pb_kind::join::join;
+use pb_kind::{Kind, Presence, Slot};
 use pb_lattice::{Environment, Environments};
-use pb_value::join::join;
-use pb_value::{Kind, Presence, Slot};
 use std::alloc::{AllocError, Global};
 use std::sync::Arc;
 

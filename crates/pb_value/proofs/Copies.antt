@@ -2,13 +2,10 @@
 use Rattle.std.proofs.Common.{◌≡◌, List, [], ◌∷◌, String, Global, Vec, BTreeMap, string_bytes, ◌⊎◌, inl, inr, refl, ap, ap₂}
 use Rattle.std.specs.List.{AllZip}
 use Rattle.pb_semantics.specs.Data.{field, item}
-use Rattle.pb_semantics.specs.Kind.{slot}
-use Rattle.pb_value.specs.KindView.{is_always, kind_view, slots_view}
 use Rattle.pb_value.specs.View.{view, items_view, fields_view}
 use Rattle.pb_value.specs.declared.value.Value.{Value}
 use Rattle.pb_value.specs.declared.weight.Weighed.{Weighed}
 use Rattle.pb_value.proofs.Fields.{Entry}
-use Rattle.pb_value.proofs.KindLemmas.{SlotEntry}
 
 items_view-copy : (vs ws : List Value) → AllZip (λ v w. view w ≡ view v) vs ws → items_view ws ≡ items_view vs
 items_view-copy [] [] h = refl
@@ -30,10 +27,3 @@ items_view-own v w (inr h) = items_view-copy v.parts.items w.parts.items h.1.0
 pub fields_view-own : {W : Type 0} → (m n : Weighed (BTreeMap (String Global) Value)) → (n ≡ m) ⊎ (W × AllZip (λ e d. (string_bytes d.0 ≡ string_bytes e.0) × (view d.1 ≡ view e.1)) m.parts.entries n.parts.entries) → fields_view n.parts.entries ≡ fields_view m.parts.entries
 fields_view-own m n (inl e) = ap (λ (x : Weighed (BTreeMap (String Global) Value)). fields_view x.parts.entries) e
 fields_view-own m n (inr h) = fields_view-copy m.parts.entries n.parts.entries h.1
-
--- slots that are copied
-pub slots_view-copy : (es ds : List SlotEntry) → AllZip (λ e d. (string_bytes d.0 ≡ string_bytes e.0) × ((d.1.presence ≡ e.1.presence) × (kind_view d.1.kind ≡ kind_view e.1.kind))) es ds → slots_view ds ≡ slots_view es
-slots_view-copy [] [] h = refl
-slots_view-copy [] (d ∷ ds) h = absurd h
-slots_view-copy (e ∷ es) [] h = absurd h
-slots_view-copy (e ∷ es) (d ∷ ds) h = rw (h.0.0, h.0.1.0, h.0.1.1) (ap (slot (string_bytes e.0) (is_always e.1.presence) (kind_view e.1.kind)) (slots_view-copy es ds h.1))

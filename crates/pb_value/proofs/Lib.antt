@@ -1,13 +1,6 @@
 pub mod Views
 pub mod Fields
 pub mod Reading
-pub mod KeptLists
 pub mod Copies
-pub mod Projections
-pub mod KindLemmas
-pub mod JoinLemmas
-pub mod GrowLemmas
-pub mod Adding
-mod Merging
+pub mod Appended
 mod Texts
-mod Few

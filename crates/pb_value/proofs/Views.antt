@@ -1,19 +1,12 @@
--- What the layers of a value and of a kind mean.
-use Rattle.std.proofs.Common.{◌≡◌, Bool, ℕ, ℤ, Vec, BTreeMap, String, Global, string_bytes, sym, ap, ◌∙◌}
+-- What the layers of a value mean.
+use Rattle.std.proofs.Common.{◌≡◌, Bool, ℤ, Vec, BTreeMap, String, Global, string_bytes, sym, ap, ◌∙◌}
+use Rattle.std.proofs.Common.{rules}
 use Rattle.std.specs.declared.sync.Arc.{Arc}
 use Rattle.pb_semantics.specs.Data.{null, boolean, int, list, rec, text}
-use Rattle.pb_semantics.specs.Kind.{recs, lists, results}
 use Rattle.pb_value.specs.View.{view, fields_view, items_view}
-use Rattle.pb_value.specs.KindView.{kind_view, slots_view, cases_view}
-use Rattle.pb_value.specs.declared.kind.Case.{Case}
-use Rattle.pb_value.specs.declared.kind.Slot.{Slot}
-use Rattle.pb_value.specs.declared.kind.Kind.{Kind}
 use Rattle.pb_value.specs.declared.value.Value.{Value}
 use Rattle.pb_value.specs.declared.value.Value as Value-of
-use Rattle.pb_value.specs.declared.kind.Kind as Kind-of
 use Rattle.pb_value.specs.declared.value.Value.{the_lemmas as value_lemmas}
-use Rattle.pb_value.specs.declared.kind.Kind.{the_lemmas as kind_lemmas}
-use Rattle.std.proofs.Common.{rules}
 use Rattle.pb_value.specs.declared.weight.Weighed.{Weighed}
 
 pub view-List : (v : Arc (Weighed (Vec Value Global)) Global) → view (Value-of.List v) ≡ list (items_view v.value.parts.items)
@@ -25,15 +18,6 @@ view-Rec m = search (rules, value_lemmas)
 -- the record that a value is, read from its block
 pub view-fields : (v : Value) (fields : Arc (Weighed (BTreeMap (String Global) Value)) Global) (m : BTreeMap (String Global) Value) → v ≡ Value-of.Rec fields → m ≡ fields.value.parts → view v ≡ rec (fields_view m.entries)
 view-fields v fields m is behind = ap view is ∙ view-Rec fields ∙ ap (λ (x : BTreeMap (String Global) Value). rec (fields_view x.entries)) (sym behind)
-
-pub kind_view-List : (k : Arc (Weighed Kind) Global) (n : ℕ) → kind_view (Kind-of.List k n) ≡ lists (kind_view k.value.parts) n
-kind_view-List k n = search (rules, kind_lemmas)
-
-pub kind_view-Rec : (m : Arc (Weighed (BTreeMap (String Global) (Slot Kind))) Global) → kind_view (Kind-of.Rec m) ≡ recs (slots_view m.value.parts.entries)
-kind_view-Rec m = search (rules, kind_lemmas)
-
-pub kind_view-Result : (cs : Arc (Weighed (Vec (Case Kind) Global)) Global) (r : Arc Kind Global) → kind_view (Kind-of.Result cs r) ≡ results (cases_view cs.value.parts.items) (kind_view r.value)
-kind_view-Result cs r = search (rules, kind_lemmas)
 
 pub view-Text : (s : Arc (String Global) Global) → view (Value-of.Text s) ≡ text (string_bytes s.value)
 view-Text s = search (rules, value_lemmas)

@@ -1,12 +1,6 @@
 pub mod View
-pub mod KindView
-pub mod Growing
 pub mod FromJson
-pub mod Found
-pub mod Added
-pub mod Joins
 pub mod Append
 pub mod Words
 pub mod Weights
 pub mod ValueWeight
-pub mod KindWeight

@@ -1,7 +1,4 @@
 -- The words of this crate that the contracts of others cite, from one place.
 pub use Rattle.pb_value.specs.Append.{append_fields}
-pub use Rattle.pb_value.specs.Found.{spot_view}
 pub use Rattle.pb_value.specs.FromJson.{json_data}
-pub use Rattle.pb_value.specs.Growing.{joined_onto}
-pub use Rattle.pb_value.specs.KindView.{cases_view, is_always, kind_view, shape_view, slots_view}
 pub use Rattle.pb_value.specs.View.{fields_view, items_view, view}

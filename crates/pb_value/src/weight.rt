@@ -19,7 +19,8 @@ pub struct Weight {
 }
 
 impl Weight {
-    pub(crate) fn nothing() -> Weight
+    /// Of no parts.
+    pub fn nothing() -> Weight
         ensures { result ≡ nothing }
     {
         Weight {
@@ -28,7 +29,8 @@ impl Weight {
         }
     }
 
-    pub(crate) fn leaf() -> Weight
+    /// Of a value or a kind without parts and texts.
+    pub fn leaf() -> Weight
         ensures { result ≡ leaf }
     {
         Weight {
@@ -37,8 +39,8 @@ impl Weight {
         }
     }
 
-    // Of a text, or of a field's name, of so many bytes.
-    pub(crate) fn of_text(bytes: usize) -> Weight
+    /// Of a text, or of a field's name, of so many bytes.
+    pub fn of_text(bytes: usize) -> Weight
         ensures { result ≡ text_weight bytes }
     {
         Weight {
@@ -47,8 +49,8 @@ impl Weight {
         }
     }
 
-    // Of so many names of hosts.
-    pub(crate) fn of_names(names: usize) -> Weight
+    /// Of so many names of hosts.
+    pub fn of_names(names: usize) -> Weight
         requires { names < 2 ^ 63 }
         ensures { result ≡ names_weight names }
     {
@@ -58,29 +60,33 @@ impl Weight {
         }
     }
 
-    // Whether its leaves are fewer than an eighth of the other's.
-    pub(crate) fn is_light_beside(self, other: Weight) -> bool
+    /// Whether its leaves are fewer than an eighth of the other's.
+    pub fn is_light_beside(self, other: Weight) -> bool
         ensures { result ≡ nat_lt self.leaves (other.leaves / 8) }
     {
         self.leaves < other.leaves / 8
     }
 
-    // Whether at most so many lists and records nest.
-    pub(crate) fn is_within(self, levels: u32) -> bool
+    /// Whether at most so many lists and records nest.
+    pub fn is_within(self, levels: u32) -> bool
         ensures { result ≡ nat_le self.levels levels }
     {
         self.levels <= levels
     }
 
-    // Whether both have as many leaves and levels.
-    pub(crate) fn is(self, other: Weight) -> bool
+    /// Whether both have as many leaves and levels.
+    pub fn is(self, other: Weight) -> bool
         ensures { result ≡ (nat_eq self.leaves other.leaves && nat_eq self.levels other.levels) }
     {
         self.leaves == other.leaves && self.levels == other.levels
     }
 
-    // The weight of both, unless it is past the most.
-    pub(crate) fn with(self, part: Weight, most: u64) -> Result<Weight, AllocError>
+    /// The weight of both, unless it is past the most.
+    ///
+    /// # Errors
+    ///
+    /// Where its leaves are more than that.
+    pub fn with(self, part: Weight, most: u64) -> Result<Weight, AllocError>
         ensures sum { IfOk result (λ w. w ≡ both self part) }
         ensures within { IfOk result (λ w. w.leaves ≤ most) }
         ensures fits { self.leaves + part.leaves ≤ most → IsOk result }
@@ -94,8 +100,12 @@ impl Weight {
         })
     }
 
-    // The weight of a list or a record whose parts have this weight, unless it is past the most.
-    pub(crate) fn nest(self, most: u64) -> Result<Weight, AllocError>
+    /// The weight of a list or a record whose parts have this weight, unless it is past the most.
+    ///
+    /// # Errors
+    ///
+    /// Where its leaves are more than that, or its levels more than 512.
+    pub fn nest(self, most: u64) -> Result<Weight, AllocError>
         ensures sum { IfOk result (λ w. w ≡ above self) }
         ensures within { IfOk result (λ w. IsWithin most w) }
         ensures fits { self.leaves < most → self.levels < most_weight_levels → IsOk result }
@@ -118,20 +128,23 @@ pub struct Weighed<T> {
 }
 
 impl<T> Weighed<T> {
-    pub(crate) fn new(weight: Weight, parts: T) -> Weighed<T>
+    /// Parts of that weight.
+    pub fn new(weight: Weight, parts: T) -> Weighed<T>
         ensures weight { result.weight ≡ weight }
         ensures parts { result.parts ≡ parts }
     {
         Weighed { weight, parts }
     }
 
-    pub(crate) fn weight(&self) -> Weight
+    /// What they weigh.
+    pub fn weight(&self) -> Weight
         ensures { result ≡ self.now.weight }
     {
         self.weight
     }
 
-    pub(crate) fn into_parts(self) -> T
+    /// The parts alone.
+    pub fn into_parts(self) -> T
         ensures { result ≡ self.parts }
     {
         self.parts

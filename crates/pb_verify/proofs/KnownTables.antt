@@ -5,9 +5,9 @@ use Rattle.pb_semantics.specs.Kind.{Spot, nowhere, spot, slot_at}
 use Rattle.pb_language.specs.Expression.{Name}
 use Rattle.pb_language.specs.Ordered.{SpotLe}
 use Rattle.pb_language.specs.Scope.{view_of}
-use Rattle.pb_value.specs.KindView.{is_always, kind_view, slots_view}
-use Rattle.pb_value.specs.declared.kind.Kind.{Kind}
-use Rattle.pb_value.specs.declared.kind.Slot.{Slot}
+use Rattle.pb_kind.specs.KindView.{is_always, kind_view, slots_view}
+use Rattle.pb_kind.specs.declared.kind.Kind.{Kind}
+use Rattle.pb_kind.specs.declared.kind.Slot.{Slot}
 use Rattle.pb_inventory.specs.Inventory.{inventory_view}
 use Rattle.pb_inventory.specs.Numbered.{name_of}
 use Rattle.pb_hosts.specs.Tables.{host_names, views_with}

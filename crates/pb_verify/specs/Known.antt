@@ -12,9 +12,9 @@ use Rattle.pb_language.specs.Program.{Inventory}
 use Rattle.pb_language.specs.Scope.{View, spot_kind, view_of}
 use Rattle.pb_language.specs.Tables.{views_after}
 use Rattle.pb_language.specs.Verdict.{found_laters}
-use Rattle.pb_value.specs.KindView.{kind_view}
-use Rattle.pb_value.specs.declared.kind.Kind.{Kind}
-use Rattle.pb_value.specs.declared.kind.Slot.{Slot}
+use Rattle.pb_kind.specs.KindView.{kind_view}
+use Rattle.pb_kind.specs.declared.kind.Kind.{Kind}
+use Rattle.pb_kind.specs.declared.kind.Slot.{Slot}
 use Rattle.pb_sig.specs.Modules.{modules_of}
 use Rattle.pb_inventory.specs.Inventory.{inventory_view}
 use Rattle.pb_inventory.specs.declared.inventory.Inventory as inventory

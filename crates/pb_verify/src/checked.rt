@@ -1,9 +1,9 @@
 // A book that was accepted, with its inventory and modules.
 use pb_book::Book;
 use pb_inventory::Inventory;
+use pb_kind::below::find;
+use pb_kind::{Kind, Slots};
 use pb_sig::Registry;
-use pb_value::below::find;
-use pb_value::{Kind, Slots};
 use std::marker::Model;
 
 /// What was handed to the verifier, and what it found.
@@ -28,7 +28,7 @@ impl Model for Checked {
     ghost use Rattle.pb_verify.specs.Judges.{IsChecked};
     ghost use Rattle.pb_verify.specs.declared.checked.Accepted.{Accepted};
     ghost use Rattle.pb_value.specs.contracts.value.Value as value;
-    ghost use Rattle.pb_value.specs.contracts.kind.Kind as kind;
+    ghost use Rattle.pb_kind.specs.contracts.kind.Kind as kind;
     ghost use Rattle.pb_syntax.specs.contracts.expr.Expr as expr;
     ghost use Rattle.pb_play.specs.contracts.play.Step as step;
     ghost use Rattle.std.specs.Coded.{codes};

@@ -25,11 +25,11 @@ use crate::scenes::{gathering_tasks, scenes_of};
 use pb_book::Book;
 use pb_expr::Unfit;
 use pb_inventory::Inventory;
+use pb_kind::Slots;
 use pb_play::Play;
 use pb_rules::{Broken, Rule, first_broken, reads_others};
 use pb_sig::Registry;
 use pb_tables::{HostFault, Outcome, outcome_of};
-use pb_value::Slots;
 use pb_walks::{books_read_alone, handlers_are_named};
 use std::alloc::{AllocError, Global};
 
@@ -159,8 +159,8 @@ fn judge_ways(
     let gathering = gathering_tasks(alloc, registry, plays)?;
     let scenes = scenes_of(alloc, inventory, plays, gathering.as_slice())?;
     let names = names_of(alloc, inventory, plays)?;
-    let is_shared = reads_others(alloc, plays)?;
-    let outcome = outcome_of(alloc, inventory, scenes.as_slice(), names, is_shared)?;
+    let are_others_read = reads_others(alloc, plays)?;
+    let outcome = outcome_of(alloc, inventory, scenes.as_slice(), names, are_others_read)?;
     told(outcome)
 }
 

@@ -8,7 +8,7 @@ use Rattle.pb_language.specs.Judgement.{has_case, has_going, register_writes, ta
 use Rattle.pb_language.specs.Narrow.{results_of}
 use Rattle.pb_language.specs.Setting.{Setting, loop_kind, start_scope}
 use Rattle.pb_language.specs.Task.{Task}
-use Rattle.pb_value.specs.KindView.{kind_view}
+use Rattle.pb_kind.specs.KindView.{kind_view}
 use Rattle.pb_transfer.specs.Written.{sets_view}
 use Rattle.pb_judgement.specs.Ends.{case_kind}
 use Rattle.pb_visit.specs.Visits.{going_kind, failing_kind, registered, writes_view}

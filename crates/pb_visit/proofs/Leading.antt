@@ -8,7 +8,7 @@ use Rattle.pb_language.specs.Setting.{Setting}
 use Rattle.pb_language.specs.Task.{Task}
 use Rattle.pb_language.specs.Walk.{failing_from, going_from}
 use Rattle.pb_lattice.specs.Environments.{is_dead}
-use Rattle.pb_value.specs.KindView.{kind_view}
+use Rattle.pb_kind.specs.KindView.{kind_view}
 use Rattle.pb_outlook.specs.Standing.{known_of}
 use Rattle.pb_transfer.specs.Written.{AreSame, sets_view, where_led}
 use Rattle.pb_transfer.proofs.Same.{led_sets, same_through}

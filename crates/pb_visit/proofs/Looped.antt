@@ -9,8 +9,8 @@ use Rattle.pb_language.specs.Kinds.{kind_of}
 use Rattle.pb_language.specs.Plays.{expanded_option}
 use Rattle.pb_language.specs.Scope.{Scope}
 use Rattle.pb_language.specs.Setting.{Setting, loop_kind, start_scope}
-use Rattle.pb_value.specs.KindView.{kind_view}
-use Rattle.pb_value.specs.declared.kind.Kind.{Kind}
+use Rattle.pb_kind.specs.KindView.{kind_view}
+use Rattle.pb_kind.specs.declared.kind.Kind.{Kind}
 use Rattle.pb_syntax.specs.ExprView.{expr_view}
 use Rattle.pb_syntax.specs.declared.expr.Expr.{Expr}
 use Rattle.pb_vars.specs.InScope.{in_scope}

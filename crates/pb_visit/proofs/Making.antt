@@ -10,7 +10,7 @@ use Rattle.pb_language.specs.Task.{Task}
 use Rattle.pb_language.specs.Wells.{WellExit, WellSets, WellViews}
 use Rattle.pb_language.proofs.After.{well_failing, well_going, well_task_kind, well_task_sets}
 use Rattle.pb_lattice.specs.Environments.{is_dead}
-use Rattle.pb_value.specs.KindView.{kind_view}
+use Rattle.pb_kind.specs.KindView.{kind_view}
 use Rattle.pb_outlook.specs.Standing.{known_of}
 use Rattle.pb_transfer.specs.Written.{sets_view}
 use Rattle.pb_visit.specs.Made.{IsFailing, IsGoing}

@@ -13,7 +13,7 @@ use Rattle.pb_language.specs.Rules.{any_too_long}
 use Rattle.pb_language.specs.Scope.{Scope}
 use Rattle.pb_language.specs.Task.{Action, Task, call_of}
 use Rattle.pb_language.specs.TaskForm.{module_at}
-use Rattle.pb_value.specs.KindView.{kind_view}
+use Rattle.pb_kind.specs.KindView.{kind_view}
 use Rattle.pb_syntax.specs.ExprView.{expr_view}
 use Rattle.pb_sig.specs.ModuleView.{known_view}
 use Rattle.pb_task.specs.Tasks.{Resolves, task_view, work_view}

@@ -8,7 +8,7 @@ use Rattle.pb_language.specs.Setting.{Setting}
 use Rattle.pb_language.specs.Task.{Task}
 use Rattle.pb_language.specs.Wells.{WellSets}
 use Rattle.pb_transfer.specs.Written.{sets_view}
-use Rattle.pb_value.specs.KindView.{kind_view}
+use Rattle.pb_kind.specs.KindView.{kind_view}
 use Rattle.pb_visit.specs.declared.transfer.Made.{Made}
 
 -- its result and its sets, of well formed kinds

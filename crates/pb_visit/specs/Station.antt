@@ -10,7 +10,7 @@ use Rattle.pb_language.specs.Plays.{Surroundings, task_with}
 use Rattle.pb_language.specs.Rules.{any_too_long}
 use Rattle.pb_language.specs.Scope.{Scope}
 use Rattle.pb_language.specs.Task.{Action, Task, call_of}
-use Rattle.pb_value.specs.KindView.{kind_view}
+use Rattle.pb_kind.specs.KindView.{kind_view}
 use Rattle.pb_sig.specs.ModuleView.{known_view}
 use Rattle.pb_task.specs.Tasks.{task_view}
 use Rattle.pb_task.specs.declared.task.Work.{Work}

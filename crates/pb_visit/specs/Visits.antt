@@ -10,7 +10,7 @@ use Rattle.pb_language.specs.Judgement.{has_case, has_going, register_writes}
 use Rattle.pb_language.specs.Setting.{Setting, item_scope}
 use Rattle.pb_language.specs.Task.{Task}
 use Rattle.pb_lattice.specs.Environments.{Stands, exit_of, is_dead}
-use Rattle.pb_value.specs.KindView.{kind_view}
+use Rattle.pb_kind.specs.KindView.{kind_view}
 use Rattle.pb_vars.specs.InScope.{in_scope}
 use Rattle.pb_expr.specs.Before.{Before}
 use Rattle.pb_expr.specs.FitView.{fault_view}

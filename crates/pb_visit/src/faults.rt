@@ -8,7 +8,7 @@ ghost use Rattle.pb_language.specs.Setting.{action_scope, give_scope, item_scope
 ghost use Rattle.pb_language.specs.Setting.{start_scope, until_scope};
 ghost use Rattle.pb_language.specs.Fit.{unknown_handler};
 ghost use Rattle.pb_language.specs.Words.{action_fault, asks, conditions_fault, first};
-ghost use Rattle.pb_value.specs.Words.{kind_view};
+ghost use Rattle.pb_kind.specs.Words.{kind_view};
 ghost use Rattle.pb_syntax.specs.Words.{exprs_view};
 ghost use Rattle.pb_vars.specs.Words.{in_scope};
 ghost use Rattle.pb_expr.specs.Words.{fault_view};
@@ -20,9 +20,9 @@ use crate::footing::{action_found, keyword_found};
 use crate::started::{fault_of_loop, kind_of_loop, looped, started};
 use crate::visit::Visit;
 use pb_expr::Unfit;
+use pb_kind::Kind;
 use pb_outlook::Outlook;
 use pb_syntax::Expr;
-use pb_value::Kind;
 use std::alloc::{AllocError, Global};
 
 /// The first fault of a task there: of its loop, its conditions, what it does, `changed_when`,

@@ -8,7 +8,7 @@ ghost use Rattle.pb_language.specs.Narrow.{narrow_each};
 ghost use Rattle.pb_language.specs.Plays.{action_of, append_expressions, expanded_list};
 ghost use Rattle.pb_language.specs.Words.{action_fault, conditions_fault, kind_of, parts_set};
 ghost use Rattle.pb_lattice.specs.Words.{exit_of};
-ghost use Rattle.pb_value.specs.Words.{kind_view};
+ghost use Rattle.pb_kind.specs.Words.{kind_view};
 ghost use Rattle.pb_syntax.specs.Words.{expr_view, exprs_view};
 ghost use Rattle.pb_task.specs.Words.{Resolves, work_view};
 ghost use Rattle.pb_template.specs.Words.{entries_view};
@@ -20,10 +20,10 @@ ghost use Rattle.pb_visit.specs.Footing.{before_on, end_on, footing, item_on, lo
 use pb_expr::{Inferred, Known, Taught, Unfit};
 use pb_fit::{Held, Set, action_unfit, conditions_after, keyword_unfit, loop_of, sets_of};
 use pb_flow::Around;
+use pb_kind::Kind;
 use pb_outlook::{Ground, Outlook, Standing, item_of, own_result};
 use pb_syntax::Expr;
 use pb_task::Task;
-use pb_value::Kind;
 use std::alloc::{AllocError, Global};
 
 // The kind of a loop over that, and its fault.

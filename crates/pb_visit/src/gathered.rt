@@ -3,17 +3,17 @@ ghost use Rattle.std.specs.Prelude.{[], ◌&&◌, ◌∷◌, ◌≡◌, IfOk, On
 ghost use Rattle.pb_semantics.specs.Words.{recs};
 ghost use Rattle.pb_language.specs.Cases.{after_prefix, fact_prefix, facts_set, gathered, no_sets};
 ghost use Rattle.pb_language.specs.Cases.{sets, stripped_slots};
-ghost use Rattle.pb_value.specs.Words.{is_always, kind_view, slots_view, spot_view};
+ghost use Rattle.pb_kind.specs.Words.{is_always, kind_view, slots_view, spot_view};
 ghost use Rattle.pb_sig.specs.Words.{known_view};
 ghost use Rattle.pb_transfer.specs.Words.{sets_view};
 ghost use Rattle.pb_visit.specs.Gathered.{module_sets, put_named, work_sets};
 
+use pb_kind::below::find;
+use pb_kind::kind::put_slot;
+use pb_kind::{Kind, Slot, Slots};
 use pb_sig::{Known, Module};
 use pb_task::Work;
 use pb_transfer::Set;
-use pb_value::below::find;
-use pb_value::kind::put_slot;
-use pb_value::{Kind, Slot, Slots};
 use std::alloc::{AllocError, Global};
 use std::sync::Arc;
 

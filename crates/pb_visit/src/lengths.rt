@@ -2,14 +2,14 @@
 ghost use Rattle.std.specs.Prelude.{◌≡◌, IfOk};
 ghost use Rattle.pb_language.specs.Cases.{length_bound};
 ghost use Rattle.pb_language.specs.Judgement.{loop_length};
-ghost use Rattle.pb_value.specs.Words.{kind_view};
+ghost use Rattle.pb_kind.specs.Words.{kind_view};
 ghost use Rattle.pb_visit.specs.Station.{IsStation};
 ghost use Rattle.pb_visit.specs.Visits.{IsReached, env_of, task_there};
 
 use crate::started::looped;
 use crate::visit::Visit;
+use pb_kind::Kind;
 use pb_outlook::Outlook;
-use pb_value::Kind;
 use std::alloc::{AllocError, Global};
 
 /// How many items the task is done for there at most: one where it has no loop.

@@ -3,7 +3,7 @@ ghost use Rattle.std.specs.Prelude.{◌≡◌, IfOk, option_map};
 ghost use Rattle.pb_language.specs.Judgement.{loop_fault};
 ghost use Rattle.pb_language.specs.Setting.{action_scope, item_scope, loop_kind, start_scope};
 ghost use Rattle.pb_language.specs.Words.{conditions_fault};
-ghost use Rattle.pb_value.specs.Words.{kind_view};
+ghost use Rattle.pb_kind.specs.Words.{kind_view};
 ghost use Rattle.pb_expr.specs.Words.{fault_view, scope_view};
 ghost use Rattle.pb_visit.specs.Station.{IsStation};
 ghost use Rattle.pb_visit.specs.Visits.{IsReached, env_of, item_before, loop_found, task_there};
@@ -13,8 +13,8 @@ use crate::footing::{item_conditions, loop_found};
 use crate::visit::Visit;
 use pb_expr::{Inferred, Unfit};
 use pb_fit::Held;
+use pb_kind::Kind;
 use pb_outlook::Outlook;
-use pb_value::Kind;
 use std::alloc::{AllocError, Global};
 
 // The kind of the task's loop and its fault, where there is one.

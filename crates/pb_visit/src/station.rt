@@ -15,7 +15,7 @@ ghost use Rattle.pb_visit.specs.Station.{IsStation, station_task};
 use crate::gathered::facts_of;
 use pb_flow::Around;
 use pb_judgement::laws::reads_as_it_does;
-use pb_judgement::{Ends, Manner, Own, ends_of, own_of};
+use pb_judgement::{Ends, Manner, Own, Worked};
 use pb_task::Task;
 use pb_template::Entry;
 use pb_transfer::Set;
@@ -44,7 +44,7 @@ pub struct Station<'p> {
 }
 
 impl<'p> Station<'p> {
-    /// The task at that place of a play with those `vars`.
+    /// The task at that place of a play with those `vars`, and what is worked out by then.
     ///
     /// # Errors
     ///
@@ -55,10 +55,11 @@ impl<'p> Station<'p> {
         around: &Arc<Around<'p>>,
         place: u32,
         play_vars: &'p [Entry],
-    ) -> Result<Station<'p>, AllocError>
-        ensures station { IfOk result (λ s. IsStation s) }
-        ensures task { IfOk result (λ s. (ms : Registry) → Resolves ms task.entry.now.work
-            → station_task s ≡ task_at (around_view ms (entries_view play_vars.entry.now)
+        worked: Worked<'p>,
+    ) -> Result<(Station<'p>, Worked<'p>), AllocError>
+        ensures station { IfOk result (λ r. IsStation r.0) }
+        ensures task { IfOk result (λ r. (ms : Registry) → Resolves ms task.entry.now.work
+            → station_task r.0 ≡ task_at (around_view ms (entries_view play_vars.entry.now)
             around.now.value) place (task_view task.entry.now)) }
     {
         let vars = scope_at(alloc, task, around, play_vars)?;
@@ -67,16 +68,18 @@ impl<'p> Station<'p> {
         }
         reads_as_it_does();
         let manner = manner_of(task, around);
-        Ok(Station {
+        let (results, worked) = worked.results_of(alloc, &task.work, manner)?;
+        let station = Station {
             task,
             around: around.clone()?,
             place,
             vars,
             is_certain: is_certain(task, manner),
-            ends: ends_of(alloc, &task.work, manner)?,
-            own: own_of(alloc, &task.work, manner)?,
+            ends: results.ends,
+            own: results.own,
             facts: facts_of(alloc, &task.work, gathers_surely(task, manner))?,
-        })
+        };
+        Ok((station, worked))
     }
 }
 

@@ -4,7 +4,7 @@ ghost use Rattle.pb_semantics.specs.Well.{Well};
 ghost use Rattle.pb_language.specs.Cases.{with_register};
 ghost use Rattle.pb_language.specs.Walk.{failing_from, going_from};
 ghost use Rattle.pb_lattice.specs.Words.{IsKept, Stands, exit_of, is_dead};
-ghost use Rattle.pb_value.specs.Words.{kind_view};
+ghost use Rattle.pb_kind.specs.Words.{kind_view};
 ghost use Rattle.pb_flow.specs.Words.{along_way};
 ghost use Rattle.pb_outlook.specs.Words.{known_of};
 ghost use Rattle.pb_transfer.specs.Words.{AreSame, where_led};
@@ -17,10 +17,10 @@ use crate::station::Station;
 use crate::visit::Visit;
 use crate::writes::{failing_kind, going_kind, sets_there};
 use pb_flow::Way;
+use pb_kind::Kind;
 use pb_lattice::{Environment, Environments};
 use pb_outlook::Outlook;
 use pb_transfer::{Set, with_register, with_sets};
-use pb_value::Kind;
 use std::alloc::{AllocError, Global};
 
 /// What is known of the host's variables after the task, in that way; nothing where no way leads

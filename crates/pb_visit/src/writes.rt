@@ -5,7 +5,7 @@ ghost use Rattle.pb_language.specs.Expansion.{parts_expanded, trees};
 ghost use Rattle.pb_language.specs.Judgement.{task_sets, task_writes};
 ghost use Rattle.pb_language.specs.Setting.{action_scope, loop_kind, start_scope};
 ghost use Rattle.pb_language.specs.Words.{parts_set};
-ghost use Rattle.pb_value.specs.Words.{kind_view};
+ghost use Rattle.pb_kind.specs.Words.{kind_view};
 ghost use Rattle.pb_template.specs.Words.{entries_view};
 ghost use Rattle.pb_vars.specs.Words.{in_scope};
 ghost use Rattle.pb_fit.specs.Words.{sets_view as found_view};
@@ -20,10 +20,11 @@ use crate::station::Station;
 use crate::visit::Visit;
 use pb_fit::Set as Found;
 use pb_judgement::looped as looped_kind;
+use pb_judgement::worked::copy_of;
+use pb_kind::Kind;
 use pb_outlook::Outlook;
 use pb_task::Work;
 use pb_transfer::Set;
-use pb_value::Kind;
 use std::alloc::{AllocError, Global};
 
 /// All that a task writes.
@@ -96,15 +97,6 @@ pub(crate) fn failing_kind(
     };
     match &station.ends.failing {
         Some(_) => Ok(Some(looped_kind(alloc, &station.ends.all, list)?)),
-        None => Ok(None),
-    }
-}
-
-fn copy_of(kind: &Option<Kind>) -> Result<Option<Kind>, AllocError>
-    ensures { IfOk result (λ o. option_map kind_view o ≡ option_map kind_view kind.now) }
-{
-    match kind {
-        Some(kind) => Ok(Some(kind.clone()?)),
         None => Ok(None),
     }
 }

@@ -14,6 +14,7 @@ ghost use Rattle.pb_way.specs.Routes.{ArePaths, ArePathsOf, Gathers, IsDone};
 
 use pb_flow::laws::{edges_are_those_of_the_row, edges_carry_what_the_row_does};
 use pb_flow::{Graph, Node, Visited, Way};
+use pb_judgement::Worked;
 use pb_lattice::FlowGraph;
 use pb_play::Play;
 use pb_task::Task;
@@ -32,7 +33,7 @@ pub struct Route<'p> {
 
 impl<'p> Model for Route<'p> {
     ghost use Rattle.pb_way.specs.Routes.{ArePaths, Paths};
-    ghost use Rattle.pb_value.specs.contracts.kind.Kind as kind;
+    ghost use Rattle.pb_kind.specs.contracts.kind.Kind as kind;
     ghost use Rattle.pb_value.specs.contracts.value.Value as value;
     ghost use Rattle.pb_syntax.specs.contracts.expr.Expr as expr;
     ghost use Rattle.std.specs.Coded.{codes};
@@ -129,29 +130,33 @@ fn stations_of<'p>(
         ≡ map (node_task ms (entries_view play.now.vars.items)) nodes.now) }
 {
     let mut stations = Vec::with_capacity(alloc, nodes.len())?;
+    let mut worked = Worked::nothing(alloc);
     for node in nodes {
-        stations.push(station_of(alloc, play, node, gathering)?)?;
+        let (station, further) = station_of(alloc, play, node, gathering, worked)?;
+        worked = further;
+        stations.push(station)?;
     }
     Ok(stations)
 }
 
-// The task of the node, where it stands.
+// The task of the node, where it stands, and what is worked out by then.
 fn station_of<'p>(
     alloc: Global,
     play: &'p Play,
     node: &Node<'p>,
     gathering: Option<&'p Task>,
-) -> Result<Station<'p>, AllocError>
-    ensures station { IfOk result (λ s. IsStation s) }
-    ensures task { IfOk result (λ s. (ms : Registry)
+    worked: Worked<'p>,
+) -> Result<(Station<'p>, Worked<'p>), AllocError>
+    ensures station { IfOk result (λ r. IsStation r.0) }
+    ensures task { IfOk result (λ r. (ms : Registry)
         → IsVisitedSound ms play.now.gathering node.now.visited
         → Gathers ms play.now.gathering (option_map (λ t. t.now) gathering.entry)
-        → station_task s ≡ node_task ms (entries_view play.now.vars.items) node.now) }
+        → station_task r.0 ≡ node_task ms (entries_view play.now.vars.items) node.now) }
 {
     let Some(task) = task_of(&node.visited, gathering) else {
         return Err(AllocError);
     };
-    Station::of(alloc, task, &node.around, node.place, &play.vars)
+    Station::of(alloc, task, &node.around, node.place, &play.vars, worked)
 }
 
 // The task that is done there: where facts are gathered the one that is given for it.

@@ -1,6 +1,6 @@
 use Rattle.std.proofs.Common.{◌≡◌, IfOk, sym, ap, subst, ◌∙◌}
 use Rattle.pb_language.specs.Scope.{both_slots}
-use Rattle.pb_value.specs.KindView.{slots_view}
+use Rattle.pb_kind.specs.KindView.{slots_view}
 use Rattle.pb_expr.proofs.Seen.{both-none, found-view, slots_in}
 use Rattle.pb_expr.proofs.both.both_at.Goals as goal
 

@@ -1,7 +1,7 @@
 use Rattle.std.proofs.Common.{◌≡◌, List, [], sym, ap, ◌∙◌}
-use Rattle.pb_value.specs.KindView.{slots_view}
-use Rattle.pb_value.proofs.GrowLemmas.{ascend_slots}
-use Rattle.pb_value.proofs.KindLemmas.{SlotEntry}
+use Rattle.pb_kind.specs.KindView.{slots_view}
+use Rattle.pb_kind.proofs.GrowLemmas.{ascend_slots}
+use Rattle.pb_kind.proofs.KindLemmas.{SlotEntry}
 use Rattle.pb_expr.proofs.BothTaught.{met_onto, met-both}
 use Rattle.pb_expr.proofs.both.both_slots.Goals as goal
 

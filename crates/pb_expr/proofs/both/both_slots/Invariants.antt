@@ -1,6 +1,6 @@
 use Rattle.std.proofs.Common.{◌≡◌}
 use Rattle.pb_semantics.specs.Kind.{no_slots}
-use Rattle.pb_value.specs.KindView.{slots_view}
+use Rattle.pb_kind.specs.KindView.{slots_view}
 use Rattle.pb_expr.proofs.BothTaught.{met_onto}
 use Rattle.pb_expr.proofs.both.both_slots.Given as goal
 

@@ -2,7 +2,7 @@ use Rattle.std.proofs.Common.{Bool, List, â„•, cond, string_bytes, false, ap, â—
 use Rattle.std.proofs.lemmas.Result.{IfOk-weaker}
 use Rattle.pb_semantics.specs.Kind.{KindData}
 use Rattle.pb_language.specs.Scope.{Scope, has_view, host_spot, is_certain, put_view, spot_kind, view_of, with_slot}
-use Rattle.pb_value.specs.KindView.{is_always, kind_view}
+use Rattle.pb_kind.specs.KindView.{is_always, kind_view}
 use Rattle.pb_syntax.specs.ExprView.{names_of}
 use Rattle.pb_expr.specs.ChangeView.{change_view}
 use Rattle.pb_expr.specs.TaughtView.{scope_view, slot_given}

@@ -3,11 +3,11 @@ use Rattle.std.proofs.lemmas.Result.{IfOk-weaker}
 use Rattle.pb_semantics.specs.Join.{append_cases}
 use Rattle.pb_semantics.specs.Kind.{recs}
 use Rattle.pb_language.specs.Narrow.{can_have, cases_stepped, defined_at, with_step}
-use Rattle.pb_value.specs.KindView.{cases_view, kind_view, slots_view}
-use Rattle.pb_value.specs.declared.kind.Case.{Case}
-use Rattle.pb_value.specs.declared.kind.Kind.{Kind}
-use Rattle.pb_value.proofs.JoinLemmas.{append_none}
-use Rattle.pb_value.proofs.Views.{kind_view-Rec}
+use Rattle.pb_kind.specs.KindView.{cases_view, kind_view, slots_view}
+use Rattle.pb_kind.specs.declared.kind.Case.{Case}
+use Rattle.pb_kind.specs.declared.kind.Kind.{Kind}
+use Rattle.pb_kind.proofs.JoinLemmas.{append_none}
+use Rattle.pb_kind.proofs.Views.{kind_view-Rec}
 use Rattle.pb_syntax.specs.ExprView.{names_of}
 use Rattle.pb_expr.proofs.NewCases.{stepped-turn, stepped-out, stepped-record}
 use Rattle.pb_expr.proofs.defined.+defined_at.Goals as goal

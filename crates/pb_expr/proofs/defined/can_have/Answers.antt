@@ -1,7 +1,7 @@
 use Rattle.std.proofs.Common.{◌∷◌, ◌+◌, drop, sym, ap, ◌∙◌}
 use Rattle.std.proofs.lemmas.List.{drop_all}
 use Rattle.pb_language.specs.Narrow.{can_have}
-use Rattle.pb_value.specs.KindView.{kind_view}
+use Rattle.pb_kind.specs.KindView.{kind_view}
 use Rattle.pb_syntax.specs.ExprView.{names_of}
 use Rattle.pb_syntax.proofs.Left.{drop-at}
 use Rattle.pb_expr.proofs.defined.can_have.Goals as goal

@@ -1,6 +1,6 @@
 use Rattle.std.proofs.Common.{◌≡◌, drop}
 use Rattle.pb_language.specs.Narrow.{can_have}
-use Rattle.pb_value.specs.KindView.{kind_view}
+use Rattle.pb_kind.specs.KindView.{kind_view}
 use Rattle.pb_syntax.specs.ExprView.{names_of}
 use Rattle.pb_expr.proofs.defined.can_have.Given as goal
 

@@ -1,6 +1,6 @@
 use Rattle.pb_language.specs.Narrow.{can_have}
-use Rattle.pb_value.proofs.KindLemmas.{kind_view-Any}
-use Rattle.pb_value.proofs.Views.{kind_view-Rec}
+use Rattle.pb_kind.proofs.KindLemmas.{kind_view-Any}
+use Rattle.pb_kind.proofs.Views.{kind_view-Rec}
 use Rattle.pb_expr.proofs.NewCases.{any-below}
 use Rattle.pb_expr.proofs.defined.kind_below.Goals as goal
 

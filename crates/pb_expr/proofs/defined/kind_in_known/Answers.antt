@@ -1,5 +1,5 @@
 use Rattle.pb_language.specs.Narrow.{can_have}
-use Rattle.pb_value.proofs.Views.{kind_view-Rec}
+use Rattle.pb_kind.proofs.Views.{kind_view-Rec}
 use Rattle.pb_expr.proofs.defined.kind_in_known.Goals as goal
 
 pub returns-in-Rec : goal.returns-in-Rec

@@ -1,7 +1,7 @@
 use Rattle.std.proofs.Common.{◌≡◌, ◌+◌, ◌∷◌, drop, option_map, sym, ap, ◌∙◌}
 use Rattle.pb_semantics.specs.Join.{join}
 use Rattle.pb_language.specs.Fit.{first}
-use Rattle.pb_value.specs.Growing.{joined_onto}
+use Rattle.pb_kind.specs.Growing.{joined_onto}
 use Rattle.pb_expr.specs.FitView.{fault_view}
 use Rattle.pb_expr.specs.Found.{joined_in, part_fault, part_faults_in}
 use Rattle.pb_expr.proofs.Findings.{fault-turn, onto-last}

@@ -7,7 +7,7 @@ use Rattle.pb_language.specs.Expansion.{all_expanded, expanded, expanded_root, p
 use Rattle.pb_language.specs.Kinds.{items_kind, kind_of}
 use Rattle.pb_language.specs.Fit.{asks, first, fault, is_any, wrong_kind, chain_fault, are_booleans, fields_fault, parts_fault}
 use Rattle.pb_language.specs.Narrow.{narrow, narrow_each, narrow_some, where_taught, any_teaches}
-use Rattle.pb_value.specs.KindView.{kind_view, slots_view}
+use Rattle.pb_kind.specs.KindView.{kind_view, slots_view}
 use Rattle.pb_syntax.specs.ExprView.{expr_view, exprs_view, parts_view, names_of, root_view, status_view}
 use Rattle.pb_syntax.specs.declared.expr.Expr.{Expr}
 use Rattle.pb_expr.specs.FitView.{fault_view}

@@ -3,7 +3,7 @@ use Rattle.pb_language.specs.Expansion.{all_expanded, expanded, parts_expanded}
 use Rattle.pb_language.specs.Kinds.{kind_of}
 use Rattle.pb_language.specs.Fit.{first, chain_fault, are_booleans, fields_fault}
 use Rattle.pb_language.specs.Narrow.{narrow_each}
-use Rattle.pb_value.specs.KindView.{slots_view}
+use Rattle.pb_kind.specs.KindView.{slots_view}
 use Rattle.pb_syntax.specs.ExprView.{expr_view, exprs_view, parts_view}
 use Rattle.pb_syntax.specs.declared.expr.Expr.{Expr, size-Expr}
 use Rattle.pb_expr.specs.FitView.{fault_view}

@@ -1,5 +1,5 @@
 use Rattle.std.proofs.Common.{refl, ◌∙◌}
-use Rattle.pb_value.proofs.Views.{kind_view-Rec, kind_view-Result}
+use Rattle.pb_kind.proofs.Views.{kind_view-Rec, kind_view-Result}
 use Rattle.pb_expr.proofs.kinds.+holds_any.Goals as goal
 
 pub holds_any-returns-in-Rec : goal.holds_any-returns-in-Rec

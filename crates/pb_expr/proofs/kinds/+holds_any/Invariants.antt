@@ -1,6 +1,6 @@
 use Rattle.std.proofs.Common.{◌≡◌, drop}
 use Rattle.pb_semantics.specs.Fit.{any_slot_holds, any_case_holds}
-use Rattle.pb_value.specs.KindView.{slots_view, cases_view}
+use Rattle.pb_kind.specs.KindView.{slots_view, cases_view}
 use Rattle.pb_expr.proofs.kinds.+holds_any.Given as goal
 
 abbrev pub invariant-slots_hold_any-loop-slot : goal.invariant-slots_hold_any-loop-slot

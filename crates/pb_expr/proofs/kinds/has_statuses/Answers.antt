@@ -1,5 +1,5 @@
 use Rattle.std.proofs.Common.{refl, ◌∙◌}
-use Rattle.pb_value.proofs.Views.{kind_view-Rec}
+use Rattle.pb_kind.proofs.Views.{kind_view-Rec}
 use Rattle.pb_expr.proofs.kinds.has_statuses.Goals as goal
 
 pub returns-in-Rec : goal.returns-in-Rec

@@ -3,7 +3,7 @@ use Rattle.pb_language.specs.Kinds.{path_spot}
 use Rattle.pb_language.specs.Scope.{spot_kind}
 use Rattle.pb_syntax.specs.ExprView.{names_of}
 use Rattle.pb_expr.specs.TaughtView.{slot_given}
-use Rattle.pb_value.proofs.KindLemmas.{kind_view-Never}
+use Rattle.pb_kind.proofs.KindLemmas.{kind_view-Never}
 use Rattle.pb_expr.proofs.Findings.{nowhere-below}
 use Rattle.pb_expr.proofs.kinds.kind_at_end.Goals as goal
 

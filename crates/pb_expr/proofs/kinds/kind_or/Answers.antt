@@ -1,6 +1,6 @@
 use Rattle.std.proofs.Common.{sym, ap, ◌∙◌}
 use Rattle.pb_language.specs.Kinds.{default_kind, path_spot, shown_spot}
-use Rattle.pb_value.specs.KindView.{kind_view}
+use Rattle.pb_kind.specs.KindView.{kind_view}
 use Rattle.pb_syntax.specs.ExprView.{names_of}
 use Rattle.pb_expr.specs.TaughtView.{slot_given}
 use Rattle.pb_expr.proofs.Findings.{nowhere-below}

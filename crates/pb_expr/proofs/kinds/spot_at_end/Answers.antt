@@ -1,6 +1,6 @@
 use Rattle.std.proofs.Common.{sym, ap, ◌∙◌}
 use Rattle.pb_language.specs.Kinds.{step_spot}
-use Rattle.pb_value.specs.KindView.{kind_view}
+use Rattle.pb_kind.specs.KindView.{kind_view}
 use Rattle.pb_expr.specs.SpotFound.{spot_found}
 use Rattle.pb_expr.proofs.Findings.{lost-below}
 use Rattle.pb_expr.proofs.kinds.spot_at_end.Goals as goal

@@ -9,8 +9,8 @@ use Rattle.pb_value.specs.declared.value.Value.{Value}
 use Rattle.pb_value.proofs.Fields.{count_of-items_view}
 use Rattle.pb_value.proofs.Views.{view-List, view-Rec}
 use Rattle.pb_semantics.specs.Join.{join}
-use Rattle.pb_value.specs.Growing.{joined_onto}
-use Rattle.pb_value.specs.KindView.{kind_view}
+use Rattle.pb_kind.specs.Growing.{joined_onto}
+use Rattle.pb_kind.specs.KindView.{kind_view}
 use Rattle.pb_syntax.proofs.Ascending.{Ascending}
 use Rattle.pb_expr.proofs.Findings.{onto-last}
 use Rattle.pb_syntax.proofs.Left.{drop-at}

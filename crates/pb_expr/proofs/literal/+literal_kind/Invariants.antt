@@ -1,8 +1,8 @@
 use Rattle.std.proofs.Common.{◌≡◌, ◌++◌, List, drop, String, Global}
 use Rattle.pb_language.specs.Kinds.{known_kind, known_items}
 use Rattle.pb_value.specs.View.{view, items_view}
-use Rattle.pb_value.specs.KindView.{slots_view}
-use Rattle.pb_value.specs.Growing.{growing_view}
+use Rattle.pb_kind.specs.KindView.{slots_view}
+use Rattle.pb_kind.specs.Growing.{growing_view}
 use Rattle.pb_value.specs.declared.value.Value.{Value}
 use Rattle.pb_expr.proofs.Records.{slots_from}
 use Rattle.pb_expr.proofs.literal.+literal_kind.Given as goal

@@ -2,9 +2,9 @@ use Rattle.std.proofs.Common.{map, string_bytes, sym, ap, ◌∙◌}
 use Rattle.std.proofs.lemmas.Result.{IfOk-weaker}
 use Rattle.pb_semantics.specs.Kind.{hosts, spot}
 use Rattle.pb_language.specs.Scope.{each_spot, hosts_at, spot_among, unnamed}
-use Rattle.pb_value.specs.Found.{spot_view}
-use Rattle.pb_value.specs.KindView.{is_always, kind_view}
-use Rattle.pb_value.proofs.KindLemmas.{kind_view-Host}
+use Rattle.pb_kind.specs.Found.{spot_view}
+use Rattle.pb_kind.specs.KindView.{is_always, kind_view}
+use Rattle.pb_kind.proofs.KindLemmas.{kind_view-Host}
 use Rattle.pb_expr.specs.TaughtView.{scope_view}
 use Rattle.pb_expr.proofs.Untold.{each-untold}
 use Rattle.pb_expr.proofs.roots.slot_of_items.Goals as goal

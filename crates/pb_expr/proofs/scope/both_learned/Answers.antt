@@ -1,7 +1,7 @@
 use Rattle.std.proofs.Common.{◌≡◌, ◌+◌, ◌++◌, drop, [], Some, None, option_map, string_bytes, sym, ap, ◌∙◌, subst}
 use Rattle.std.proofs.lemmas.List.{drop_all}
 use Rattle.pb_language.specs.Scope.{both_learned}
-use Rattle.pb_value.specs.KindView.{kind_view}
+use Rattle.pb_kind.specs.KindView.{kind_view}
 use Rattle.pb_expr.specs.TaughtView.{learned_view}
 use Rattle.pb_expr.specs.declared.scope.Learned.{Learned}
 use Rattle.pb_expr.proofs.NamedRoots.{FindsTaught, append_learned, append-nothing, both-found, both-unfound}

@@ -1,6 +1,6 @@
 use Rattle.std.proofs.Common.{◌≡◌, Some, ◌+◌, drop, true, cond, bytes_eq, sym, ap, ◌∙◌}
 use Rattle.pb_language.specs.Scope.{learned_kind}
-use Rattle.pb_value.specs.KindView.{kind_view}
+use Rattle.pb_kind.specs.KindView.{kind_view}
 use Rattle.pb_expr.specs.TaughtView.{learned_view}
 use Rattle.pb_expr.proofs.NamedRoots.{learned-at}
 use Rattle.pb_syntax.proofs.Left.{drop-at}

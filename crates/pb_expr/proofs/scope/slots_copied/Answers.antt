@@ -1,9 +1,9 @@
 use Rattle.std.proofs.Common.{◌≡◌, List, [], sym, ap, ◌∙◌}
 use Rattle.pb_semantics.specs.Grown.{closed}
 use Rattle.pb_semantics.proofs.Ascents.{closed_same}
-use Rattle.pb_value.specs.KindView.{slots_view}
-use Rattle.pb_value.proofs.GrowLemmas.{ascend_slots}
-use Rattle.pb_value.proofs.KindLemmas.{SlotEntry}
+use Rattle.pb_kind.specs.KindView.{slots_view}
+use Rattle.pb_kind.proofs.GrowLemmas.{ascend_slots}
+use Rattle.pb_kind.proofs.KindLemmas.{SlotEntry}
 use Rattle.pb_expr.proofs.scope.slots_copied.Goals as goal
 
 pub returns-clause-copied : goal.returns-clause-copied

@@ -1,7 +1,7 @@
 use Rattle.std.proofs.Common.{◌≡◌}
 use Rattle.pb_semantics.specs.Grown.{closed}
 use Rattle.pb_semantics.specs.Kind.{no_slots}
-use Rattle.pb_value.specs.KindView.{slots_view}
+use Rattle.pb_kind.specs.KindView.{slots_view}
 use Rattle.pb_expr.proofs.scope.slots_copied.Given as goal
 
 abbrev pub invariant-loop-name : goal.invariant-loop-name

@@ -1,6 +1,6 @@
 use Rattle.std.proofs.Common.{sym, ap, ◌∙◌}
 use Rattle.pb_semantics.specs.Kind.{spot}
-use Rattle.pb_value.specs.KindView.{kind_view}
+use Rattle.pb_kind.specs.KindView.{kind_view}
 use Rattle.pb_expr.specs.FitView.{certain}
 use Rattle.pb_expr.proofs.steps.certain_kind.Goals as goal
 

@@ -3,9 +3,9 @@ use Rattle.std.proofs.lemmas.Result.{IfOk-weaker}
 use Rattle.pb_semantics.specs.Join.{append_cases}
 use Rattle.pb_semantics.specs.Kind.{recs}
 use Rattle.pb_language.specs.Narrow.{answers, cases_changed, cases_with, changed_at, on_results, with_change}
-use Rattle.pb_value.specs.KindView.{cases_view, is_always, kind_view, slots_view}
-use Rattle.pb_value.proofs.JoinLemmas.{append_none}
-use Rattle.pb_value.proofs.Views.{kind_view-Rec}
+use Rattle.pb_kind.specs.KindView.{cases_view, is_always, kind_view, slots_view}
+use Rattle.pb_kind.proofs.JoinLemmas.{append_none}
+use Rattle.pb_kind.proofs.Views.{kind_view-Rec}
 use Rattle.pb_syntax.specs.ExprView.{names_of, status_view}
 use Rattle.pb_expr.proofs.NewCases.{changed-turn, changed-record, same-record}
 use Rattle.pb_expr.proofs.teach.+answered_at.Goals as goal

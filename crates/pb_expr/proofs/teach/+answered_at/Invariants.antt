@@ -1,7 +1,7 @@
 use Rattle.std.proofs.Common.{◌≡◌, ◌+◌, ◌*◌, drop, length, string_bytes}
 use Rattle.pb_semantics.specs.Join.{append_cases}
 use Rattle.pb_language.specs.Narrow.{answers, cases_changed, cases_with, changed_at, on_results, with_change}
-use Rattle.pb_value.specs.KindView.{cases_view}
+use Rattle.pb_kind.specs.KindView.{cases_view}
 use Rattle.pb_syntax.specs.ExprView.{names_of, status_view}
 use Rattle.pb_expr.proofs.teach.+answered_at.Given as goal
 

@@ -1,10 +1,10 @@
 use Rattle.std.proofs.Common.{◌≡◌, ◌+◌, [], drop, drop_of_length-le, Vec, Global, sym, ap, ◌∙◌}
 use Rattle.pb_semantics.specs.Join.{append_cases}
 use Rattle.pb_language.specs.Narrow.{answers, cases_with}
-use Rattle.pb_value.specs.KindView.{cases_view}
-use Rattle.pb_value.specs.declared.kind.Case.{Case}
-use Rattle.pb_value.specs.declared.kind.Kind.{Kind}
-use Rattle.pb_value.proofs.JoinLemmas.{append_none}
+use Rattle.pb_kind.specs.KindView.{cases_view}
+use Rattle.pb_kind.specs.declared.kind.Case.{Case}
+use Rattle.pb_kind.specs.declared.kind.Kind.{Kind}
+use Rattle.pb_kind.proofs.JoinLemmas.{append_none}
 use Rattle.pb_syntax.specs.ExprView.{status_view}
 use Rattle.pb_expr.proofs.Answered.{kept-turn, left-turn}
 use Rattle.pb_expr.proofs.teach.cases_answered.Goals as goal

@@ -1,7 +1,7 @@
 use Rattle.std.proofs.Common.{◌≡◌, drop}
 use Rattle.pb_semantics.specs.Join.{append_cases}
 use Rattle.pb_language.specs.Narrow.{answers, cases_with}
-use Rattle.pb_value.specs.KindView.{cases_view}
+use Rattle.pb_kind.specs.KindView.{cases_view}
 use Rattle.pb_syntax.specs.ExprView.{status_view}
 use Rattle.pb_expr.proofs.teach.cases_answered.Given as goal
 

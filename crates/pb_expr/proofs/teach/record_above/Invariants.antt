@@ -1,7 +1,7 @@
 use Rattle.std.proofs.Common.{◌≡◌, drop}
 use Rattle.pb_language.specs.Narrow.{least_record}
-use Rattle.pb_value.specs.Growing.{joined_onto}
-use Rattle.pb_value.specs.KindView.{cases_view}
+use Rattle.pb_kind.specs.Growing.{joined_onto}
+use Rattle.pb_kind.specs.KindView.{cases_view}
 use Rattle.pb_expr.proofs.teach.record_above.Given as goal
 
 abbrev pub invariant-loop-case : goal.invariant-loop-case

@@ -1,8 +1,8 @@
 use Rattle.std.proofs.Common.{string_bytes, ap, ◌∙◌}
 use Rattle.std.proofs.lemmas.Result.{IfOk-weaker}
 use Rattle.pb_semantics.specs.Kind.{recs, put_slot}
-use Rattle.pb_value.specs.KindView.{is_always, kind_view, slots_view}
-use Rattle.pb_value.proofs.GrowLemmas.{ascend_slots}
+use Rattle.pb_kind.specs.KindView.{is_always, kind_view, slots_view}
+use Rattle.pb_kind.proofs.GrowLemmas.{ascend_slots}
 use Rattle.pb_expr.proofs.Placed.{put-placed}
 use Rattle.pb_expr.proofs.teach.record_with.Goals as goal
 

@@ -3,8 +3,8 @@ use Rattle.pb_semantics.specs.Join.{join_spot}
 use Rattle.pb_semantics.specs.Kind.{Spot}
 use Rattle.pb_language.specs.Scope.{each_spot, host_spot}
 use Rattle.pb_syntax.specs.ExprView.{names_of}
-use Rattle.pb_value.specs.declared.kind.Kind.{Kind}
-use Rattle.pb_value.specs.declared.kind.Slot.{Slot}
+use Rattle.pb_kind.specs.declared.kind.Kind.{Kind}
+use Rattle.pb_kind.specs.declared.kind.Slot.{Slot}
 use Rattle.pb_expr.specs.Joined.{spots_onto}
 use Rattle.pb_expr.specs.TaughtView.{scope_view, slot_given}
 use Rattle.pb_expr.proofs.views.each_slot.Goals as goal

@@ -1,8 +1,8 @@
 use Rattle.std.proofs.Common.{string_bytes, ap, ◌∙◌}
 use Rattle.pb_language.specs.Scope.{with_slot}
-use Rattle.pb_value.specs.KindView.{is_always, kind_view, slots_view}
-use Rattle.pb_value.proofs.GrowLemmas.{ascend_slots}
-use Rattle.pb_value.proofs.JoinLemmas.{slots_view-insert_entry}
+use Rattle.pb_kind.specs.KindView.{is_always, kind_view, slots_view}
+use Rattle.pb_kind.proofs.GrowLemmas.{ascend_slots}
+use Rattle.pb_kind.proofs.JoinLemmas.{slots_view-insert_entry}
 use Rattle.pb_expr.proofs.Placed.{put-placed}
 use Rattle.pb_expr.proofs.views.place_slot.Goals as goal
 

@@ -1,6 +1,6 @@
 use Rattle.std.proofs.Common.{string_bytes, sym, ap, ◌∙◌}
 use Rattle.pb_language.specs.Scope.{put_view}
-use Rattle.pb_value.specs.KindView.{slots_view}
+use Rattle.pb_kind.specs.KindView.{slots_view}
 use Rattle.pb_expr.specs.TaughtView.{views_view}
 use Rattle.pb_expr.proofs.Seen.{found-view, slots_in, views-insert}
 use Rattle.pb_expr.proofs.views.take_slots.Goals as goal

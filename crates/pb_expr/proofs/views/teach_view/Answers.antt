@@ -2,7 +2,7 @@ use Rattle.std.proofs.Common.{◌≡◌, string_bytes, ap, subst, ◌∙◌}
 use Rattle.std.specs.Result.{OnOk}
 use Rattle.pb_semantics.specs.Kind.{no_slots}
 use Rattle.pb_language.specs.Scope.{put_view, view_of, with_slot}
-use Rattle.pb_value.specs.KindView.{is_always, kind_view, slots_view}
+use Rattle.pb_kind.specs.KindView.{is_always, kind_view, slots_view}
 use Rattle.pb_expr.specs.TaughtView.{views_view}
 use Rattle.pb_expr.proofs.Seen.{put-twice}
 use Rattle.pb_expr.proofs.views.teach_view.Goals as goal

@@ -1,5 +1,5 @@
 use Rattle.pb_lattice.specs.Words.{exit_of}
-use Rattle.pb_value.specs.KindView.{slots_view}
+use Rattle.pb_kind.specs.KindView.{slots_view}
 use Rattle.pb_find.proofs.Entering.{agrees_with}
 use Rattle.pb_find.proofs.entry.entry_of.Goals as goal
 

@@ -2,7 +2,7 @@ use Rattle.std.proofs.Common.{◌≡◌, ◌+◌, ◌≤◌, [], ◌∷◌, List
 use Rattle.std.proofs.lemmas.List.{drop_all}
 use Rattle.pb_language.specs.Walk.{visits_at}
 use Rattle.pb_syntax.proofs.Left.{drop-at}
-use Rattle.pb_value.specs.KindView.{slots_view}
+use Rattle.pb_kind.specs.KindView.{slots_view}
 use Rattle.pb_visit.specs.Station.{station_task}
 use Rattle.pb_visit.specs.declared.station.Station.{Station}
 use Rattle.pb_way.specs.Visited.{nodes_visits}

@@ -2,7 +2,7 @@ use Rattle.std.proofs.Common.{drop, suc}
 use Rattle.pb_semantics.specs.Kind.{recs}
 use Rattle.pb_semantics.specs.Well.{Well}
 use Rattle.pb_language.specs.Expression.{Name}
-use Rattle.pb_value.specs.KindView.{slots_view}
+use Rattle.pb_kind.specs.KindView.{slots_view}
 use Rattle.pb_find.specs.Finds.{Finds}
 use Rattle.pb_find.specs.Ways.{visits_from, way_visits}
 use Rattle.pb_find.specs.declared.find.Find.{Find}

@@ -6,7 +6,7 @@ use Rattle.pb_language.specs.Wells.{WellSets}
 use Rattle.pb_language.proofs.After.{after_claim}
 use Rattle.pb_lattice.specs.Environments.{exit_of}
 use Rattle.pb_lattice.proofs.Exits.{stands_well}
-use Rattle.pb_value.specs.KindView.{slots_view}
+use Rattle.pb_kind.specs.KindView.{slots_view}
 use Rattle.pb_visit.specs.Visits.{env_of, task_there}
 use Rattle.pb_find.specs.Written.{Written}
 use Rattle.pb_find.specs.declared.find.Find.{Find}

@@ -1,9 +1,9 @@
 use Rattle.std.proofs.Common.{ap, ◌∙◌}
 use Rattle.pb_semantics.specs.Kind.{put_slot}
 use Rattle.pb_semantics.proofs.Ascents.{once_of}
-use Rattle.pb_value.specs.KindView.{is_always, kind_view, slots_view}
-use Rattle.pb_value.proofs.GrowLemmas.{ascend_slots}
-use Rattle.pb_value.proofs.JoinLemmas.{slots_view-insert_entry}
+use Rattle.pb_kind.specs.KindView.{is_always, kind_view, slots_view}
+use Rattle.pb_kind.proofs.GrowLemmas.{ascend_slots}
+use Rattle.pb_kind.proofs.JoinLemmas.{slots_view-insert_entry}
 use Rattle.pb_find.proofs.find.put.Goals as goal
 
 pub returns-in_ok-insert-in-Some : goal.returns-in_ok-insert-in-Some

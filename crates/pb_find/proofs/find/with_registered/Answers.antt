@@ -1,8 +1,8 @@
 use Rattle.std.proofs.Common.{Option, String, Global, string_bytes, option_map, ap, subst, sym}
 use Rattle.std.specs.declared.sync.Arc.{Arc}
 use Rattle.pb_language.specs.Cases.{Sets}
-use Rattle.pb_value.specs.KindView.{kind_view, slots_view}
-use Rattle.pb_value.specs.declared.kind.Kind.{Kind}
+use Rattle.pb_kind.specs.KindView.{kind_view, slots_view}
+use Rattle.pb_kind.specs.declared.kind.Kind.{Kind}
 use Rattle.pb_find.specs.Written.{Written}
 use Rattle.pb_find.proofs.Writes.{no_kind, no_name, written_nothing}
 use Rattle.pb_find.proofs.find.with_registered.Goals as goal

@@ -1,7 +1,7 @@
 use Rattle.std.proofs.Common.{◌≡◌, ◌&&◌, is_none, true, refl, ◌∙◌}
 use Rattle.pb_language.specs.Cases.{no_sets, sets}
 use Rattle.pb_language.specs.Tables.{writes_below}
-use Rattle.pb_value.specs.KindView.{kind_view, slots_view}
+use Rattle.pb_kind.specs.KindView.{kind_view, slots_view}
 use Rattle.pb_find.specs.declared.find.Find.{Find}
 use Rattle.pb_find.proofs.Grows.{one_written}
 use Rattle.pb_find.proofs.Writes.{both_hold, first_fails, none_told}

@@ -5,7 +5,7 @@ use Rattle.pb_language.specs.Wells.{WellSets}
 use Rattle.pb_syntax.proofs.Left.{drop-at}
 use Rattle.pb_transfer.specs.Written.{sets_view}
 use Rattle.pb_transfer.specs.declared.written.Set.{Set}
-use Rattle.pb_value.specs.KindView.{kind_view, slots_view}
+use Rattle.pb_kind.specs.KindView.{kind_view, slots_view}
 use Rattle.pb_visit.specs.Station.{station_task}
 use Rattle.pb_visit.specs.Visits.{registered}
 use Rattle.pb_find.specs.Written.{Written}

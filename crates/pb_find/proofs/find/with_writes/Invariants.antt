@@ -2,7 +2,7 @@ use Rattle.std.proofs.Common.{drop}
 use Rattle.pb_semantics.specs.Kind.{recs}
 use Rattle.pb_semantics.specs.Well.{Well}
 use Rattle.pb_language.specs.Wells.{WellSets}
-use Rattle.pb_value.specs.KindView.{slots_view}
+use Rattle.pb_kind.specs.KindView.{slots_view}
 use Rattle.pb_transfer.specs.Written.{sets_view}
 use Rattle.pb_visit.specs.Station.{station_task}
 use Rattle.pb_visit.specs.Visits.{writes_view}

@@ -2,7 +2,7 @@ use Rattle.std.proofs.Common.{◌≡◌, ◌+◌, ◌∷◌, drop, string_bytes,
 use Rattle.std.proofs.lemmas.List.{drop_all}
 use Rattle.pb_language.specs.Cases.{append_sets, sets, parts_set}
 use Rattle.pb_language.specs.Expansion.{parts_expanded}
-use Rattle.pb_value.specs.KindView.{kind_view}
+use Rattle.pb_kind.specs.KindView.{kind_view}
 use Rattle.pb_syntax.proofs.Left.{drop-at}
 use Rattle.pb_expr.specs.TaughtView.{scope_view}
 use Rattle.pb_template.specs.Entries.{entries_view}

@@ -1,6 +1,6 @@
 use Rattle.std.proofs.Common.{◌≡◌, drop}
 use Rattle.pb_language.specs.Setting.{group_slots}
-use Rattle.pb_value.specs.KindView.{slots_view}
+use Rattle.pb_kind.specs.KindView.{slots_view}
 use Rattle.pb_inventory.specs.Inventory.{inventory_view}
 use Rattle.pb_hosts.proofs.names.groups_record.Given as goal
 

@@ -4,10 +4,10 @@ use Rattle.std.proofs.lemmas.Result.{IfOk-weaker}
 use Rattle.pb_semantics.specs.Join.{add_names, put_name}
 use Rattle.pb_semantics.specs.Kind.{hosts, lists}
 use Rattle.std.specs.BTreeSet.{BTreeSet}
-use Rattle.pb_value.specs.KindView.{kind_view}
-use Rattle.pb_value.specs.declared.kind.Kind as Kind-of
-use Rattle.pb_value.specs.declared.kind.Kind.{the_lemmas as kind_lemmas}
-use Rattle.pb_value.proofs.JoinLemmas.{names-insert_key}
+use Rattle.pb_kind.specs.KindView.{kind_view}
+use Rattle.pb_kind.specs.declared.kind.Kind as Kind-of
+use Rattle.pb_kind.specs.declared.kind.Kind.{the_lemmas as kind_lemmas}
+use Rattle.pb_kind.proofs.JoinLemmas.{names-insert_key}
 use Rattle.pb_inventory.specs.Inventory.{inventory_view}
 use Rattle.pb_inventory.specs.Numbered.{name_of, named}
 use Rattle.pb_hosts.specs.Tables.{host_names}

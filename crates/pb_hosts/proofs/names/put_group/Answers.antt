@@ -2,7 +2,7 @@ use Rattle.std.proofs.Common.{◌∙◌, ◌<◌, ℕ, List, ap, length, string_
 use Rattle.std.specs.List.{All}
 use Rattle.std.proofs.lemmas.Result.{on_ok_weaker}
 use Rattle.pb_semantics.specs.Kind.{put_slot}
-use Rattle.pb_value.specs.KindView.{is_always, kind_view, slots_view}
+use Rattle.pb_kind.specs.KindView.{is_always, kind_view, slots_view}
 use Rattle.pb_language.specs.Setting.{host_list}
 use Rattle.pb_inventory.specs.Inventory.{inventory_view}
 use Rattle.pb_inventory.specs.Numbered.{named}

@@ -1,4 +1,4 @@
-use Rattle.pb_value.specs.KindView.{slots_view}
+use Rattle.pb_kind.specs.KindView.{slots_view}
 use Rattle.pb_inventory.specs.HostGroups.{layer_views}
 use Rattle.pb_inventory.specs.Inventory.{inventory_view}
 use Rattle.pb_hosts.proofs.Layers.{known_variables, layers_put}

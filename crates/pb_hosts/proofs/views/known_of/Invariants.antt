@@ -1,6 +1,6 @@
 use Rattle.std.proofs.Common.{◌≡◌, drop}
 use Rattle.pb_semantics.specs.Kind.{no_slots}
-use Rattle.pb_value.specs.KindView.{slots_view}
+use Rattle.pb_kind.specs.KindView.{slots_view}
 use Rattle.pb_inventory.specs.HostGroups.{layer_views}
 use Rattle.pb_hosts.proofs.Layers.{with_layers}
 use Rattle.pb_hosts.proofs.views.known_of.Given as goal

@@ -1,5 +1,5 @@
 use Rattle.std.proofs.Common.{◌≡◌, length, nat_eq, arith, sym, ap, ◌∙◌}
-use Rattle.pb_value.specs.KindView.{kind_view}
+use Rattle.pb_kind.specs.KindView.{kind_view}
 use Rattle.pb_judgement.proofs.CaseSteps.{some_kind}
 use Rattle.pb_judgement.proofs.ends.case_kind.Goals as goal
 

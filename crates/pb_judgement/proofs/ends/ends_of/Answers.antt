@@ -1,6 +1,6 @@
 use Rattle.std.proofs.Common.{ap, ◌∙◌}
 use Rattle.pb_language.specs.Narrow.{results_of}
-use Rattle.pb_value.specs.KindView.{cases_view}
+use Rattle.pb_kind.specs.KindView.{cases_view}
 use Rattle.pb_judgement.specs.Ends.{case_kind, failing_in, going_in}
 use Rattle.pb_judgement.proofs.Judged.{failing_as, going_as, results_as}
 use Rattle.pb_judgement.proofs.ends.ends_of.Goals as goal

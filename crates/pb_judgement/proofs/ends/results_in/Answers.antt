@@ -2,8 +2,8 @@ use Rattle.std.proofs.Common.{cond, false, ap, ap₂, ◌∙◌}
 use Rattle.pb_semantics.specs.Join.{append_cases}
 use Rattle.pb_semantics.specs.Kind.{no_cases, one, recs, skipped_shape}
 use Rattle.pb_language.specs.Cases.{skipped_slots}
-use Rattle.pb_value.specs.KindView.{cases_view}
-use Rattle.pb_value.proofs.JoinLemmas.{cases_view-append}
+use Rattle.pb_kind.specs.KindView.{cases_view}
+use Rattle.pb_kind.proofs.JoinLemmas.{cases_view-append}
 use Rattle.pb_judgement.specs.Ends.{ended_in, judged_in}
 use Rattle.pb_judgement.proofs.ends.results_in.Goals as goal
 

@@ -3,8 +3,8 @@ use Rattle.std.proofs.lemmas.Result.{IfOk-weaker}
 use Rattle.pb_semantics.specs.Kind.{recs}
 use Rattle.pb_semantics.proofs.Bools.{true-false}
 use Rattle.pb_language.specs.Cases.{ended_kind, is_lawful_shape, slots_of}
-use Rattle.pb_value.specs.KindView.{kind_view, slots_view}
-use Rattle.pb_value.proofs.Views.{kind_view-Rec}
+use Rattle.pb_kind.specs.KindView.{kind_view, slots_view}
+use Rattle.pb_kind.proofs.Views.{kind_view-Rec}
 use Rattle.pb_judgement.proofs.LawfulShapes.{shape_slots-lawful, unfailed_shape, unlawful}
 use Rattle.pb_judgement.proofs.shapes.ended_shape.Goals as goal
 

@@ -1,7 +1,7 @@
 use Rattle.std.proofs.Common.{[], ◌∷◌, ap, ◌∙◌}
 use Rattle.pb_semantics.specs.Join.{append_cases}
-use Rattle.pb_value.specs.KindView.{cases_view}
-use Rattle.pb_value.proofs.JoinLemmas.{cases_view-append}
+use Rattle.pb_kind.specs.KindView.{cases_view}
+use Rattle.pb_kind.proofs.JoinLemmas.{cases_view-append}
 use Rattle.pb_judgement.proofs.status.add.Goals as goal
 
 pub returns : goal.returns

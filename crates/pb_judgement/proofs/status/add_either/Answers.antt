@@ -1,8 +1,8 @@
 use Rattle.std.proofs.Common.{string_bytes, true, false, ap, ◌∙◌}
 use Rattle.pb_semantics.specs.Join.{append_cases}
 use Rattle.pb_semantics.specs.Kind.{no_cases, one}
-use Rattle.pb_value.specs.KindView.{cases_view, kind_view, shape_view}
-use Rattle.pb_value.proofs.JoinLemmas.{append_through}
+use Rattle.pb_kind.specs.KindView.{cases_view, kind_view, shape_view}
+use Rattle.pb_kind.proofs.JoinLemmas.{append_through}
 use Rattle.pb_judgement.proofs.status.add_either.Goals as goal
 
 pub returns : goal.returns

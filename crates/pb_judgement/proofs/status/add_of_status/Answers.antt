@@ -1,8 +1,8 @@
 use Rattle.std.proofs.Common.{[], ◌∷◌, cond, sym, ap, ◌∙◌}
 use Rattle.pb_semantics.specs.Join.{append_cases}
 use Rattle.pb_semantics.specs.Kind.{no_cases}
-use Rattle.pb_value.specs.KindView.{cases_view}
-use Rattle.pb_value.proofs.JoinLemmas.{append_none}
+use Rattle.pb_kind.specs.KindView.{cases_view}
+use Rattle.pb_kind.proofs.JoinLemmas.{append_none}
 use Rattle.pb_judgement.proofs.status.add_of_status.Goals as goal
 
 pub returns-else-is_of_status : goal.returns-else-is_of_status

@@ -2,8 +2,8 @@ use Rattle.std.proofs.Common.{◌≡◌, [], Bool, cond, drop, drop_of_length-le
 use Rattle.pb_semantics.specs.Join.{append_cases}
 use Rattle.pb_semantics.specs.Kind.{KindData, Shape}
 use Rattle.pb_language.specs.Narrow.{cases_with}
-use Rattle.pb_value.specs.KindView.{cases_view}
-use Rattle.pb_value.proofs.JoinLemmas.{append_none}
+use Rattle.pb_kind.specs.KindView.{cases_view}
+use Rattle.pb_kind.proofs.JoinLemmas.{append_none}
 use Rattle.pb_judgement.proofs.CaseSteps.{made_step, with_through}
 use Rattle.pb_judgement.proofs.status.cases_of_status.Goals as goal
 

@@ -1,7 +1,7 @@
 use Rattle.std.proofs.Common.{◌≡◌, cond, drop, not}
 use Rattle.pb_semantics.specs.Join.{append_cases}
 use Rattle.pb_language.specs.Narrow.{cases_with}
-use Rattle.pb_value.specs.KindView.{cases_view}
+use Rattle.pb_kind.specs.KindView.{cases_view}
 use Rattle.pb_judgement.proofs.status.cases_of_status.Given as goal
 
 abbrev pub invariant-loop-case : goal.invariant-loop-case

@@ -1,6 +1,6 @@
 use Rattle.std.proofs.Common.{◌≡◌, drop}
 use Rattle.pb_semantics.specs.Join.{append_cases}
-use Rattle.pb_value.specs.KindView.{cases_view}
+use Rattle.pb_kind.specs.KindView.{cases_view}
 use Rattle.pb_judgement.proofs.status.copies.Given as goal
 
 abbrev pub invariant-loop-case : goal.invariant-loop-case

@@ -1,8 +1,8 @@
 use Rattle.std.proofs.Common.{◌≡◌, [], drop, drop_of_length-le, sym, ap, ◌∙◌}
 use Rattle.pb_semantics.specs.Join.{append_cases}
 use Rattle.pb_language.specs.Cases.{either_status}
-use Rattle.pb_value.specs.KindView.{cases_view}
-use Rattle.pb_value.proofs.JoinLemmas.{append_none}
+use Rattle.pb_kind.specs.KindView.{cases_view}
+use Rattle.pb_kind.proofs.JoinLemmas.{append_none}
 use Rattle.pb_judgement.proofs.CaseSteps.{made_step, either_through}
 use Rattle.pb_judgement.proofs.status.either_status.Goals as goal
 

@@ -1,8 +1,8 @@
 use Rattle.std.proofs.Common.{◌≡◌, [], drop, drop_of_length-le, sym, ap, ◌∙◌}
 use Rattle.pb_semantics.specs.Join.{append_cases}
 use Rattle.pb_language.specs.Cases.{perhaps_failed}
-use Rattle.pb_value.specs.KindView.{cases_view}
-use Rattle.pb_value.proofs.JoinLemmas.{append_none}
+use Rattle.pb_kind.specs.KindView.{cases_view}
+use Rattle.pb_kind.proofs.JoinLemmas.{append_none}
 use Rattle.pb_judgement.proofs.CaseSteps.{made_step, perhaps_through}
 use Rattle.pb_judgement.proofs.status.perhaps_failed.Goals as goal
 

@@ -1,7 +1,7 @@
 use Rattle.std.proofs.Common.{◌≡◌, drop}
 use Rattle.pb_semantics.specs.Join.{append_cases}
 use Rattle.pb_language.specs.Cases.{perhaps_failed}
-use Rattle.pb_value.specs.KindView.{cases_view}
+use Rattle.pb_kind.specs.KindView.{cases_view}
 use Rattle.pb_judgement.proofs.status.perhaps_failed.Given as goal
 
 abbrev pub invariant-loop-case : goal.invariant-loop-case

@@ -1,6 +1,6 @@
 use Rattle.std.proofs.Common.{rules, arith}
 use Rattle.std.proofs.lemmas.Result.{IfOk-weaker}
-use Rattle.pb_value.specs.KindView.{is_always, kind_view}
+use Rattle.pb_kind.specs.KindView.{is_always, kind_view}
 use Rattle.pb_lattice.specs.Arena.{names_of}
 use Rattle.pb_lattice.specs.Bulk.{pairs_view}
 use Rattle.pb_lattice.proofs.Building.{built_fork, first_well, one_well, other_well}

@@ -1,6 +1,6 @@
 use Rattle.std.proofs.Common.{List, ap, sym, ◌∙◌}
-use Rattle.pb_value.specs.KindView.{slots_view}
-use Rattle.pb_value.proofs.KindLemmas.{SlotEntry}
+use Rattle.pb_kind.specs.KindView.{slots_view}
+use Rattle.pb_kind.proofs.KindLemmas.{SlotEntry}
 use Rattle.pb_lattice.specs.Bulk.{pairs_view}
 use Rattle.pb_lattice.specs.Trees.{append_slots}
 use Rattle.pb_lattice.proofs.Building.{Pair, append_none, one_more}

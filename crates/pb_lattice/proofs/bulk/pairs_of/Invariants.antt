@@ -1,5 +1,5 @@
 use Rattle.std.proofs.Common.{◌≡◌}
-use Rattle.pb_value.specs.KindView.{slots_view}
+use Rattle.pb_kind.specs.KindView.{slots_view}
 use Rattle.pb_lattice.specs.Bulk.{pairs_view}
 use Rattle.pb_lattice.specs.Trees.{append_slots}
 use Rattle.pb_lattice.proofs.bulk.pairs_of.Given as goal

@@ -1,5 +1,5 @@
 use Rattle.std.proofs.Common.{◌∙◌, ap, sym}
-use Rattle.pb_value.specs.KindView.{is_always, kind_view}
+use Rattle.pb_kind.specs.KindView.{is_always, kind_view}
 use Rattle.pb_lattice.specs.Arena.{part_view, tree_at}
 use Rattle.pb_lattice.specs.Trees.{slots_over}
 use Rattle.pb_language.specs.Judgement.{live}

@@ -1,7 +1,7 @@
 use Rattle.std.proofs.Common.{◌≡◌, ◌<◌, List, ℕ, length, true, false, string_bytes, sym, ap, ◌∙◌, rules, arith}
 use Rattle.std.proofs.lemmas.Result.{IfOk-weaker}
 use Rattle.std.specs.Ordering.{is_lt}
-use Rattle.pb_value.specs.KindView.{is_always, kind_view}
+use Rattle.pb_kind.specs.KindView.{is_always, kind_view}
 use Rattle.pb_lattice.specs.Trees.{fits, fork}
 use Rattle.pb_lattice.specs.Arena.{names_of, tree_at}
 use Rattle.pb_lattice.proofs.Halves.{order}

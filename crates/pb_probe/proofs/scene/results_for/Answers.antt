@@ -3,8 +3,8 @@ use Rattle.std.proofs.lemmas.Result.{MatchResult-weaker}
 use Rattle.pb_semantics.specs.Kind.{recs}
 use Rattle.pb_language.specs.Cases.{slots_of}
 use Rattle.pb_semantics.specs.Signature.{is_shape}
-use Rattle.pb_value.specs.KindView.{kind_view, slots_view}
-use Rattle.pb_value.proofs.Views.{kind_view-Rec}
+use Rattle.pb_kind.specs.KindView.{kind_view, slots_view}
+use Rattle.pb_kind.proofs.Views.{kind_view-Rec}
 use Rattle.pb_sig.specs.ModuleView.{known_view}
 use Rattle.pb_probe.proofs.Shapes.{is_listed-failed}
 use Rattle.pb_probe.proofs.scene.results_for.Goals as goal

@@ -2,9 +2,9 @@ use Rattle.std.proofs.Common.{◌≡◌, ◌++◌, ◌∷◌, [], true, false, S
 use Rattle.pb_semantics.specs.Kind.{put_slot, spot}
 use Rattle.pb_language.specs.Rules.{is_variable_name}
 use Rattle.pb_value.specs.View.{view, fields_view}
-use Rattle.pb_value.specs.KindView.{is_always, kind_view, slots_view}
-use Rattle.pb_value.specs.declared.kind.Kind.{Kind}
-use Rattle.pb_value.specs.declared.kind.Slot.{Slot}
+use Rattle.pb_kind.specs.KindView.{is_always, kind_view, slots_view}
+use Rattle.pb_kind.specs.declared.kind.Kind.{Kind}
+use Rattle.pb_kind.specs.declared.kind.Slot.{Slot}
 use Rattle.pb_value.proofs.Fields.{Entry}
 use Rattle.pb_value.proofs.Views.{view-fields}
 use Rattle.pb_sig.specs.Drafts.{slot_spot}

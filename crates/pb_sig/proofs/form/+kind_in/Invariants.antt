@@ -1,6 +1,6 @@
 use Rattle.std.proofs.Common.{◌≡◌, ◌+◌, ◌*◌, ◌++◌, List, Some}
 use Rattle.pb_value.specs.View.{view, fields_view}
-use Rattle.pb_value.specs.KindView.{slots_view}
+use Rattle.pb_kind.specs.KindView.{slots_view}
 use Rattle.pb_value.proofs.Fields.{Entry}
 use Rattle.pb_sig.specs.Signatures.{slots_in}
 use Rattle.pb_sig.proofs.Forms.{size, sizes}

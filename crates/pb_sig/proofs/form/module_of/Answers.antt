@@ -1,7 +1,7 @@
 use Rattle.std.proofs.Common.{◌≡◌, ◌≢◌, length, option_map, sym, ap, ◌∙◌}
 use Rattle.pb_semantics.proofs.Bools.{and-both}
 use Rattle.pb_language.specs.Cases.{are_plain}
-use Rattle.pb_value.specs.KindView.{slots_view}
+use Rattle.pb_kind.specs.KindView.{slots_view}
 use Rattle.pb_value.specs.View.{view}
 use Rattle.pb_sig.specs.Signatures.{module_name, parameters_of, shape_of}
 use Rattle.pb_sig.proofs.Forms.{module_form-other, module_form-whole}

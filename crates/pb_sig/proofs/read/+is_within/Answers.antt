@@ -1,7 +1,7 @@
 use Rattle.std.proofs.Common.{suc, ◌-◌, arith, sym, ap, ◌∙◌}
 use Rattle.pb_semantics.specs.Kind.{recs}
-use Rattle.pb_value.specs.KindView.{kind_view, slots_view}
-use Rattle.pb_value.proofs.Views.{kind_view-List, kind_view-Rec}
+use Rattle.pb_kind.specs.KindView.{kind_view, slots_view}
+use Rattle.pb_kind.proofs.Views.{kind_view-List, kind_view-Rec}
 use Rattle.pb_sig.specs.Signatures.{is_within}
 use Rattle.pb_sig.proofs.Forms.{is_within-few, is_within-list, is_within-many, is_within-record, slot_count-length}
 use Rattle.pb_sig.proofs.read.+is_within.Goals as goal

@@ -1,5 +1,5 @@
 use Rattle.std.proofs.Common.{◌≡◌}
-use Rattle.pb_value.specs.KindView.{slots_view}
+use Rattle.pb_kind.specs.KindView.{slots_view}
 use Rattle.pb_sig.specs.Signatures.{are_within}
 use Rattle.pb_sig.proofs.read.+is_within.Given as goal
 

@@ -1,5 +1,5 @@
 use Rattle.std.proofs.Common.{◌≡◌, drop, map}
-use Rattle.pb_value.specs.KindView.{slots_view}
+use Rattle.pb_kind.specs.KindView.{slots_view}
 use Rattle.pb_sig.specs.Signatures.{lists_any}
 use Rattle.pb_sig.proofs.read.has_any.Given as goal
 

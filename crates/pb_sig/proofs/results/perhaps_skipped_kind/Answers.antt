@@ -2,7 +2,7 @@ use Rattle.std.proofs.Common.{ap, ap₂, ◌∙◌}
 use Rattle.std.proofs.lemmas.Result.{IfOk-weaker}
 use Rattle.pb_semantics.specs.Join.{append_cases, join}
 use Rattle.pb_semantics.specs.Kind.{results}
-use Rattle.pb_value.specs.KindView.{cases_view, kind_view}
+use Rattle.pb_kind.specs.KindView.{cases_view, kind_view}
 use Rattle.pb_sig.proofs.results.perhaps_skipped_kind.Goals as goal
 
 pub returns : goal.returns

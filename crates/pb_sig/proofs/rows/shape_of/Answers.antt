@@ -2,7 +2,7 @@ use Rattle.std.proofs.Common.{◌≡◌, ◌+◌, ◌<◌, ◌∷◌, arith, dro
 use Rattle.std.proofs.lemmas.List.{drop_all}
 use Rattle.std.proofs.lemmas.Result.{IfOk-weaker}
 use Rattle.pb_semantics.specs.Kind.{recs, put_slot}
-use Rattle.pb_value.specs.KindView.{kind_view, slots_view, is_always}
+use Rattle.pb_kind.specs.KindView.{kind_view, slots_view, is_always}
 use Rattle.pb_sig.specs.Rows.{with_rows}
 use Rattle.pb_sig.proofs.rows.shape_of.Goals as goal
 

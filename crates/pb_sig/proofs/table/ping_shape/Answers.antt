@@ -1,6 +1,6 @@
 use Rattle.std.proofs.Common.{refl, ◌∙◌}
 use Rattle.std.proofs.lemmas.Result.{IfOk-weaker}
-use Rattle.pb_value.proofs.KindLemmas.{kind_view-Text}
+use Rattle.pb_kind.proofs.KindLemmas.{kind_view-Text}
 use Rattle.pb_sig.proofs.ResultKinds.{kind_view-Bool}
 use Rattle.pb_sig.proofs.table.ping_shape.Goals as goal
 

@@ -1,6 +1,6 @@
 use Rattle.std.proofs.Common.{◌≡◌, [], ap, sym, ◌∙◌}
 use Rattle.pb_value.specs.View.{fields_view}
-use Rattle.pb_value.proofs.Projections.{append_fields-none}
+use Rattle.pb_value.proofs.Appended.{append_fields-none}
 use Rattle.pb_value.specs.Append.{append_fields}
 use Rattle.pb_strategy.proofs.Finishes.{append_fields-push}
 use Rattle.pb_strategy.proofs.outcome.add_all.Goals as goal

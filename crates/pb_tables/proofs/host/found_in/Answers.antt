@@ -10,7 +10,7 @@ use Rattle.pb_language.specs.World.{HostVariables}
 use Rattle.pb_lattice.specs.Environments.{exit_of}
 use Rattle.pb_inventory.specs.Inventory.{inventory_view}
 use Rattle.pb_inventory.specs.declared.inventory.Inventory as read
-use Rattle.pb_value.specs.KindView.{slots_view}
+use Rattle.pb_kind.specs.KindView.{slots_view}
 use Rattle.pb_way.specs.Routes.{ArePathsOf}
 use Rattle.pb_language.specs.Plays.{play_row}
 use Rattle.pb_hosts.specs.Shown.{views_view}

@@ -5,7 +5,7 @@ use Rattle.pb_language.specs.Program.{Program}
 use Rattle.pb_language.specs.World.{HostVariables}
 use Rattle.pb_lattice.specs.Environments.{Stands, exit_of}
 use Rattle.pb_inventory.specs.Inventory.{inventory_view}
-use Rattle.pb_value.specs.KindView.{slots_view}
+use Rattle.pb_kind.specs.KindView.{slots_view}
 use Rattle.pb_hosts.specs.Shown.{views_view}
 use Rattle.pb_tables.specs.Scenes.{AreScenes}
 use Rattle.pb_tables.specs.Tabled.{laters_in}

@@ -10,7 +10,7 @@ use Rattle.pb_lattice.specs.Arena.{names_of}
 use Rattle.pb_lattice.specs.Environments.{exit_of}
 use Rattle.pb_lattice.proofs.Exits.{stands_well}
 use Rattle.pb_inventory.specs.Inventory.{inventory_view}
-use Rattle.pb_value.specs.KindView.{slots_view}
+use Rattle.pb_kind.specs.KindView.{slots_view}
 use Rattle.pb_walks.specs.Agree.{ExitsAgree}
 use Rattle.pb_hosts.specs.Shown.{views_view}
 use Rattle.pb_hosts.specs.declared.lasting.Lasting.{Lasting}

@@ -5,7 +5,7 @@ use Rattle.pb_language.specs.Plays.{play_row}
 use Rattle.pb_language.specs.Tables.{row_calls}
 use Rattle.pb_lattice.specs.Environments.{exit_of}
 use Rattle.pb_lattice.specs.declared.environment.Environment.{Environment}
-use Rattle.pb_value.specs.KindView.{slots_view}
+use Rattle.pb_kind.specs.KindView.{slots_view}
 use Rattle.pb_visit.specs.Station.{station_task}
 use Rattle.pb_visit.specs.declared.station.Station.{Station}
 use Rattle.pb_way.specs.Places.{places_calls}

@@ -32,7 +32,7 @@ loop-host-preserved c =
     let there = slice_get-get_or i.hosts l.host nobody within in
     let put = c.in_ok-laters-2.ensures in
     record {
-      names = c.in_ok-space.ensures ∙ c.in_ok-lasting.ensures.names ∙ l.invariant.names;
+      names = c.in_ok-space.ensures.over ∙ c.in_ok-lasting.ensures.names ∙ l.invariant.names;
       beside = beside_more (length stage.names.now) l.laters.items c.in_ok-laters-2.laters.items c.in_ok-lasting.lasting.items l.invariant.beside c.in_ok-lasting.ensures.beside put;
       all = λ ps scenes.
           subst (λ (os : List (Option (List Lasting))). AreLasting ns i ps (take (l.host + 1) i.hosts) os) (sym put)

@@ -18,7 +18,7 @@ loop-host-preserved c =
     let within : l.host < length i.hosts = omega (arith, c.hosts-host-end.ensures, c.loop-host-test.true) in
     let more = take_more i.hosts l.host nobody within in
     record {
-      names = c.in_ok-space.ensures ∙ c.in_ok-found.ensures.names ∙ l.invariant.names;
+      names = c.in_ok-space.ensures.over ∙ c.in_ok-found.ensures.names ∙ l.invariant.names;
       number = c.in_ok-found.ensures.number ∙ ap (λ n. n + 1) l.invariant.number;
       well = c.in_ok-found.ensures.well;
       all = λ ps scenes. subst (λ (xs : List HostVariables). AreFound i ps (views_view tables.views) (laters_in stage tables.laters.items) xs c.in_ok-found.found) (sym more)

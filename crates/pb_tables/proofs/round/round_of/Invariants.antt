@@ -3,7 +3,7 @@ use Rattle.std.specs.List.{All}
 use Rattle.pb_semantics.specs.Kind.{recs}
 use Rattle.pb_semantics.specs.Well.{Well}
 use Rattle.pb_language.specs.Program.{Program}
-use Rattle.pb_value.specs.KindView.{slots_view}
+use Rattle.pb_kind.specs.KindView.{slots_view}
 use Rattle.pb_lattice.specs.Arena.{names_of}
 use Rattle.pb_inventory.specs.Inventory.{inventory_view}
 use Rattle.pb_hosts.specs.Shown.{views_view}

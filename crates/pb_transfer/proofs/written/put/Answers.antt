@@ -1,5 +1,5 @@
 use Rattle.std.proofs.lemmas.Result.{IfOk-weaker}
-use Rattle.pb_value.specs.KindView.{is_always, kind_view}
+use Rattle.pb_kind.specs.KindView.{is_always, kind_view}
 use Rattle.pb_lattice.specs.Environments.{exit_of}
 use Rattle.pb_transfer.proofs.Same.{same_put}
 use Rattle.pb_transfer.proofs.written.put.Goals as goal

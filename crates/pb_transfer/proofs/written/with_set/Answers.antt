@@ -1,5 +1,5 @@
 use Rattle.std.proofs.Common.{rules, string_bytes}
-use Rattle.pb_value.specs.KindView.{is_always, kind_view}
+use Rattle.pb_kind.specs.KindView.{is_always, kind_view}
 use Rattle.pb_lattice.specs.Environments.{exit_of, spot_in}
 use Rattle.pb_lattice.proofs.Exits.{stands_well}
 use Rattle.pb_transfer.proofs.Same.{known_well, set_well}

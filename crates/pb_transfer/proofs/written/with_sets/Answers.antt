@@ -1,5 +1,5 @@
 use Rattle.std.proofs.Common.{◌≡◌, ◌+◌, ◌∷◌, drop, string_bytes, subst, arith}
-use Rattle.pb_value.specs.KindView.{kind_view}
+use Rattle.pb_kind.specs.KindView.{kind_view}
 use Rattle.pb_language.specs.Cases.{with_sets, set_spot}
 use Rattle.pb_language.specs.Scope.{with_spot}
 use Rattle.pb_language.specs.Wells.{WellSets}

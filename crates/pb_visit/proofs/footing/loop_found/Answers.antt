@@ -2,7 +2,7 @@ use Rattle.std.proofs.Common.{None, option_map}
 use Rattle.std.proofs.lemmas.Result.{IfOk-weaker}
 use Rattle.pb_language.specs.Expansion.{expanded, trees}
 use Rattle.pb_lattice.specs.Environments.{exit_of}
-use Rattle.pb_value.specs.KindView.{kind_view}
+use Rattle.pb_kind.specs.KindView.{kind_view}
 use Rattle.pb_syntax.specs.ExprView.{expr_view}
 use Rattle.pb_expr.specs.FitView.{fault_view}
 use Rattle.pb_expr.specs.TaughtView.{scope_view}

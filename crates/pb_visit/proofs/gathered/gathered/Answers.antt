@@ -2,12 +2,12 @@ use Rattle.std.proofs.Common.{◌≡◌, ◌∙◌, ◌&&◌, ap, sym, String, G
 use Rattle.std.proofs.lemmas.Result.{IfOk-weaker}
 use Rattle.std.specs.declared.collections.btree_map.BTreeMap.{BTreeMap}
 use Rattle.pb_semantics.specs.Kind.{recs}
-use Rattle.pb_value.specs.Found.{spot_view}
-use Rattle.pb_value.specs.KindView.{is_always, kind_view, slots_view}
-use Rattle.pb_value.specs.declared.kind.Kind.{Kind}
-use Rattle.pb_value.specs.declared.kind.Slot.{Slot}
+use Rattle.pb_kind.specs.Found.{spot_view}
+use Rattle.pb_kind.specs.KindView.{is_always, kind_view, slots_view}
+use Rattle.pb_kind.specs.declared.kind.Kind.{Kind}
+use Rattle.pb_kind.specs.declared.kind.Slot.{Slot}
 use Rattle.pb_value.specs.declared.weight.Weighed.{Weighed}
-use Rattle.pb_value.proofs.Views.{kind_view-Rec}
+use Rattle.pb_kind.proofs.Views.{kind_view-Rec}
 use Rattle.pb_visit.proofs.Facts.{both_hold, gathered_record, none_holds}
 use Rattle.pb_visit.proofs.gathered.gathered.Goals as goal
 use Rattle.pb_visit.proofs.gathered.gathered.Goals.{then-is_certain, else-is_certain}

@@ -1,7 +1,7 @@
 use Rattle.std.proofs.Common.{◌≡◌, ◌∙◌, List, [], ◌∷◌, ◌++◌, ◌&&◌, ap, sym}
 use Rattle.pb_language.specs.Cases.{Sets, append_sets, facts_set, no_sets, sets}
 use Rattle.pb_language.specs.Expression.{Name}
-use Rattle.pb_value.specs.KindView.{is_always, kind_view, slots_view}
+use Rattle.pb_kind.specs.KindView.{is_always, kind_view, slots_view}
 use Rattle.pb_transfer.specs.Written.{sets_view}
 use Rattle.pb_transfer.specs.declared.written.Set.{Set}
 use Rattle.pb_visit.proofs.Sets.{append_sets-none, append_sets-push}

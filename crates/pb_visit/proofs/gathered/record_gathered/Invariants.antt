@@ -1,7 +1,7 @@
 use Rattle.std.proofs.Common.{◌≡◌, codes}
 use Rattle.pb_semantics.specs.Kind.{recs}
 use Rattle.pb_language.specs.Cases.{append_sets, facts_set, sets, stripped_slots}
-use Rattle.pb_value.specs.KindView.{slots_view}
+use Rattle.pb_kind.specs.KindView.{slots_view}
 use Rattle.pb_transfer.specs.Written.{sets_view}
 use Rattle.pb_visit.proofs.gathered.record_gathered.Given as goal
 

@@ -1,8 +1,8 @@
 use Rattle.std.proofs.Common.{◌≡◌, ◌∙◌, ap, string_bytes, subst}
 use Rattle.pb_language.specs.Cases.{after_prefix, fact_prefix}
 use Rattle.pb_language.specs.Expression.{Name}
-use Rattle.pb_value.specs.KindView.{is_always, kind_view, slots_view}
-use Rattle.pb_value.proofs.GrowLemmas.{ascend_slots}
+use Rattle.pb_kind.specs.KindView.{is_always, kind_view, slots_view}
+use Rattle.pb_kind.proofs.GrowLemmas.{ascend_slots}
 use Rattle.pb_visit.specs.Gathered.{put_named}
 use Rattle.pb_visit.proofs.Stripped.{IsStripping, stripping_begins, stripping_ends, stripping_goes_on}
 use Rattle.pb_visit.proofs.gathered.stripped.Goals as goal

@@ -1,4 +1,4 @@
-use Rattle.pb_value.specs.KindView.{slots_view}
+use Rattle.pb_kind.specs.KindView.{slots_view}
 use Rattle.pb_visit.proofs.Stripped.{IsStripping}
 use Rattle.pb_visit.proofs.gathered.stripped.Given as goal
 

@@ -1,8 +1,8 @@
 use Rattle.std.proofs.Common.{Option, option_map, subst}
 use Rattle.std.proofs.lemmas.Result.{IfOk-weaker}
 use Rattle.pb_lattice.specs.Environments.{exit_of}
-use Rattle.pb_value.specs.KindView.{kind_view}
-use Rattle.pb_value.specs.declared.kind.Kind.{Kind}
+use Rattle.pb_kind.specs.KindView.{kind_view}
+use Rattle.pb_kind.specs.declared.kind.Kind.{Kind}
 use Rattle.pb_outlook.specs.Standing.{known_of}
 use Rattle.pb_visit.specs.Made.{IsFailing}
 use Rattle.pb_visit.specs.Station.{station_task}

@@ -2,7 +2,7 @@ use Rattle.std.proofs.Common.{option_map}
 use Rattle.std.proofs.lemmas.Result.{IfOk-weaker}
 use Rattle.pb_language.specs.Cases.{is_certain_to_run}
 use Rattle.pb_lattice.specs.Environments.{exit_of}
-use Rattle.pb_value.specs.KindView.{kind_view}
+use Rattle.pb_kind.specs.KindView.{kind_view}
 use Rattle.pb_fit.specs.SetsView.{sets_view as found_view}
 use Rattle.pb_transfer.specs.Written.{sets_view}
 use Rattle.pb_visit.specs.Footing.{footing}

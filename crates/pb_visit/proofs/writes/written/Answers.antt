@@ -1,5 +1,5 @@
 use Rattle.std.proofs.Common.{◌∙◌, option_map}
-use Rattle.pb_value.specs.KindView.{kind_view}
+use Rattle.pb_kind.specs.KindView.{kind_view}
 use Rattle.pb_visit.specs.Visits.{env_of, task_there}
 use Rattle.pb_visit.specs.declared.writes.Writes.{Writes}
 use Rattle.pb_visit.proofs.Ends.{writes_are}

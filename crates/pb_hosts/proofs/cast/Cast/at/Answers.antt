@@ -2,7 +2,7 @@ use Rattle.std.proofs.Common.{◌≡◌, ◌∙◌, ap, subst, true}
 use Rattle.pb_language.specs.Setting.{host_list}
 use Rattle.pb_inventory.specs.Inventory.{inventory_view}
 use Rattle.pb_inventory.specs.Patterns.{names_at}
-use Rattle.pb_value.specs.KindView.{kind_view}
+use Rattle.pb_kind.specs.KindView.{kind_view}
 use Rattle.pb_hosts.specs.Equal.{same_kind}
 use Rattle.pb_hosts.specs.Tables.{host_names}
 use Rattle.pb_hosts.proofs.Sames.{own_kind}

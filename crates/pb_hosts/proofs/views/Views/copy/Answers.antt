@@ -3,7 +3,7 @@ use Rattle.std.proofs.lemmas.List.{length-map}
 use Rattle.pb_language.specs.Scope.{View}
 use Rattle.pb_language.specs.Wells.{WellViews}
 use Rattle.pb_inventory.specs.Inventory.{inventory_view}
-use Rattle.pb_value.specs.KindView.{slots_view}
+use Rattle.pb_kind.specs.KindView.{slots_view}
 use Rattle.pb_hosts.specs.Tables.{host_names, slots_of_each, views_from}
 use Rattle.pb_hosts.proofs.views.Views.copy.Goals as goal
 

@@ -1,7 +1,7 @@
 use Rattle.std.proofs.Common.{sym, ◌∙◌}
 use Rattle.std.proofs.lemmas.List.{length-map}
 use Rattle.pb_inventory.specs.Inventory.{inventory_view}
-use Rattle.pb_value.specs.KindView.{slots_view}
+use Rattle.pb_kind.specs.KindView.{slots_view}
 use Rattle.pb_hosts.specs.Tables.{host_names, slots_of_each}
 use Rattle.pb_hosts.proofs.Places.{host_among, view_there}
 use Rattle.pb_hosts.proofs.views.Views.has_host.Goals as goal

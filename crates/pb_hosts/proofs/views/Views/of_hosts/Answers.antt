@@ -1,7 +1,7 @@
 use Rattle.std.proofs.lemmas.List.Elements.{All-map}
 use Rattle.pb_semantics.specs.Kind.{Slots, recs}
 use Rattle.pb_semantics.specs.Well.{Well}
-use Rattle.pb_value.specs.KindView.{slots_view}
+use Rattle.pb_kind.specs.KindView.{slots_view}
 use Rattle.pb_inventory.specs.Inventory.{inventory_view}
 use Rattle.pb_hosts.specs.Tables.{host_names, slots_of_each}
 use Rattle.pb_hosts.proofs.Places.{views_well}

@@ -5,7 +5,7 @@ use Rattle.pb_semantics.specs.Well.{Well}
 use Rattle.pb_language.specs.Scope.{view_of}
 use Rattle.pb_inventory.specs.Inventory.{inventory_view}
 use Rattle.pb_inventory.specs.Numbered.{name_of}
-use Rattle.pb_value.specs.KindView.{slots_view}
+use Rattle.pb_kind.specs.KindView.{slots_view}
 use Rattle.pb_hosts.specs.Shown.{views_view}
 use Rattle.pb_hosts.specs.Tables.{host_names, slots_of_each}
 use Rattle.pb_hosts.proofs.Places.{apart_hosts, host_there, slots_at, view_read, view_slots_at}

@@ -5,7 +5,7 @@ use Rattle.pb_semantics.specs.Well.{Well}
 use Rattle.pb_semantics.proofs.JoinAbove.{joins_above}
 use Rattle.pb_semantics.proofs.JoinLeast.{joins_least}
 use Rattle.pb_semantics.proofs.JoinWell.{joins_well}
-use Rattle.pb_value.specs.Words.{kind_view}
+use Rattle.pb_kind.specs.Words.{kind_view}
 use Rattle.pb_lattice.proofs.kind.KindLattice.join.Goals as goal
 
 pub returns-clause-stands : goal.returns-clause-stands

@@ -1,7 +1,7 @@
 use Rattle.pb_semantics.specs.Kind.{no_slots, slot_at}
 use Rattle.pb_language.specs.Setting.{named_slots, with_failure_slot}
-use Rattle.pb_value.specs.KindView.{is_always, kind_view}
-use Rattle.pb_value.specs.Words.{spot_view}
+use Rattle.pb_kind.specs.KindView.{is_always, kind_view}
+use Rattle.pb_kind.specs.Words.{spot_view}
 use Rattle.pb_lattice.specs.Environments.{exit_of}
 use Rattle.pb_outlook.specs.Standing.{known_of}
 use Rattle.pb_outlook.proofs.Named.{named_over, over_none, over_some}

@@ -1,5 +1,5 @@
 use Rattle.std.proofs.Common.{refl}
-use Rattle.pb_value.specs.KindView.{kind_view}
+use Rattle.pb_kind.specs.KindView.{kind_view}
 use Rattle.pb_sig.proofs.Laws.{is_failure_shape-lawful}
 use Rattle.pb_sig.proofs.builtin.BuiltinModule.fail_shape.Goals as goal
 

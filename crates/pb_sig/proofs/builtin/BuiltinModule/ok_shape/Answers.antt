@@ -1,5 +1,5 @@
 use Rattle.std.proofs.Common.{refl}
-use Rattle.pb_value.specs.KindView.{kind_view}
+use Rattle.pb_kind.specs.KindView.{kind_view}
 use Rattle.pb_sig.proofs.Laws.{is_shape-lawful}
 use Rattle.pb_sig.proofs.builtin.BuiltinModule.ok_shape.Goals as goal
 

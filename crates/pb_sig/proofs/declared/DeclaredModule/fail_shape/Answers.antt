@@ -1,7 +1,7 @@
 use Rattle.std.proofs.Common.{refl}
 use Rattle.pb_semantics.proofs.Bools.{and-right}
 use Rattle.pb_language.specs.Cases.{is_lawful_shape}
-use Rattle.pb_value.specs.KindView.{kind_view}
+use Rattle.pb_kind.specs.KindView.{kind_view}
 use Rattle.pb_sig.proofs.Laws.{is_failure_shape-lawful}
 use Rattle.pb_sig.proofs.declared.DeclaredModule.fail_shape.Goals as goal
 

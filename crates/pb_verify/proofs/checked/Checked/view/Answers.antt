@@ -1,7 +1,7 @@
 use Rattle.std.proofs.Common.{◌≡◌, Some, None, get_or, sym, ap, ◌∙◌, subst}
 use Rattle.pb_semantics.specs.Kind.{slot_at}
-use Rattle.pb_value.specs.Found.{spot_view}
-use Rattle.pb_value.specs.KindView.{slots_view}
+use Rattle.pb_kind.specs.Found.{spot_view}
+use Rattle.pb_kind.specs.KindView.{slots_view}
 use Rattle.pb_verify.specs.Known.{HasTable, known_spot}
 use Rattle.pb_verify.specs.declared.checked.Accepted.{Accepted}
 use Rattle.pb_verify.proofs.KnownTables.{known_above, known_below, known_found, known_nowhere}

@@ -1,0 +1,2 @@
+pub mod Commands
+mod Refusals

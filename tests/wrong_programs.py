@@ -3,17 +3,19 @@
 #     python3 tests/wrong_programs.py --beside LOG, while rt ci runs and writes to LOG
 #
 # An edit says which function it makes wrong, and how (`function:`, then `file:`, `old:` and `new:`). A function is proved
-# against the contracts of what it calls and not against their bodies, so all edits are tried at once, and each has to be
-# refused at its own function, by a goal of its own. Where a function's goals are all met and it waits for that of another
-# edit, it is tried again, with edits none of which is in a function that leads to another's. That the same functions are
-# proved as they are is for rt ci to say, beside which it stands on copies of the libraries that that one builds; else it is
-# tried before the edits, over the libraries that were built last.
+# against the contracts of what it calls and not against their bodies, so all edits are tried at once, in a crate in which no
+# other function has a body (blanks.py), and each has to be refused at its own function, by a goal of its own. Where a function's
+# goals are all met and it waits for that of another edit, it is tried again, with edits none of which is in a function that leads
+# to another's; where nothing is found so, or only that a stored answer names what isn't there, alone and in the whole crate. That
+# the same functions are proved as they are is for rt ci to say, beside which it stands on copies of the libraries that that one
+# builds; else it is tried before the edits, over the libraries that were built last.
 import importlib.machinery
 import importlib.util
 import os
 import re
 import shutil
 import signal
+import subprocess
 import sys
 import tempfile
 import threading
@@ -23,6 +25,9 @@ from dataclasses import dataclass
 from pathlib import Path
 
 sys.dont_write_bytecode = True
+
+from blanks import Blanks, leave_open
+
 TOP = Path(__file__).resolve().parent.parent
 FUNCTION = re.compile(r"^( *)(?:pub(?:\(crate\))? )?fn (\w+)", re.M)
 # What a line of a function says where its proof waits for that of another.
@@ -31,11 +36,15 @@ WAITS = re.compile(r"it calls|it waits for|it passes the block")
 UNMET = re.compile(r"`search` did not prove|expected answers in ")
 # What is said of a stored answer that names what an edit took away, which says little of the contract.
 NAMES = re.compile(r"has no field|is not in scope|has no `|was not admitted")
+# What it says of a function whose goals are all met, in the whole crate and beside open proofs.
+MET = re.compile(r"proved$|no holes|depends on a hole")
 # A check that is killed, most likely for memory, is tried again.
 KILLED = (-signal.SIGKILL, 128 + signal.SIGKILL)
 TRIES = 3
 # What ./test writes behind all that rt ci says.
 ENDED = "rt ci has ended"
+# What is said where that alone is found.
+ONLY_NAMES = "refused (only since a stored answer names what the edit took away)"
 # Names of functions that say nothing of whose they are.
 OF_MANY_TYPES = {"clone", "copy", "drop", "eq", "fmt", "from", "new"}
 
@@ -124,17 +133,19 @@ class Trial:
     def __init__(self, rt, crate, edits, kept, is_told):
         self.rt, self.crate, self.edits, self.kept, self.is_told = rt, crate, edits, kept, is_told
         self.folder = Path(crate.folder)
+        # the texts without the bodies of other functions, and whose proofs are open then
+        self.blank, *self.opened = Blanks(self.folder).without({edit.function for edit in edits})
         calls = Calls(self.folder)
         self.leads = {edit: calls.from_function(edit.last_name()) for edit in edits}
 
     def run(self):
         """For each edit whether it is refused, and what to say."""
         told, left = {}, []
-        proved = "" if self.is_told else self.check({}, self.edits)
+        proved = "" if self.is_told else self.check(self.blank, self.edits, self.opened)
         for edit in self.edits:
             if edit.applied(self.folder, {}) is None:
                 told[edit] = False, "BAD EDIT: an old text doesn't stand in its file once"
-            elif not self.is_told and line_of(proved, edit) != "proved":
+            elif not self.is_told and not MET.match(line_of(proved, edit)):
                 told[edit] = False, f"BAD EDIT: {edit.function} isn't proved as it is: {last_line(proved)}"
             else:
                 left.append(edit)
@@ -146,27 +157,42 @@ class Trial:
             left = [edit for edit in left if edit not in decided]
         return [(edit, *told[edit]) for edit in self.edits]
 
-    def check(self, texts, edits):
-        """What the prover says of the edits' functions, with these texts in place of the crate's own."""
-        only = [word for edit in edits for word in ("--only", edit.function)]
+    def check(self, texts, edits, opened=()):
+        """What the prover says of the edits' functions, with these texts in place of the crate's own, and these proofs open."""
+        flags = ["--jobs", "1", *[word for edit in edits for word in ("--only", edit.function)]]
         for _ in range(TRIES):
-            ran = self.rt.checked(self.crate, texts, ["--jobs", "1", *only], self.kept)
+            ran = self.checked(texts, [*flags, "--allow-holes"] if opened else flags, opened)
             if ran.returncode not in KILLED:
                 break
             time.sleep(60)
         return ran.stdout
 
+    def checked(self, texts, flags, opened):
+        with tempfile.TemporaryDirectory(prefix="wrong-") as room:
+            for part in self.rt.rtlib.PARTS:
+                if (self.folder / part).is_dir():
+                    shutil.copytree(self.folder / part, f"{room}/{part}")
+            for path, text in texts.items():
+                Path(room, path).write_text(text, encoding="utf-8")
+            if opened:
+                leave_open(room, self.crate.name, *opened)
+            words = ["check", *self.crate.words(flags, keeps=False), "--incremental", self.kept]
+            command = [*self.rt.rtlib.guarded(), self.rt.rtlib.RATTLE, *words]
+            how = {"stdout": subprocess.PIPE, "stderr": subprocess.STDOUT, "text": True, "errors": "replace"}
+            return subprocess.run(command, cwd=room, stdin=subprocess.DEVNULL, check=False, **how)
+
     def round(self, left, are_tried):
         """What is found of some of the edits, of one at least. Once they were tried together, none leads to another."""
-        chosen, texts = [], {}
+        chosen, texts = [], self.blank
         # those that lead to the fewest first
         for edit in sorted(left, key=lambda it: len(self.leads[it])):
             fits = self.are_apart if are_tried else self.are_of_two_functions
             with_it = edit.applied(self.folder, texts) if all(fits(edit, it) for it in chosen) else None
             if with_it is not None:
                 chosen, texts = [*chosen, edit], with_it
-        output = self.check(texts, chosen)
-        decided = {edit: judged(output, edit) for edit in chosen if judged(output, edit)}
+        output = self.check(texts, chosen, self.opened)
+        found = {edit: judged(output, edit) for edit in chosen}
+        decided = {edit: it for edit, it in found.items() if it and not it[1].startswith(ONLY_NAMES)}
         return decided or {left[0]: self.judged_alone(left[0])}
 
     def are_of_two_functions(self, edit, other):
@@ -198,14 +224,14 @@ def judged(output, edit):
     """Whether the edit is refused, and what to say; none where its function only waits for the proof of another, or wasn't
     reached."""
     line = line_of(output, edit)
-    if line == "proved":
+    if MET.match(line):
         return False, "NOT REFUSED: the function is still proved with this edit"
     first = first_of(output, edit)
     is_unmet = UNMET.search(line) or (first and not NAMES.search(first))
     if not line or (WAITS.search(line) and not is_unmet):
         return None
-    only = " (only since a stored answer names what the edit took away)" if NAMES.search(first) else ""
-    return True, f"refused{only}: {(first or line)[:160]}"
+    how = ONLY_NAMES if NAMES.search(first) else "refused"
+    return True, f"{how}: {(first or line)[:160]}"
 
 
 def first_of(output, edit):

@@ -9,6 +9,7 @@
 # to another's; where nothing is found so, or only that a stored answer names what isn't there, alone and in the whole crate. That
 # the same functions are proved as they are is for rt ci to say, beside which it stands on copies of the libraries that that one
 # builds; else it is tried before the edits, over the libraries that were built last.
+import contextlib
 import importlib.machinery
 import importlib.util
 import os
@@ -249,6 +250,10 @@ class Built:
     # whether it is told elsewhere that the crate itself is proved as it is
     is_told = False
 
+    def turn(self):
+        """A time in which a crate may be tried."""
+        return contextlib.nullcontext()
+
     def prepare(self, crate):
         """Why a library of the crate can't be had; nothing where all are there."""
         for library in crate.below():
@@ -262,8 +267,30 @@ class Followed:
 
     is_told = True
 
-    def __init__(self, log, room):
+    def __init__(self, log, room, processors):
         self.log, self.room, self.copied, self.lock = Path(log), room, {}, threading.Lock()
+        self.processors, self.tried = processors, 0
+
+    @contextlib.contextmanager
+    def turn(self):
+        """While rt ci runs, which wants the other half of the memory, half of the processors are for wrong programs; then all."""
+        while not self.is_begun():
+            time.sleep(1)
+        try:
+            yield
+        finally:
+            with self.lock:
+                self.tried -= 1
+
+    def is_begun(self):
+        most = self.processors if ENDED in self.lines() else max(self.processors // 2, 1)
+        with self.lock:
+            is_free = self.tried < most
+            self.tried += is_free
+        return is_free
+
+    def lines(self):
+        return self.log.read_text(errors="replace").splitlines()
 
     def prepare(self, crate):
         for library in crate.below():
@@ -280,7 +307,7 @@ class Followed:
     def is_proved(self, library):
         """Waits until rt ci has said so, or that an earlier run on this machine proved it, or has ended."""
         while True:
-            lines = self.log.read_text(errors="replace").splitlines()
+            lines = self.lines()
             if any(line.startswith((f"rt: {library.name} proved", f"rt: {library.name} is kept: ")) for line in lines):
                 return True
             if ENDED in lines:
@@ -292,16 +319,16 @@ def tried(rt, libraries, crate, edits):
     why = libraries.prepare(crate)
     if why:
         return [(edit, False, why) for edit in edits]
-    with tempfile.TemporaryDirectory(prefix="wrong-") as kept:
+    with libraries.turn(), tempfile.TemporaryDirectory(prefix="wrong-") as kept:
         return Trial(rt, crate, edits, kept, libraries.is_told).run()
 
 
-def tell(rt, libraries, crates, workers):
+def tell(rt, libraries, crates):
     """Tries the edits of the crates, those that stand on fewer first, says what is found, and returns how many are and aren't refused."""
     work = [(it, list(map(read_edit, sorted(Path(it.folder).glob("wrong/*.edit"))))) for it in crates]
     work = sorted([it for it in work if it[1]], key=lambda it: (len(it[0].below()), -it[0].count(rb"\n")))
     passed = failed = 0
-    with ThreadPoolExecutor(workers) as pool:
+    with ThreadPoolExecutor(len(os.sched_getaffinity(0))) as pool:
         for told in pool.map(lambda it: tried(rt, libraries, *it), work):
             for edit, is_refused, text in told:
                 print(f"wrong {edit.crate}/{edit.name}: {text}", flush=True)
@@ -315,11 +342,9 @@ def main():
     rt.rtlib.guarded()
     is_beside = words[:1] == ["--beside"]
     crates = [it for it in rt.rtlib.crates_below(os.getcwd()) if is_beside or not words or it.name in words]
-    processors = len(os.sched_getaffinity(0))
     with tempfile.TemporaryDirectory(prefix="libraries-") as room:
-        libraries = Followed(words[1], room) if is_beside else Built()
-        # rt ci wants the other half of the memory
-        passed, failed = tell(rt, libraries, crates, max(processors // 2, 1) if is_beside else processors)
+        libraries = Followed(words[1], room, len(os.sched_getaffinity(0))) if is_beside else Built()
+        passed, failed = tell(rt, libraries, crates)
     print(f"{passed} passed, {failed} failed")
     return 1 if failed or not passed else 0
 

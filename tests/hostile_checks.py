@@ -23,7 +23,7 @@ TESTS = Path(__file__).resolve().parent
 PROGRAM = TESTS.parent / "crates/pb_cli/out/pb_cli"
 
 WORKERS = 2
-MOST_SECONDS = 2  # of the processor's time, since other work may take its turns
+MOST_SECONDS = 3  # of the processor's time, since other work may take its turns
 PATIENCE = 12  # seconds after which a run is ended
 MOST_MEMORY = 512 * 1024 * 1024  # of address space
 AMPLE_MEMORY = 2 * 1024 * 1024 * 1024

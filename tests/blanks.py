@@ -6,7 +6,7 @@ import re
 import shutil
 from pathlib import Path
 
-FUNCTION = re.compile(r"^( *)(?:pub(?:\(crate\))? )?fn (\w+)")
+FUNCTION = re.compile(r"^( *)(?:pub(?:\(crate\))? )?fn (\w+)", re.M)
 CYCLE = re.compile(r"^ *#\[cycle\((\w+)\)\]$")
 TYPE = re.compile(r"^(?:pub(?:\(crate\))? )?(?:struct|enum) (\w+)", re.M)
 BLOCK = re.compile(r"^(?:pub(?:\(crate\))? )?(impl|trait)\b(.*)$")

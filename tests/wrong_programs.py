@@ -27,10 +27,9 @@ from pathlib import Path
 
 sys.dont_write_bytecode = True
 
-from blanks import Blanks, leave_open
+from blanks import FUNCTION, Blanks, leave_open
 
 TOP = Path(__file__).resolve().parent.parent
-FUNCTION = re.compile(r"^( *)(?:pub(?:\(crate\))? )?fn (\w+)", re.M)
 # What a line of a function says where its proof waits for that of another.
 WAITS = re.compile(r"it calls|it waits for|it passes the block")
 # What it says where a goal of its own isn't met.

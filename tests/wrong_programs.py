@@ -6,9 +6,10 @@
 # against the contracts of what it calls and not against their bodies, so all edits are tried at once, in a crate in which no
 # other function has a body (blanks.py), and each has to be refused at its own function, by a goal of its own. Where a function's
 # goals are all met and it waits for that of another edit, it is tried again, with edits none of which is in a function that leads
-# to another's; where nothing is found so, or only that a stored answer names what isn't there, alone and in the whole crate. That
-# the same functions are proved as they are is for rt ci to say, beside which it stands on copies of the libraries that that one
-# builds; else it is tried before the edits, over the libraries that were built last.
+# to another's; where nothing is found so, alone and in the whole crate. Where a stored answer names what isn't there, and nothing
+# else is found, the function is tried as it is: if it is proved, the name went with the edit, and else that one is tried in the
+# whole crate. That the same functions are proved as they are in the whole crate is for rt ci to say, beside which it stands on
+# copies of the libraries that that one builds; else it is tried before the edits, over the libraries that were built last.
 import contextlib
 import importlib.machinery
 import importlib.util
@@ -192,8 +193,14 @@ class Trial:
                 chosen, texts = [*chosen, edit], with_it
         output = self.check(texts, chosen, self.opened)
         found = {edit: judged(output, edit) for edit in chosen}
-        decided = {edit: it for edit, it in found.items() if it and not it[1].startswith(ONLY_NAMES)}
-        return decided or {left[0]: self.judged_alone(left[0])}
+        found = {edit: it for edit, it in found.items() if it}
+        decided = {edit: it for edit, it in found.items() if not it[1].startswith(ONLY_NAMES)}
+        return decided or self.by_names_of_edits(found) or {left[0]: self.judged_alone(left[0])}
+
+    def by_names_of_edits(self, found):
+        """Those whose functions are proved as they are without the bodies of others, so that the names went with the edits."""
+        output = self.check(self.blank, found, self.opened) if found else ""
+        return {edit: it for edit, it in found.items() if MET.match(line_of(output, edit))}
 
     def are_of_two_functions(self, edit, other):
         """Whether either may be refused by goals of its own beside the other, by whose names they are told apart; an edit of a
@@ -315,11 +322,13 @@ class Followed:
 
 
 def tried(rt, libraries, crate, edits):
+    """What is found of each edit, and how many seconds that took."""
     why = libraries.prepare(crate)
     if why:
-        return [(edit, False, why) for edit in edits]
+        return [(edit, False, why) for edit in edits], 0
     with libraries.turn(), tempfile.TemporaryDirectory(prefix="wrong-") as kept:
-        return Trial(rt, crate, edits, kept, libraries.is_told).run()
+        begun = time.monotonic()
+        return Trial(rt, crate, edits, kept, libraries.is_told).run(), time.monotonic() - begun
 
 
 def tell(rt, libraries, crates):
@@ -328,10 +337,12 @@ def tell(rt, libraries, crates):
     work = sorted([it for it in work if it[1]], key=lambda it: (len(it[0].below()), -it[0].count(rb"\n")))
     passed = failed = 0
     with ThreadPoolExecutor(len(os.sched_getaffinity(0))) as pool:
-        for told in pool.map(lambda it: tried(rt, libraries, *it), work):
+        found = pool.map(lambda it: tried(rt, libraries, *it), work)
+        for (crate, _), (told, seconds) in zip(work, found):
             for edit, is_refused, text in told:
                 print(f"wrong {edit.crate}/{edit.name}: {text}", flush=True)
                 passed, failed = passed + is_refused, failed + (not is_refused)
+            print(f"(wrong {crate.name}: {seconds:.0f} s)", flush=True)
     return passed, failed
 
 

@@ -7,9 +7,9 @@ use Rattle.std.proofs.lemmas.Option.{slice_get-map, slice_get_within, get_or_fro
 use Rattle.pb_language.specs.World.{HostVariables}
 use Rattle.pb_inventory.specs.Inventory.{inventory_view}
 use Rattle.pb_strategy.specs.History.{RunState}
-use Rattle.pb_strategy.specs.Recaps.{nothing}
+use Rattle.pb_outcome.specs.Recaps.{nothing}
 use Rattle.pb_strategy.specs.Tally.{recap_of}
-use Rattle.pb_strategy.specs.declared.recap.Recap.{Recap}
+use Rattle.pb_outcome.specs.declared.recap.Recap.{Recap}
 use Rattle.pb_cli.specs.Texts.{recap_line, recap_lines, run_lines, host_names, some_failed}
 
 abbrev name_in : HostVariables → List ℕ

@@ -9,7 +9,7 @@ use Rattle.pb_verify.specs.declared.checked.Accepted.{Accepted}
 use Rattle.pb_verify.specs.declared.refusal.Refusal.{Refusal}
 use Rattle.pb_verify.specs.Codes.{code_text}
 use Rattle.pb_strategy.specs.History.{RunState}
-use Rattle.pb_strategy.specs.declared.recap.Recap.{Recap}
+use Rattle.pb_outcome.specs.declared.recap.Recap.{Recap}
 use Rattle.pb_cli.specs.declared.judge.Fault.{Fault}
 use Rattle.pb_cli.specs.declared.judge.Fault.TheVariants.{Refused, NoMemory}
 

@@ -14,7 +14,7 @@ use Rattle.pb_semantics.proofs.Names.{same_name}
 use Rattle.pb_language.specs.Scope.{Scope}
 use Rattle.pb_syntax.specs.Aliases.{Trees}
 use Rattle.pb_expr.specs.Found.{AreRight, IsFoundOf}
-use Rattle.pb_expr.specs.declared.inferred.Inferred.{Inferred}
+use Rattle.pb_forms.specs.declared.inferred.Inferred.{Inferred}
 
 abbrev pub Entry : Type 0
 Entry = String Global × Inferred

@@ -9,9 +9,10 @@ use Rattle.pb_language.specs.Narrow.{any_teaches, narrow, teaches}
 use Rattle.pb_language.specs.Scope.{Scope}
 use Rattle.pb_language.proofs.Untaught.{narrow_untaught}
 use Rattle.pb_kind.specs.KindView.{kind_view}
-use Rattle.pb_expr.specs.Found.{AreFound, IsFound, IsFoundOf, are_bools, are_plain_kinds, fault_in, faults_in, joined_in, part_fault, part_faults_in}
-use Rattle.pb_expr.specs.FitView.{fault_view}
-use Rattle.pb_expr.specs.declared.inferred.Inferred.{Inferred}
+use Rattle.pb_expr.specs.Found.{AreFound, IsFound, IsFoundOf}
+use Rattle.pb_forms.specs.InferredView.{are_bools, are_plain_kinds, fault_in, faults_in, joined_in, part_fault, part_faults_in}
+use Rattle.pb_forms.specs.FitView.{fault_view}
+use Rattle.pb_forms.specs.declared.inferred.Inferred.{Inferred}
 
 pub found-kinds : (c : Scope) (es : Expressions) (is : List Inferred) → AreFound c es is → items_kind c es ≡ joined_in is
 found-kinds c no_expressions [] h = refl

@@ -1,13 +1,5 @@
-pub mod Findings
-pub mod Answered
-pub mod Placed
 pub mod Untold
 pub mod Ways
-pub mod NewCases
-pub mod Records
-pub mod BothTaught
-pub mod Seen
 pub mod InOrder
-pub mod NamedRoots
 pub mod FoundParts
 pub mod AskedTrees

@@ -7,9 +7,9 @@ use Rattle.pb_language.specs.Expression.{Name, Root, variable, alias, other, mem
 use Rattle.pb_language.specs.World.{member_of}
 use Rattle.pb_language.specs.Scope.{Scope, Present, each_spot, has_view, host_spot, put_view, resolved, unnamed, view_of, with_taught}
 use Rattle.pb_language.specs.Narrow.{teach, teach_host, teach_member}
-use Rattle.pb_expr.specs.Before.{Before}
-use Rattle.pb_expr.specs.TaughtView.{scope_view, untaught}
-use Rattle.pb_expr.specs.declared.scope.Taught.{Taught}
+use Rattle.pb_taught.specs.Before.{Before}
+use Rattle.pb_taught.specs.TaughtView.{scope_view, untaught}
+use Rattle.pb_taught.specs.declared.scope.Taught.{Taught}
 
 -- a path that is there, and where the paths that are there are those
 abbrev pub shown_at : Root → List Name → Present

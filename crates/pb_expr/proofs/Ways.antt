@@ -3,9 +3,9 @@ use Rattle.std.proofs.Common.{◌≡◌, List, [], ◌∷◌, ◌++◌, length, 
 use Rattle.pb_language.specs.Expression.{Name, Status, Expression, path_status, Root, Expressions, no_expressions, expression}
 use Rattle.pb_language.specs.Narrow.{answers, cases_with, changed_at, changed_spot, narrow, narrow_some, on_results, teach}
 use Rattle.pb_language.specs.Scope.{Scope, both_scopes}
-use Rattle.pb_expr.specs.Before.{Before}
-use Rattle.pb_expr.specs.TaughtView.{scope_view, scopes_view, taught_by}
-use Rattle.pb_expr.specs.declared.scope.Taught.{Taught}
+use Rattle.pb_taught.specs.Before.{Before}
+use Rattle.pb_taught.specs.TaughtView.{scope_view, scopes_view, taught_by}
+use Rattle.pb_taught.specs.declared.scope.Taught.{Taught}
 
 -- what is known on each way: that operand had the answer, and those before it hadn't
 abbrev pub ways : Scope → Expressions → Bool → List Scope

@@ -1,9 +1,4 @@
-pub mod Before
-pub mod OwnScope
-pub mod SpotFound
-pub mod TaughtView
 pub mod ChangeView
-pub mod FitView
 pub mod Found
-pub mod Joined
+pub mod FaultFound
 pub mod Words

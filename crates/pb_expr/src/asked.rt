@@ -4,13 +4,13 @@ ghost use Rattle.std.specs.Prelude.{◌≡◌, IfOk, IfSome, OnOk, Some, string_
 ghost use Rattle.pb_language.specs.Expression.{Expression};
 ghost use Rattle.pb_language.specs.Scope.{Scope};
 ghost use Rattle.pb_syntax.specs.Aliases.{Trees};
-ghost use Rattle.pb_expr.specs.Before.{Before};
+ghost use Rattle.pb_taught.specs.Before.{Before};
 ghost use Rattle.pb_expr.specs.Found.{AreRight, IsFound, IsFoundOf, IsRight};
-ghost use Rattle.pb_expr.specs.TaughtView.{scope_view};
+ghost use Rattle.pb_taught.specs.TaughtView.{scope_view};
 
-use crate::inferred::{Inferred, found_copied};
-use crate::known::Known;
-use crate::scope::Taught;
+use pb_forms::inferred::{Inferred, found_copied};
+use pb_taught::known::Known;
+use pb_taught::scope::Taught;
 use std::alloc::{AllocError, Global};
 use std::cell::Cell;
 use std::collections::BTreeMap;

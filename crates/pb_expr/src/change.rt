@@ -5,22 +5,22 @@ ghost use Rattle.pb_language.specs.Expression.{Expression, alias, item_host, oth
 ghost use Rattle.pb_language.specs.Kinds.{kind_of, root_spot};
 ghost use Rattle.pb_language.specs.Narrow.{teach, teach_host};
 ghost use Rattle.pb_language.specs.Scope.{is_certain, other_spot, own_spot, spot_kind};
-ghost use Rattle.pb_kind.specs.Words.{is_always, kind_view};
+ghost use Rattle.pb_kind.specs.Words.{is_always, kind_view, slot_given};
 ghost use Rattle.pb_syntax.specs.ExprView.{names_of, root_view};
-ghost use Rattle.pb_expr.specs.Before.{Before};
+ghost use Rattle.pb_taught.specs.Before.{Before};
 ghost use Rattle.pb_expr.specs.ChangeView.{change_view};
-ghost use Rattle.pb_expr.specs.Found.{alias_tree};
-ghost use Rattle.pb_expr.specs.TaughtView.{scope_view, slot_given};
+ghost use Rattle.pb_taught.specs.TaughtView.{alias_tree};
+ghost use Rattle.pb_taught.specs.TaughtView.{scope_view};
 
-use crate::defined::defined_at;
-use crate::inferred::Inferred;
-use crate::known::Known;
 use crate::roots::item_slot;
-use crate::scope::{Learned, Taught, alias_kind, own_slot};
-use crate::teach::answered_at;
-use crate::views::{copied, host_slot, place_slot, teach_host};
+use pb_forms::defined::defined_at;
+use pb_forms::inferred::Inferred;
+use pb_forms::teach::answered_at;
 use pb_kind::{Kind, Slot};
 use pb_syntax::{Path, Root, Status, Term};
+use pb_taught::known::Known;
+use pb_taught::scope::{Learned, Taught, alias_kind, own_slot};
+use pb_taught::views::{copied, host_slot, place_slot, teach_host};
 use std::alloc::{AllocError, Global};
 
 /// What a test showed of the value at the end of a path.

@@ -5,17 +5,18 @@ ghost use Rattle.pb_language.specs.Expansion.{expanded};
 ghost use Rattle.pb_language.specs.Words.{fault, kind_of as kind_found};
 ghost use Rattle.pb_kind.specs.Words.{kind_view};
 ghost use Rattle.pb_syntax.specs.ExprView.{expr_view};
-ghost use Rattle.pb_expr.specs.FitView.{fault_found, fault_view};
-ghost use Rattle.pb_expr.specs.TaughtView.{scope_view};
+ghost use Rattle.pb_expr.specs.FaultFound.{fault_found};
+ghost use Rattle.pb_forms.specs.FitView.{fault_view};
+ghost use Rattle.pb_taught.specs.TaughtView.{scope_view};
 
 use crate::asked::{Asked, all_turns, inquiry_of};
 use crate::inference::infer;
-use crate::inferred::Inferred;
-use crate::known::Known;
-use crate::scope::Taught;
-use crate::unfit::Unfit;
+use pb_forms::inferred::Inferred;
+use pb_forms::unfit::Unfit;
 use pb_kind::Kind;
 use pb_syntax::Expr;
+use pb_taught::known::Known;
+use pb_taught::scope::Taught;
 use std::alloc::{AllocError, AllocFailed, Global};
 use thiserror::Error;
 

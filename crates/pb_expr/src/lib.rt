@@ -12,31 +12,18 @@
 #![tactic(auto)]
 
 mod asked;
-mod both;
 pub mod change;
-pub mod defined;
 pub mod fit;
-mod forms;
 mod inference;
-pub mod inferred;
-pub mod kinds;
-pub mod known;
-pub mod literal;
 pub mod narrow;
+mod root_faults;
 mod roots;
-pub mod scope;
 mod steps;
-pub mod teach;
-pub mod unfit;
-mod views;
 
 pub use fit::{KindFault, infer_kind, kind_of};
-pub use inferred::Inferred;
-pub use known::Known;
-pub use literal::literal_kind;
+pub use pb_forms::{Inferred, Unfit, literal_kind};
 pub use pb_syntax::{
     Comparison, Expr, ExprFault, Member, Names, Path, Root, Status, Term, parse_expr,
     parse_template,
 };
-pub use scope::Taught;
-pub use unfit::Unfit;
+pub use pb_taught::{Known, Taught};

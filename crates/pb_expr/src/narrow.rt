@@ -10,17 +10,17 @@ ghost use Rattle.pb_kind.specs.Words.{kind_view};
 ghost use Rattle.pb_syntax.specs.ExprView.{expr_view, exprs_view, names_of, root_view};
 ghost use Rattle.pb_syntax.specs.ExprView.{status_view, term_view};
 ghost use Rattle.pb_syntax.specs.Aliases.{Trees};
-ghost use Rattle.pb_expr.specs.Before.{Before};
-ghost use Rattle.pb_expr.specs.Found.{alias_tree};
-ghost use Rattle.pb_expr.specs.TaughtView.{scope_view, scopes_view, taught_by};
+ghost use Rattle.pb_taught.specs.Before.{Before};
+ghost use Rattle.pb_taught.specs.TaughtView.{alias_tree};
+ghost use Rattle.pb_taught.specs.TaughtView.{scope_view, scopes_view, taught_by};
 
 use crate::asked::{all_turns, here_anew, inquiry_of};
 use crate::change::{Change, teach};
 use crate::inference::narrow_here;
-use crate::inferred::Inferred;
-use crate::known::Known;
-use crate::scope::{Taught, both, names_copied};
+use pb_forms::inferred::Inferred;
 use pb_syntax::{Expr, Member, Path, Root, Status, Term};
+use pb_taught::known::Known;
+use pb_taught::scope::{Taught, both, names_copied};
 use std::alloc::{AllocError, Global};
 use std::sync::Arc;
 

@@ -5,18 +5,18 @@ ghost use Rattle.pb_language.specs.Expansion.{expanded_root};
 ghost use Rattle.pb_language.specs.Fit.{path_fault};
 ghost use Rattle.pb_language.specs.Scope.{is_present as is_shown};
 ghost use Rattle.pb_language.specs.Words.{spot_kind, steps_fault};
-ghost use Rattle.pb_kind.specs.Words.{kind_view, slots_view};
+ghost use Rattle.pb_kind.specs.Words.{kind_view, slot_given, slots_view};
 ghost use Rattle.pb_syntax.specs.ExprView.{names_of, root_view};
-ghost use Rattle.pb_expr.specs.FitView.{LeadsTo, certain, fault_view};
-ghost use Rattle.pb_expr.specs.TaughtView.{scope_view, slot_given};
+ghost use Rattle.pb_forms.specs.FitView.{LeadsTo, certain, fault_view};
+ghost use Rattle.pb_taught.specs.TaughtView.{scope_view};
 
-use crate::known::Known;
 use crate::roots::AtRoot;
-use crate::scope::{Taught, is_present};
-use crate::unfit::{Unfit, first_of};
+use pb_forms::unfit::{Unfit, first_of};
 use pb_kind::below::find;
 use pb_kind::{Kind, Slot, Slots};
 use pb_syntax::Path;
+use pb_taught::known::Known;
+use pb_taught::scope::{Taught, is_present};
 
 // What a path that is read is asked for, little where a test showed that it is there.
 pub(crate) fn path_unfit<K: Known>(

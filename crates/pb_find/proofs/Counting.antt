@@ -3,7 +3,7 @@ use Rattle.std.proofs.Common.{◌≡◌, ℕ, suc, ◌+◌, nat_eq, cond, List, 
 use Rattle.std.proofs.lemmas.List.{append-nil, drop_all, take_all}
 use Rattle.pb_language.specs.Task.{Task}
 use Rattle.pb_language.specs.Walk.{Visit}
-use Rattle.pb_way.specs.Places.{calls_at, places_calls}
+use Rattle.pb_route.specs.Places.{calls_at, places_calls}
 
 -- the first node of a place, and one that is no first
 pub first_counted : (vs : List Visit) (t : Task) (ts : List Task) (place next here so_far whole : ℕ) → t.place ≡ place → nat_eq place next ≡ true → here ≡ calls_at vs t t.action

@@ -19,12 +19,12 @@ use Rattle.pb_lattice.specs.Shared.{Shared}
 use Rattle.pb_lattice.specs.declared.environment.Environment.{Environment}
 use Rattle.pb_lattice.proofs.Exits.{stands_well}
 use Rattle.pb_outlook.specs.Standing.{known_of}
-use Rattle.pb_expr.specs.FitView.{fault_view}
-use Rattle.pb_expr.specs.declared.unfit.Unfit.{Unfit}
+use Rattle.pb_forms.specs.FitView.{fault_view}
+use Rattle.pb_forms.specs.declared.unfit.Unfit.{Unfit}
 use Rattle.pb_walks.specs.Agree.{SlotsAgree}
 use Rattle.pb_walks.specs.Notified.{AllNameHandlers}
 use Rattle.pb_walks.proofs.Agreeing.{slots_own, slots_through}
-use Rattle.pb_way.specs.Visited.{nodes_visits}
+use Rattle.pb_route.specs.Visited.{nodes_visits}
 use Rattle.pb_find.specs.Finds.{Finds, offence_of}
 use Rattle.pb_find.specs.Ways.{nothing_known, value_at}
 use Rattle.pb_find.specs.Written.{Written}

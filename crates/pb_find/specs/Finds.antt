@@ -7,7 +7,7 @@ use Rattle.pb_language.specs.Tables.{visits_below, with_visits}
 use Rattle.pb_language.specs.Verdict.{Refusal, code_of, lesser, visits_offence}
 use Rattle.pb_language.specs.Walk.{Visit}
 use Rattle.pb_kind.specs.KindView.{slots_view}
-use Rattle.pb_expr.specs.FitView.{fault_view}
+use Rattle.pb_forms.specs.FitView.{fault_view}
 use Rattle.pb_walks.specs.Agree.{SlotsAgree}
 use Rattle.pb_walks.specs.Notified.{AllNameHandlers}
 use Rattle.pb_find.specs.declared.find.Find.{Find}

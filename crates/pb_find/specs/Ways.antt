@@ -6,9 +6,9 @@ use Rattle.pb_language.specs.Walk.{Visit}
 use Rattle.pb_lattice.specs.Environments.{exit_of}
 use Rattle.pb_lattice.specs.Shared.{Shared}
 use Rattle.pb_lattice.specs.declared.environment.Environment.{Environment}
-use Rattle.pb_visit.specs.Station.{station_task}
-use Rattle.pb_visit.specs.declared.station.Station.{Station}
-use Rattle.pb_way.specs.Visited.{nodes_visits}
+use Rattle.pb_route.specs.Station.{station_task}
+use Rattle.pb_route.specs.declared.station.Station.{Station}
+use Rattle.pb_route.specs.Visited.{nodes_visits}
 
 abbrev pub Visits : Type 0
 Visits = List Visit

@@ -4,14 +4,15 @@ ghost use Rattle.std.specs.Prelude.{map, max, nat_eq, slice_index, suc, vec_len}
 ghost use Rattle.pb_language.specs.Give.{retries_of};
 ghost use Rattle.pb_language.specs.Walk.{visits_at};
 ghost use Rattle.pb_lattice.specs.Words.{Stands, exit_of};
-ghost use Rattle.pb_visit.specs.Words.{IsStation, station_task};
-ghost use Rattle.pb_way.specs.Places.{calls_at, items_at, length_at, places_calls};
+ghost use Rattle.pb_route.specs.Words.{IsStation, station_task};
+ghost use Rattle.pb_route.specs.Places.{calls_at, items_at, length_at, places_calls};
 ghost use Rattle.pb_find.specs.Ways.{Visits, way_visits};
 
 use pb_lattice::{Environment, Environments};
 use pb_outlook::Outlook;
+use pb_route::Station;
 use pb_task::Work;
-use pb_visit::{Station, Visit, length};
+use pb_visit::{Visit, length};
 use std::alloc::{AllocError, Global};
 
 /// The most calls that a host hands out on its way through a play, where that is known at its

@@ -9,7 +9,7 @@ use Rattle.pb_language.specs.Narrow.{narrow, narrow_each}
 use Rattle.pb_language.specs.Plays.{append_expressions}
 use Rattle.pb_language.specs.Scope.{Scope}
 use Rattle.pb_syntax.specs.Aliases.{Trees}
-use Rattle.pb_expr.proofs.Findings.{fault-turn}
+use Rattle.pb_forms.proofs.Findings.{fault-turn}
 use Rattle.pb_fit.specs.Asked.{condition_fault}
 
 abbrev kind_fault : Scope → Expression → Option Fault

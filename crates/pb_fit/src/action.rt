@@ -5,7 +5,8 @@ ghost use Rattle.pb_language.specs.Judgement.{text_fault};
 ghost use Rattle.pb_language.specs.Plays.{action_of, conditions_of, expanded_option};
 ghost use Rattle.pb_language.specs.Words.{Registry, action_fault, conditions_fault, first};
 ghost use Rattle.pb_language.specs.Words.{part_named};
-ghost use Rattle.pb_expr.specs.Words.{fault_view, scope_view};
+ghost use Rattle.pb_forms.specs.Words.{fault_view};
+ghost use Rattle.pb_taught.specs.Words.{scope_view};
 ghost use Rattle.pb_task.specs.Words.{Resolves, asserted_view, work_view};
 ghost use Rattle.pb_template.specs.Words.{entries_view};
 

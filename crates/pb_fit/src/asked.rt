@@ -4,11 +4,12 @@ ghost use Rattle.pb_language.specs.Expansion.{expanded};
 ghost use Rattle.pb_language.specs.Judgement.{text_fault};
 ghost use Rattle.pb_language.specs.Words.{asks, first, wrong_kind};
 ghost use Rattle.pb_syntax.specs.Words.{expr_view};
-ghost use Rattle.pb_expr.specs.Words.{fault_view, scope_view};
+ghost use Rattle.pb_forms.specs.Words.{fault_view};
+ghost use Rattle.pb_taught.specs.Words.{scope_view};
 ghost use Rattle.pb_fit.specs.Asked.{condition_fault, value_fault};
 
-use pb_expr::kinds::is_text;
 use pb_expr::{Known, Taught, Unfit, infer_kind};
+use pb_forms::kinds::is_text;
 use pb_syntax::Expr;
 use std::alloc::{AllocError, Global};
 

@@ -6,7 +6,8 @@ ghost use Rattle.pb_language.specs.Narrow.{narrow_each};
 ghost use Rattle.pb_language.specs.Plays.{expanded_list};
 ghost use Rattle.pb_language.specs.Words.{conditions_fault, first};
 ghost use Rattle.pb_syntax.specs.Words.{expr_view, exprs_view};
-ghost use Rattle.pb_expr.specs.Words.{fault_view, scope_view, untaught};
+ghost use Rattle.pb_forms.specs.Words.{fault_view};
+ghost use Rattle.pb_taught.specs.Words.{scope_view, untaught};
 ghost use Rattle.pb_fit.specs.Asked.{condition_fault};
 
 use crate::asked::condition_unfit;

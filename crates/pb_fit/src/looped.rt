@@ -5,11 +5,12 @@ ghost use Rattle.pb_language.specs.Judgement.{loop_fault};
 ghost use Rattle.pb_language.specs.Words.{kind_of};
 ghost use Rattle.pb_kind.specs.Words.{kind_view};
 ghost use Rattle.pb_syntax.specs.Words.{expr_view};
-ghost use Rattle.pb_expr.specs.Words.{fault_view, scope_view};
+ghost use Rattle.pb_forms.specs.Words.{fault_view};
+ghost use Rattle.pb_taught.specs.Words.{scope_view};
 
 use crate::asked::asked;
-use pb_expr::kinds::is_list;
 use pb_expr::{Inferred, Known, Taught, infer_kind};
+use pb_forms::kinds::is_list;
 use pb_syntax::Expr;
 use std::alloc::{AllocError, Global};
 

@@ -2,7 +2,7 @@
 ghost use Rattle.std.specs.Prelude.{◌≡◌, Bool, IfOk};
 ghost use Rattle.pb_language.specs.Expansion.{parts_expanded};
 ghost use Rattle.pb_language.specs.Words.{parts_set};
-ghost use Rattle.pb_expr.specs.Words.{scope_view};
+ghost use Rattle.pb_taught.specs.Words.{scope_view};
 ghost use Rattle.pb_template.specs.Words.{entries_view};
 ghost use Rattle.pb_fit.specs.SetsView.{sets_view};
 

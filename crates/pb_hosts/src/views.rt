@@ -10,7 +10,7 @@ ghost use Rattle.pb_value.specs.Words.{fields_view};
 ghost use Rattle.pb_inventory.specs.Words.{inventory_view};
 ghost use Rattle.pb_hosts.specs.Tables.{slots_of_each, views_with, with_layer};
 
-use pb_expr::literal_kind;
+use pb_forms::literal_kind;
 use pb_inventory::Inventory;
 use pb_kind::below::find;
 use pb_kind::{Kind, Slot, Slots, copy_slots, put_slot};

@@ -2,4 +2,4 @@ pub mod CaseSteps
 pub mod Judged
 pub mod LawfulShapes
 pub mod TasksRead
-pub mod SharedResults
+pub mod Sharing

@@ -1,4 +1,4 @@
 pub mod Ends
 pub mod Surrounded
-pub mod Worked
+pub mod Results
 pub mod Words

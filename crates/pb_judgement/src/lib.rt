@@ -1,7 +1,7 @@
 // With which results a task may go on and with which it may fail, and of which kind what it
 // registers then is.
 //
-//     let (results, worked) = worked.results_of(alloc, &task.work, manner)?; // and those alike
+//     let (results, shared) = shared.results_of(alloc, &task.work, manner)?; // and those alike
 //     if let Some(failing) = &results.ends.failing {
 //         let registered = looped(alloc, failing, &items)?; // of a task with a `loop`
 //     }
@@ -12,11 +12,11 @@ pub mod ends;
 pub mod laws;
 pub mod own;
 pub mod registered;
+pub mod results;
 mod shapes;
 mod status;
-pub mod worked;
 
 pub use ends::{Ends, Manner, ends_of};
 pub use own::{Own, own_of};
 pub use registered::looped;
-pub use worked::{Results, Worked};
+pub use results::{Results, SharedResults};

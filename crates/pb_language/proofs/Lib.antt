@@ -1,5 +1,6 @@
 pub mod Same
 pub mod WithSlot
+pub mod Placed
 pub mod WellKinds
 pub mod Paths
 pub mod Opaque

@@ -10,9 +10,9 @@ use Rattle.pb_language.specs.Task.{Task}
 use Rattle.pb_language.specs.Walk.{Visit, visits_at}
 use Rattle.pb_lattice.specs.Environments.{is_dead}
 use Rattle.pb_outlook.specs.Standing.{known_of}
-use Rattle.pb_visit.specs.Station.{station_task}
-use Rattle.pb_visit.specs.declared.station.Station.{Station}
-use Rattle.pb_way.specs.Visited.{nodes_visits}
+use Rattle.pb_route.specs.Station.{station_task}
+use Rattle.pb_route.specs.declared.station.Station.{Station}
+use Rattle.pb_route.specs.Visited.{nodes_visits}
 use Rattle.pb_lasting.specs.Losses.{lost_among, lost_at, reached}
 
 later_of_two : (q : Bool) (p a b : ℕ) → cond q (max a b) (max p (max a b)) ≡ max (cond q a (max p a)) b

@@ -11,7 +11,7 @@ use crate::nodes::{known_next, latest, nodes_by_place, past, past_all};
 use pb_hosts::Lasting;
 use pb_hosts::lasting::NEVER;
 use pb_lattice::{Environment, Environments};
-use pb_visit::Station;
+use pb_route::Station;
 use std::alloc::{AllocError, Global};
 
 /// From which places of a play on a host has its variables for certain, where that is known at its

@@ -9,7 +9,7 @@ use Rattle.pb_language.specs.Setting.{Setting, named_slots, scope_at, with_failu
 use Rattle.pb_kind.specs.KindView.{is_always, kind_view}
 use Rattle.pb_kind.specs.declared.kind.Kind.{Kind}
 use Rattle.pb_kind.specs.declared.kind.Slot.{Slot}
-use Rattle.pb_expr.specs.Before.{Before}
+use Rattle.pb_taught.specs.Before.{Before}
 use Rattle.pb_outlook.specs.declared.standing.Given.{Given}
 
 -- what is known of the failure in a `rescue` part

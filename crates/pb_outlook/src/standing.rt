@@ -14,9 +14,10 @@ ghost use Rattle.pb_outlook.specs.Standing.{known_of, own_names, with_given, wit
 ghost use Rattle.pb_outlook.specs.Standing.{with_result};
 
 use crate::outlook::Outlook;
-use pb_expr::{Expr, Known};
 use pb_kind::{Kind, Slot};
 use pb_lattice::{Environment, Environments};
+use pb_syntax::Expr;
+use pb_taught::Known;
 use pb_vars::InScope;
 use std::alloc::AllocError;
 

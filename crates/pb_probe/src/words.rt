@@ -1,7 +1,7 @@
 // The words for kinds and faults.
 ghost use Rattle.std.specs.Prelude.{◌≡◌};
 ghost use Rattle.pb_kind.specs.Words.{kind_view};
-ghost use Rattle.pb_expr.specs.Words.{fault_view};
+ghost use Rattle.pb_forms.specs.Words.{fault_view};
 ghost use Rattle.pb_probe.specs.Said.{fault_said, sort_said};
 
 use pb_expr::Unfit;

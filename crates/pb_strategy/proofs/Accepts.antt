@@ -23,9 +23,9 @@ use Rattle.pb_strategy.specs.Built.{is_lone}
 use Rattle.pb_strategy.specs.Readiness.{run_of_ready}
 use Rattle.pb_strategy.specs.declared.runnable.Ready.{Ready}
 use Rattle.pb_strategy.proofs.Alone.{Alone-lone}
-use Rattle.pb_strategy.specs.Events.{event_data}
+use Rattle.pb_outcome.specs.Events.{event_data}
 use Rattle.pb_strategy.specs.Standing.{tasks_in, first_name, host_of, opening_run, plain_after}
-use Rattle.pb_strategy.specs.declared.event.Event.{Event}
+use Rattle.pb_outcome.specs.declared.event.Event.{Event}
 
 abbrev pub line_in : List Play → ℕ
 line_in [] = 0

@@ -3,14 +3,14 @@ use Rattle.std.proofs.Common.{◌≡◌, ◌==◌, ℕ, List, [], ◌∷◌, ◌
 use Rattle.std.specs.Global.{Vec}
 use Rattle.pb_strategy.specs.Drives.{AreAnswered, Drives, IsJobDone, ends, goes_on}
 use Rattle.pb_strategy.specs.History.{RunState, after, IsAfterGive, IsAfterTake, is_ended, is_job, is_over, is_stopped}
-use Rattle.pb_strategy.specs.Jobs.{ticket_out}
-use Rattle.pb_strategy.specs.declared.answer.Answer.{Answer}
-use Rattle.pb_strategy.specs.declared.answer.Call.{Call}
-use Rattle.pb_strategy.specs.declared.answer.Job.{Job}
-use Rattle.pb_strategy.specs.declared.event.Event.{Event}
-use Rattle.pb_strategy.specs.declared.event.Event.TheVariants.{Start, Give, Turn}
-use Rattle.pb_strategy.specs.declared.event.Taken.{Taken}
-use Rattle.pb_strategy.specs.declared.event.Taken.TheVariants as taken
+use Rattle.pb_outcome.specs.Jobs.{ticket_out}
+use Rattle.pb_outcome.specs.declared.answer.Answer.{Answer}
+use Rattle.pb_outcome.specs.declared.answer.Call.{Call}
+use Rattle.pb_outcome.specs.declared.answer.Job.{Job}
+use Rattle.pb_outcome.specs.declared.event.Event.{Event}
+use Rattle.pb_outcome.specs.declared.event.Event.TheVariants.{Start, Give, Turn}
+use Rattle.pb_outcome.specs.declared.event.Taken.{Taken}
+use Rattle.pb_outcome.specs.declared.event.Taken.TheVariants as taken
 use Rattle.pb_strategy.proofs.Histories.{is_stopped-more, or-false}
 use Rattle.pb_strategy.proofs.Jobs.{ticket_out-push}
 

@@ -4,17 +4,17 @@ use Rattle.pb_strategy.specs.History.{RunState, after, is_stop, is_stopped, is_t
 use Rattle.pb_strategy.specs.Inside.{IsMachine, IsRun, run_state, recaps_of, tickets_of, handed_of, is_phase_over, is_phase_stopped}
 use Rattle.pb_value.specs.View.{view}
 use Rattle.pb_strategy.specs.declared.runnable.Ready.{Ready}
-use Rattle.pb_strategy.specs.declared.host.HostState.{HostState}
-use Rattle.pb_strategy.specs.declared.recap.Recap.{Recap}
+use Rattle.pb_outcome.specs.declared.host.HostState.{HostState}
+use Rattle.pb_outcome.specs.declared.recap.Recap.{Recap}
 use Rattle.pb_strategy.specs.declared.run.Phase.{Phase}
 use Rattle.pb_strategy.specs.declared.run.Phase.TheVariants as phase
-use Rattle.pb_strategy.specs.Jobs.{ticket_out}
+use Rattle.pb_outcome.specs.Jobs.{ticket_out}
 use Rattle.pb_strategy.specs.Tally.{IsTally}
 use Rattle.pb_inventory.specs.Inventory.{inventory_view}
 use Rattle.std.proofs.lemmas.List.{length-map, length_push}
 use Rattle.pb_plain.specs.Books.{plays_of}
-use Rattle.pb_strategy.specs.declared.event.Event.{Event}
-use Rattle.pb_strategy.specs.declared.event.Event.TheVariants.{Turn, Stop}
+use Rattle.pb_outcome.specs.declared.event.Event.{Event}
+use Rattle.pb_outcome.specs.declared.event.Event.TheVariants.{Turn, Stop}
 use Rattle.pb_strategy.specs.declared.run.Run.TheInside.{Inside}
 
 pub or-false : (a : Bool) → a || false ≡ a

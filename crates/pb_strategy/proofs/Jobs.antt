@@ -6,10 +6,10 @@ use Rattle.std.proofs.Math.Seq.{map-set_same}
 use Rattle.std.proofs.lemmas.List.{map-set, get_or-set_same, get_or-set_other, get_or-replicate, get_or_past, length-replicate}
 use Rattle.std.proofs.lemmas.List.Sums.{sum_by-cons}
 use Rattle.std.proofs.lemmas.Option.{get_or_from_slice_get, slice_get-map}
-use Rattle.pb_strategy.specs.Jobs.{out_after, out_from, ticket_out, ticket_in}
+use Rattle.pb_outcome.specs.Jobs.{out_after, out_from, ticket_out, ticket_in}
 use Rattle.pb_strategy.specs.Inside.{tickets_of}
-use Rattle.pb_strategy.specs.declared.event.Event.{Event}
-use Rattle.pb_strategy.specs.declared.host.HostState.{HostState}
+use Rattle.pb_outcome.specs.declared.event.Event.{Event}
+use Rattle.pb_outcome.specs.declared.host.HostState.{HostState}
 
 out_more : (k p : ℕ) (es : List Event) (e : Event) (out : Option ℕ) → out_from k p (es ++ e ∷ []) out ≡ out_after k (p + length es) e (out_from k p es out)
 out_more k p [] e out = ap (λ n. out_after k n e out) (sym (add-zero p))

@@ -35,24 +35,24 @@ use Rattle.pb_strategy.specs.Built.{is_lone}
 use Rattle.pb_strategy.specs.Readiness.{is_accepted, run_of_ready}
 use Rattle.pb_strategy.specs.declared.runnable.Ready.{Ready}
 use Rattle.pb_strategy.proofs.ReadyRuns.{is_stuck-accepted}
-use Rattle.pb_strategy.proofs.FoundModules.{module_named-found}
-use Rattle.pb_strategy.specs.Events.{answer_data, event_data, call_data, recap_data}
+use Rattle.pb_outcome.proofs.FoundModules.{module_named-found}
+use Rattle.pb_outcome.specs.Events.{answer_data, event_data, call_data, recap_data}
 use Rattle.pb_strategy.specs.Inside.{IsMachine, is_phase_ended, is_phase_stopped}
-use Rattle.pb_strategy.specs.Outcomes.{Makes, ComesTo, IsSettledHost, called_name}
-use Rattle.pb_strategy.specs.OwnNames.{own_fields}
-use Rattle.pb_strategy.specs.Passes.{pass_calls, stage_calls, job_calls}
-use Rattle.pb_strategy.specs.Jobs.{ticket_in}
-use Rattle.pb_strategy.specs.Room.{IsRoomier}
+use Rattle.pb_outcome.specs.Outcomes.{Makes, ComesTo, IsSettledHost, called_name}
+use Rattle.pb_outcome.specs.OwnNames.{own_fields}
+use Rattle.pb_outcome.specs.Passes.{pass_calls, stage_calls, job_calls}
+use Rattle.pb_outcome.specs.Jobs.{ticket_in}
+use Rattle.pb_outcome.specs.Room.{IsRoomier}
 use Rattle.pb_strategy.specs.Standing.{tasks_in, host_of, opening_run, plain_after, IsInside, IsStanding, IsAt}
-use Rattle.pb_strategy.specs.declared.answer.Answer.{Answer}
-use Rattle.pb_strategy.specs.declared.answer.Call.{Call}
-use Rattle.pb_strategy.specs.declared.event.Event.{Event}
-use Rattle.pb_strategy.specs.declared.event.Event.TheVariants.{Start, Give, Turn, Stop}
-use Rattle.pb_strategy.specs.declared.host.HostState.{HostState}
-use Rattle.pb_strategy.specs.declared.host.Pending.{Pending}
-use Rattle.pb_strategy.specs.declared.host.Stage.{Stage}
-use Rattle.pb_strategy.specs.declared.host.Stage.TheVariants as stage
-use Rattle.pb_strategy.specs.declared.outcome.Outcome.{Outcome}
+use Rattle.pb_outcome.specs.declared.answer.Answer.{Answer}
+use Rattle.pb_outcome.specs.declared.answer.Call.{Call}
+use Rattle.pb_outcome.specs.declared.event.Event.{Event}
+use Rattle.pb_outcome.specs.declared.event.Event.TheVariants.{Start, Give, Turn, Stop}
+use Rattle.pb_outcome.specs.declared.host.HostState.{HostState}
+use Rattle.pb_outcome.specs.declared.host.Pending.{Pending}
+use Rattle.pb_outcome.specs.declared.host.Stage.{Stage}
+use Rattle.pb_outcome.specs.declared.host.Stage.TheVariants as stage
+use Rattle.pb_outcome.specs.declared.outcome.Outcome.{Outcome}
 use Rattle.pb_strategy.specs.declared.run.Phase.{Phase}
 use Rattle.pb_strategy.specs.declared.run.Phase.TheVariants as phase
 use Rattle.pb_strategy.proofs.Accepts.{whole, run_of_ready-plain, enabled-plain}

@@ -15,19 +15,19 @@ use Rattle.pb_plain.specs.Books.{plays_of, book_of}
 use Rattle.pb_plain.specs.Meaning.{plain_tasks}
 use Rattle.pb_strategy.specs.declared.runnable.Ready.{Ready}
 use Rattle.pb_strategy.proofs.ReadyRuns.{is_stuck-accepted, handed-accepted, are_distinct-hosts, judged-accepted}
-use Rattle.pb_strategy.specs.Events.{event_data, recap_data}
+use Rattle.pb_outcome.specs.Events.{event_data, recap_data}
 use Rattle.pb_strategy.specs.Inside.{IsMachine, IsRun, recaps_of, run_state, is_phase_ended, is_phase_stopped}
-use Rattle.pb_strategy.specs.Jobs.{ticket_in}
+use Rattle.pb_outcome.specs.Jobs.{ticket_in}
 use Rattle.pb_strategy.specs.Next.{Next, starts, waits, ended, stopped, turned, start_or, next_of}
-use Rattle.pb_strategy.specs.Recaps.{nothing}
+use Rattle.pb_outcome.specs.Recaps.{nothing}
 use Rattle.pb_strategy.specs.Tally.{recap_of}
-use Rattle.pb_strategy.specs.declared.recap.Recap.{Recap}
+use Rattle.pb_outcome.specs.declared.recap.Recap.{Recap}
 use Rattle.pb_strategy.specs.Sound.{IsSound, recap_in}
 use Rattle.pb_strategy.specs.Standing.{tasks_in, host_of, plain_after, is_waiting, is_done, can_run}
-use Rattle.pb_strategy.specs.declared.event.Event.{Event}
-use Rattle.pb_strategy.specs.declared.host.HostState.{HostState}
-use Rattle.pb_strategy.specs.declared.host.Stage.{Stage}
-use Rattle.pb_strategy.specs.declared.host.Stage.TheVariants as stage
+use Rattle.pb_outcome.specs.declared.event.Event.{Event}
+use Rattle.pb_outcome.specs.declared.host.HostState.{HostState}
+use Rattle.pb_outcome.specs.declared.host.Stage.{Stage}
+use Rattle.pb_outcome.specs.declared.host.Stage.TheVariants as stage
 use Rattle.pb_strategy.specs.declared.run.Phase.{Phase}
 use Rattle.pb_strategy.specs.declared.run.Run.TheInside.{Inside}
 use Rattle.pb_strategy.proofs.Accepts.{line_in, whole, run_of_ready-plain, enabled-plain}

@@ -19,13 +19,13 @@ use Rattle.pb_strategy.specs.Built.{is_lone}
 use Rattle.pb_strategy.specs.Readiness.{is_accepted}
 use Rattle.pb_strategy.specs.declared.runnable.Ready.{Ready}
 use Rattle.pb_strategy.proofs.Alone.{Alone-lone}
-use Rattle.pb_strategy.specs.Events.{recap_data}
+use Rattle.pb_outcome.specs.Events.{recap_data}
 use Rattle.pb_strategy.specs.History.{has_no_plays}
 use Rattle.pb_strategy.specs.Inside.{IsMachine, is_phase_ended, is_phase_stopped}
-use Rattle.pb_strategy.specs.OwnNames.{names_fields}
-use Rattle.pb_strategy.specs.Room.{IsOpening}
+use Rattle.pb_outcome.specs.OwnNames.{names_fields}
+use Rattle.pb_outcome.specs.Room.{IsOpening}
 use Rattle.pb_strategy.specs.Standing.{tasks_in, first_name, host_of, opening_run, IsAt}
-use Rattle.pb_strategy.specs.declared.host.HostState.{HostState}
+use Rattle.pb_outcome.specs.declared.host.HostState.{HostState}
 use Rattle.pb_strategy.specs.declared.run.Phase.{Phase}
 
 -- what a host of this name in these groups reads by name

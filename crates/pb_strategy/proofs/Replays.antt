@@ -11,16 +11,16 @@ use Rattle.pb_language.specs.plain.Machine.{PlainRun, plain_is_possible, is_insi
 use Rattle.pb_language.proofs.PlainEval.{history_kept}
 use Rattle.pb_plain.specs.Books.{plays_of}
 use Rattle.pb_strategy.specs.declared.runnable.Ready.{Ready}
-use Rattle.pb_strategy.specs.Events.{event_data, event_view}
+use Rattle.pb_outcome.specs.Events.{event_data, event_view}
 use Rattle.pb_strategy.specs.History.{RunState, after, enabled_of, Follows, is_over, is_stopped, state_of}
 use Rattle.pb_strategy.specs.Inside.{IsMachine, IsRun, run_state, tickets_of, is_phase_ended, is_phase_over, is_phase_stopped}
-use Rattle.pb_strategy.specs.Jobs.{is_ticket, ticket_in, ticket_out}
+use Rattle.pb_outcome.specs.Jobs.{is_ticket, ticket_in, ticket_out}
 use Rattle.pb_strategy.specs.Standing.{tasks_in, plain_after, IsStanding, can_run, is_waiting}
-use Rattle.pb_strategy.specs.declared.event.Event.{Event}
-use Rattle.pb_strategy.specs.declared.event.Event.TheVariants.{Stop}
-use Rattle.pb_strategy.specs.declared.host.HostState.{HostState}
-use Rattle.pb_strategy.specs.declared.host.Stage.{Stage}
-use Rattle.pb_strategy.specs.declared.host.Stage.TheVariants as stage
+use Rattle.pb_outcome.specs.declared.event.Event.{Event}
+use Rattle.pb_outcome.specs.declared.event.Event.TheVariants.{Stop}
+use Rattle.pb_outcome.specs.declared.host.HostState.{HostState}
+use Rattle.pb_outcome.specs.declared.host.Stage.{Stage}
+use Rattle.pb_outcome.specs.declared.host.Stage.TheVariants as stage
 use Rattle.pb_strategy.specs.declared.run.Phase.{Phase}
 use Rattle.pb_strategy.specs.declared.run.Phase.TheVariants as phase
 use Rattle.pb_strategy.specs.declared.run.Run.TheInside.{Inside}

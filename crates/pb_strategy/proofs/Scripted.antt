@@ -4,8 +4,8 @@ use Rattle.pb_language.specs.Give as language
 use Rattle.pb_strategy.specs.Drives.{AreAnswered, Drives, IsJobDone, ends, goes_on}
 use Rattle.pb_strategy.specs.History.{RunState}
 use Rattle.pb_strategy.specs.Scripts.{IsFromFile, IsScripted, IsWithheld, answers_in, scripted}
-use Rattle.pb_strategy.specs.declared.answer.Answer.{Answer}
-use Rattle.pb_strategy.specs.declared.answer.Call.{Call}
+use Rattle.pb_outcome.specs.declared.answer.Answer.{Answer}
+use Rattle.pb_outcome.specs.declared.answer.Call.{Call}
 use Rattle.pb_strategy.specs.declared.script.ScriptRunner.{ScriptRunner}
 
 fine_before : (b c : Bool) → (b ≡ true → c ≡ true) → c ≡ false → b ≡ false

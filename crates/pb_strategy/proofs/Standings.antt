@@ -17,23 +17,23 @@ use Rattle.pb_value.specs.View.{view, fields_view}
 use Rattle.pb_eval.specs.OwnWorld.{own_world}
 use Rattle.pb_plain.specs.Meaning.{plain_task, plain_tasks}
 use Rattle.pb_plain.specs.declared.book.Task.{Task}
-use Rattle.pb_strategy.specs.Endings.{came_of}
-use Rattle.pb_strategy.specs.Events.{CallData, answer_data, call_data, recap_data}
-use Rattle.pb_strategy.specs.Outcomes.{Makes, ComesTo, IsSettledHost, called_name}
-use Rattle.pb_strategy.specs.OwnNames.{own_fields}
-use Rattle.pb_strategy.specs.Passes.{IsPending, entry_calls, pass_calls}
-use Rattle.pb_strategy.specs.Recaps.{counted}
+use Rattle.pb_outcome.specs.Endings.{came_of}
+use Rattle.pb_outcome.specs.Events.{CallData, answer_data, call_data, recap_data}
+use Rattle.pb_outcome.specs.Outcomes.{Makes, ComesTo, IsSettledHost, called_name}
+use Rattle.pb_outcome.specs.OwnNames.{own_fields}
+use Rattle.pb_outcome.specs.Passes.{IsPending, entry_calls, pass_calls}
+use Rattle.pb_outcome.specs.Recaps.{counted}
 use Rattle.pb_strategy.specs.Standing.{IsInside, IsStanding, IsAt, is_waiting, is_done}
-use Rattle.pb_strategy.specs.declared.answer.Answer.{Answer}
-use Rattle.pb_strategy.specs.declared.answer.Call.{Call}
-use Rattle.pb_strategy.specs.declared.host.HostState.{HostState}
-use Rattle.pb_strategy.specs.declared.host.Pending.{Pending}
-use Rattle.pb_strategy.specs.declared.host.Stage.{Stage}
-use Rattle.pb_strategy.specs.declared.host.Stage.TheVariants as stage
-use Rattle.pb_strategy.specs.declared.outcome.Outcome.{Outcome}
-use Rattle.pb_strategy.specs.declared.recap.Ending.{Ending}
-use Rattle.pb_strategy.specs.declared.recap.Ending.TheVariants as ending
-use Rattle.pb_strategy.specs.declared.recap.Recap.{Recap}
+use Rattle.pb_outcome.specs.declared.answer.Answer.{Answer}
+use Rattle.pb_outcome.specs.declared.answer.Call.{Call}
+use Rattle.pb_outcome.specs.declared.host.HostState.{HostState}
+use Rattle.pb_outcome.specs.declared.host.Pending.{Pending}
+use Rattle.pb_outcome.specs.declared.host.Stage.{Stage}
+use Rattle.pb_outcome.specs.declared.host.Stage.TheVariants as stage
+use Rattle.pb_outcome.specs.declared.outcome.Outcome.{Outcome}
+use Rattle.pb_outcome.specs.declared.recap.Ending.{Ending}
+use Rattle.pb_outcome.specs.declared.recap.Ending.TheVariants as ending
+use Rattle.pb_outcome.specs.declared.recap.Recap.{Recap}
 use Rattle.pb_strategy.proofs.PlainNext.{Starts, Gives}
 
 -- the tasks that are left, from a place on

@@ -6,15 +6,15 @@ use Rattle.std.proofs.lemmas.List.{get_or-set_same, get_or-set_other, get_or-rep
 use Rattle.std.proofs.lemmas.List.Sums.{sum_by_push, count_by-le-length}
 use Rattle.std.proofs.Math.Seq.{map-set_same}
 use Rattle.pb_strategy.specs.Inside.{recaps_of}
-use Rattle.pb_strategy.specs.declared.host.HostState.{HostState}
-use Rattle.pb_strategy.specs.Recaps.{nothing, counted, Counts}
+use Rattle.pb_outcome.specs.declared.host.HostState.{HostState}
+use Rattle.pb_outcome.specs.Recaps.{nothing, counted, Counts}
 use Rattle.pb_strategy.specs.Tally.{is_give_of, gives_of, recap_of, IsTally}
-use Rattle.pb_strategy.specs.declared.answer.Answer.{Answer}
-use Rattle.pb_strategy.specs.declared.event.Event.{Event}
-use Rattle.pb_strategy.specs.declared.event.Event.TheVariants.{Give}
-use Rattle.pb_strategy.specs.declared.recap.Recap.{Recap}
-use Rattle.pb_strategy.specs.declared.recap.Ending.{Ending}
-use Rattle.pb_strategy.specs.declared.recap.Ending.TheVariants as ending
+use Rattle.pb_outcome.specs.declared.answer.Answer.{Answer}
+use Rattle.pb_outcome.specs.declared.event.Event.{Event}
+use Rattle.pb_outcome.specs.declared.event.Event.TheVariants.{Give}
+use Rattle.pb_outcome.specs.declared.recap.Recap.{Recap}
+use Rattle.pb_outcome.specs.declared.recap.Ending.{Ending}
+use Rattle.pb_outcome.specs.declared.recap.Ending.TheVariants as ending
 
 gives_more : (h : ℕ) (es : List Event) (e : Event) → gives_of h (es ++ e ∷ []) ≡ gives_of h es + cond (is_give_of h e) 1 0
 gives_more h es e = sum_by_push (λ x. cond (is_give_of h x) 1 0) es e

@@ -2,10 +2,10 @@
 use Rattle.std.specs.Prelude.{◌≡◌, List, [], ◌∷◌, false}
 use Rattle.std.specs.Global.{Vec}
 use Rattle.pb_strategy.specs.History.{RunState, IsAfterGive, IsAfterJob, IsAfterTake, is_job}
-use Rattle.pb_strategy.specs.declared.answer.Answer.{Answer}
-use Rattle.pb_strategy.specs.declared.answer.Call.{Call}
-use Rattle.pb_strategy.specs.declared.answer.Job.{Job}
-use Rattle.pb_strategy.specs.declared.event.Taken.{Taken}
+use Rattle.pb_outcome.specs.declared.answer.Answer.{Answer}
+use Rattle.pb_outcome.specs.declared.answer.Call.{Call}
+use Rattle.pb_outcome.specs.declared.answer.Job.{Job}
+use Rattle.pb_outcome.specs.declared.event.Taken.{Taken}
 
 -- by what is said of a runner: asked this call, it gives this answer, and is that runner then
 module _ {R : Type 0} (answers : R → Call → Answer → R → Type 0) where

@@ -10,16 +10,16 @@ use Rattle.pb_plain.specs.Books.{plays_of}
 use Rattle.pb_plain.specs.declared.book.Play.{Play}
 use Rattle.pb_strategy.specs.Readiness.{run_of_ready}
 use Rattle.pb_strategy.specs.declared.runnable.Ready.{Ready}
-use Rattle.pb_strategy.specs.Events.{event_data, event_view, call_data}
-use Rattle.pb_strategy.specs.Passes.{job_calls}
-use Rattle.pb_strategy.specs.Recaps.{nothing}
-use Rattle.pb_strategy.specs.declared.answer.Answer.{Answer}
-use Rattle.pb_strategy.specs.declared.answer.Job.{Job}
-use Rattle.pb_strategy.specs.declared.event.Event.{Event}
-use Rattle.pb_strategy.specs.declared.event.Event.TheVariants.{Start, Give, Turn, Stop}
-use Rattle.pb_strategy.specs.declared.event.Taken.{Taken}
-use Rattle.pb_strategy.specs.declared.event.Taken.TheVariants as taken
-use Rattle.pb_strategy.specs.declared.recap.Recap.{Recap}
+use Rattle.pb_outcome.specs.Events.{event_data, event_view, call_data}
+use Rattle.pb_outcome.specs.Passes.{job_calls}
+use Rattle.pb_outcome.specs.Recaps.{nothing}
+use Rattle.pb_outcome.specs.declared.answer.Answer.{Answer}
+use Rattle.pb_outcome.specs.declared.answer.Job.{Job}
+use Rattle.pb_outcome.specs.declared.event.Event.{Event}
+use Rattle.pb_outcome.specs.declared.event.Event.TheVariants.{Start, Give, Turn, Stop}
+use Rattle.pb_outcome.specs.declared.event.Taken.{Taken}
+use Rattle.pb_outcome.specs.declared.event.Taken.TheVariants as taken
+use Rattle.pb_outcome.specs.declared.recap.Recap.{Recap}
 
 pub record RunState : Type 0 where
   pub runnable : Ready

@@ -13,14 +13,14 @@ use Rattle.pb_inventory.specs.Inventory.{inventory_view}
 use Rattle.pb_strategy.specs.Built.{is_lone}
 use Rattle.pb_strategy.specs.Readiness.{is_accepted, run_of_ready}
 use Rattle.pb_strategy.specs.declared.runnable.Ready.{Ready}
-use Rattle.pb_strategy.specs.Events.{event_data}
+use Rattle.pb_outcome.specs.Events.{event_data}
 use Rattle.pb_strategy.specs.History.{RunState, is_stopped, is_over}
-use Rattle.pb_strategy.specs.Jobs.{ticket_in, ticket_out}
+use Rattle.pb_outcome.specs.Jobs.{ticket_in, ticket_out}
 use Rattle.pb_strategy.specs.Standing.{tasks_in, host_of, plain_after, IsAt}
 use Rattle.pb_strategy.specs.Tally.{IsTally}
-use Rattle.pb_strategy.specs.declared.event.Event.{Event}
-use Rattle.pb_strategy.specs.declared.host.HostState.{HostState}
-use Rattle.pb_strategy.specs.declared.recap.Recap.{Recap}
+use Rattle.pb_outcome.specs.declared.event.Event.{Event}
+use Rattle.pb_outcome.specs.declared.host.HostState.{HostState}
+use Rattle.pb_outcome.specs.declared.recap.Recap.{Recap}
 use Rattle.pb_strategy.specs.declared.run.Phase.{Phase}
 use Rattle.pb_strategy.specs.declared.run.Phase.TheVariants as phase
 use Rattle.pb_strategy.specs.declared.run.Run.TheInside.{Inside}

@@ -3,8 +3,8 @@ use Rattle.std.specs.Prelude.{ℕ, List, [], ◌∷◌, cond, Option, Some, None
 use Rattle.pb_language.specs.Machine.{turn, State, enabled, step}
 use Rattle.pb_language.specs.Program.{Batch}
 use Rattle.pb_language.specs.Drive.{Starting, next_start}
-use Rattle.pb_strategy.specs.declared.event.Taken.{Taken}
-use Rattle.pb_strategy.specs.declared.event.Taken.TheVariants as taken
+use Rattle.pb_outcome.specs.declared.event.Taken.{Taken}
+use Rattle.pb_outcome.specs.declared.event.Taken.TheVariants as taken
 
 -- a task is started on the host of that place, or nothing can be: while a job is out, since the run
 -- has ended, or since it was stopped

@@ -9,11 +9,11 @@ use Rattle.pb_language.specs.Expression.{Name}
 use Rattle.pb_language.specs.Give as language
 use Rattle.pb_value.specs.FromJson.{json_data}
 use Rattle.pb_value.specs.View.{fields_view}
-use Rattle.pb_strategy.specs.Events.{answer_data}
-use Rattle.pb_strategy.specs.declared.answer.Answer.{Answer}
-use Rattle.pb_strategy.specs.declared.answer.Answer.TheVariants.{Unreachable, Broken}
-use Rattle.pb_strategy.specs.declared.answer.Call.{Call}
-use Rattle.pb_strategy.specs.declared.answer.Why.TheVariants.{NoAnswer}
+use Rattle.pb_outcome.specs.Events.{answer_data}
+use Rattle.pb_outcome.specs.declared.answer.Answer.{Answer}
+use Rattle.pb_outcome.specs.declared.answer.Answer.TheVariants.{Unreachable, Broken}
+use Rattle.pb_outcome.specs.declared.answer.Call.{Call}
+use Rattle.pb_outcome.specs.declared.answer.Why.TheVariants.{NoAnswer}
 use Rattle.pb_strategy.specs.declared.script.ScriptFault.{ScriptFault}
 use Rattle.pb_strategy.specs.declared.script.ScriptFault.TheVariants.{NotJson, Shape, NoMemory}
 use Rattle.pb_strategy.specs.declared.script.ScriptRunner.{ScriptRunner}

@@ -7,7 +7,7 @@ use Rattle.pb_language.specs.Theorem.{occurrence_events}
 use Rattle.pb_sig.specs.Modules.{modules_of}
 use Rattle.pb_inventory.specs.Inventory.{inventory_view}
 use Rattle.pb_plain.specs.Books.{book_of}
-use Rattle.pb_strategy.specs.Events.{event_data, recap_data}
+use Rattle.pb_outcome.specs.Events.{event_data, recap_data}
 use Rattle.pb_strategy.specs.History.{RunState, state_after, state_of}
 
 -- the batches of the accepted book

@@ -15,14 +15,14 @@ use Rattle.pb_plain.specs.Meaning.{plain_tasks}
 use Rattle.pb_plain.specs.declared.book.Play.{Play}
 use Rattle.pb_plain.specs.declared.book.Task.{Task}
 use Rattle.pb_strategy.specs.declared.runnable.Ready.{Ready}
-use Rattle.pb_strategy.specs.Events.{event_data, recap_data}
-use Rattle.pb_strategy.specs.OwnNames.{AreSame}
-use Rattle.pb_strategy.specs.Passes.{IsPending}
-use Rattle.pb_strategy.specs.declared.event.Event.{Event}
-use Rattle.pb_strategy.specs.declared.host.HostState.{HostState}
-use Rattle.pb_strategy.specs.declared.host.Pending.{Pending}
-use Rattle.pb_strategy.specs.declared.host.Stage.{Stage}
-use Rattle.pb_strategy.specs.declared.host.Stage.TheVariants as stage
+use Rattle.pb_outcome.specs.Events.{event_data, recap_data}
+use Rattle.pb_outcome.specs.OwnNames.{AreSame}
+use Rattle.pb_outcome.specs.Passes.{IsPending}
+use Rattle.pb_outcome.specs.declared.event.Event.{Event}
+use Rattle.pb_outcome.specs.declared.host.HostState.{HostState}
+use Rattle.pb_outcome.specs.declared.host.Pending.{Pending}
+use Rattle.pb_outcome.specs.declared.host.Stage.{Stage}
+use Rattle.pb_outcome.specs.declared.host.Stage.TheVariants as stage
 
 abbrev pub tasks_in : List Play → List Task
 tasks_in [] = []

@@ -1,10 +1,10 @@
 -- Which events a recap counts.
 use Rattle.std.specs.Prelude.{◌≡◌, ◌==◌, ℕ, List, Bool, false, count_by, get_or, set}
-use Rattle.pb_strategy.specs.Recaps.{nothing, counted, Counts}
-use Rattle.pb_strategy.specs.declared.event.Event.{Event}
-use Rattle.pb_strategy.specs.declared.event.Event.TheVariants.{Start, Give, Turn, Stop}
-use Rattle.pb_strategy.specs.declared.recap.Recap.{Recap}
-use Rattle.pb_strategy.specs.declared.recap.Ending.{Ending}
+use Rattle.pb_outcome.specs.Recaps.{nothing, counted, Counts}
+use Rattle.pb_outcome.specs.declared.event.Event.{Event}
+use Rattle.pb_outcome.specs.declared.event.Event.TheVariants.{Start, Give, Turn, Stop}
+use Rattle.pb_outcome.specs.declared.recap.Recap.{Recap}
+use Rattle.pb_outcome.specs.declared.recap.Ending.{Ending}
 
 abbrev pub is_give_of : ℕ → Event → Bool
 is_give_of h (Give g answers) = g == h

@@ -4,18 +4,18 @@ ghost use Rattle.std.specs.Prelude.{ℕ};
 ghost use Rattle.std.specs.Global.{Vec};
 ghost use Rattle.pb_strategy.specs.Drives.{AreAnswered, Drives};
 ghost use Rattle.pb_strategy.specs.History.{IsAfterGive, is_over};
-ghost use Rattle.pb_strategy.specs.Jobs.{ticket_out};
+ghost use Rattle.pb_outcome.specs.Jobs.{ticket_out};
 ghost use Rattle.pb_strategy.specs.Sound.{IsSound};
 
-use crate::answer::{Answer, Call, Job};
-use crate::event::Taken;
 use crate::run::Run;
+use pb_outcome::answer::{Answer, Call, Job};
+use pb_outcome::event::Taken;
 use std::alloc::{AllocError, Global};
 
 /// Whatever answers the calls of modules.
 pub trait Runner {
-    ghost use Rattle.pb_strategy.specs.declared.answer.Answer.{Answer};
-    ghost use Rattle.pb_strategy.specs.declared.answer.Call.{Call};
+    ghost use Rattle.pb_outcome.specs.declared.answer.Answer.{Answer};
+    ghost use Rattle.pb_outcome.specs.declared.answer.Call.{Call};
 
     /// How many calls were made.
     ghost calls: { Self → ℕ };

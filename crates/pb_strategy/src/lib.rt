@@ -10,21 +10,14 @@
 //     }
 #![tactic(auto)]
 
-pub mod answer;
 pub mod drive;
-pub mod event;
-mod host;
 mod lone;
-mod outcome;
-pub mod recap;
 pub mod run;
 pub mod runnable;
 pub mod script;
 
-pub use answer::{Answer, Call, Job, Why};
 pub use drive::Runner;
-pub use event::{Event, GiveError, Given, Taken};
-pub use recap::Recap;
+pub use pb_outcome::{Answer, Call, Event, GiveError, Given, Job, Recap, Taken, Why};
 pub use run::{Run, replay};
 pub use runnable::{RunFault, Runnable};
 pub use script::{ANSWERS_LIMIT, ScriptFault, ScriptRunner};

@@ -9,8 +9,8 @@ ghost use Rattle.pb_strategy.specs.Scripts.{are_objects as all_objects, entry_of
 ghost use Rattle.pb_strategy.specs.Scripts.{is_list_of_objects as is_answer_list, item_at};
 ghost use Rattle.pb_strategy.specs.Scripts.{says_unreachable, script_fault, script_in, scripted};
 
-use crate::answer::{Answer, Call, Why};
 use crate::drive::Runner;
+use pb_outcome::answer::{Answer, Call, Why};
 use pb_value::{Fields, JsonFault, Value, Weighed, field_of, read_json};
 use std::alloc::{AllocError, Global};
 use std::sync::Arc;

@@ -14,11 +14,11 @@ use Rattle.pb_lattice.specs.Shared.{Shared}
 use Rattle.pb_lattice.specs.declared.environment.Environment.{Environment}
 use Rattle.pb_flow.specs.Flow.{end_node, tasks_of}
 use Rattle.pb_flow.proofs.Sizes.{row-tasks}
-use Rattle.pb_visit.specs.Station.{station_task}
+use Rattle.pb_route.specs.Station.{station_task}
 use Rattle.pb_walks.specs.Agree.{AllVisitsAgree, ExitsAgree}
-use Rattle.pb_way.specs.Places.{PlacesAreCounted, places_calls}
-use Rattle.pb_way.specs.Routes.{ArePathsOf, Paths}
-use Rattle.pb_way.specs.Visited.{nodes_visits}
+use Rattle.pb_route.specs.Places.{PlacesAreCounted, places_calls}
+use Rattle.pb_route.specs.Routes.{ArePathsOf, Paths}
+use Rattle.pb_route.specs.Visited.{nodes_visits}
 use Rattle.pb_way.specs.Walks.{IsWalk}
 use Rattle.pb_find.specs.Ways.{nothing_known, value_at, way_visits}
 use Rattle.pb_tables.specs.Played.{IsWay}

@@ -6,7 +6,7 @@ use Rattle.pb_language.specs.Scope.{Later, View}
 use Rattle.pb_language.specs.Tables.{all_walked}
 use Rattle.pb_language.specs.Verdict.{Refusal, Verdict, code_of, offence_verdict}
 use Rattle.pb_language.specs.Verdict.{settled_verdict}
-use Rattle.pb_expr.specs.FitView.{fault_view}
+use Rattle.pb_forms.specs.FitView.{fault_view}
 use Rattle.pb_walks.specs.Alone.{plays_read_others}
 use Rattle.pb_walks.specs.Notified.{HostsNameHandlers}
 use Rattle.pb_tables.specs.declared.outcome.HostFault.{HostFault}

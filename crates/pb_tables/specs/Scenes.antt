@@ -5,7 +5,7 @@ use Rattle.pb_language.specs.Plays.{names_of_handlers, play_row}
 use Rattle.pb_language.specs.Program.{Play, Program}
 use Rattle.pb_inventory.specs.declared.inventory.Inventory.{Inventory}
 use Rattle.pb_play.specs.Plays.{handler_view, is_linear}
-use Rattle.pb_way.specs.Routes.{ArePathsOf}
+use Rattle.pb_route.specs.Routes.{ArePathsOf}
 use Rattle.pb_hosts.specs.Casts.{cast_hosts}
 use Rattle.pb_tables.specs.declared.scene.Scene.{Scene}
 

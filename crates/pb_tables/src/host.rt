@@ -14,7 +14,7 @@ ghost use Rattle.pb_language.specs.World.{HostVariables};
 ghost use Rattle.pb_lattice.specs.Words.{IsKept, Stands, exit_of, names_of};
 ghost use Rattle.pb_inventory.specs.Words.{inventory_view};
 ghost use Rattle.pb_kind.specs.Words.{slots_view};
-ghost use Rattle.pb_way.specs.Words.{ArePathsOf};
+ghost use Rattle.pb_route.specs.Words.{ArePathsOf};
 ghost use Rattle.pb_hosts.specs.Words.{since_view, views_view};
 ghost use Rattle.pb_tables.specs.Found.{HostFinds, HostLasts};
 ghost use Rattle.pb_tables.specs.Played.{PlayFinds, PlayLasts, laters_here};
@@ -30,8 +30,9 @@ use pb_kind::{Slots, copy_slots};
 use pb_lasting::lasting_in;
 use pb_lattice::{Environment, Environments};
 use pb_outlook::Outlook;
-use pb_way::places::places_are_counted;
-use pb_way::{Route, walk};
+use pb_route::Route;
+use pb_route::places::places_are_counted;
+use pb_way::walk;
 use std::alloc::{AllocError, Global};
 
 /// What is found of a host on its way through all plays.

@@ -7,14 +7,14 @@ ghost use Rattle.pb_language.specs.Sites.{steps_of};
 ghost use Rattle.pb_inventory.specs.Words.{inventory_view};
 ghost use Rattle.pb_play.specs.Sound.{play_tasks};
 ghost use Rattle.pb_play.specs.Words.{AreSound, play_view};
-ghost use Rattle.pb_way.specs.Words.{Gathers};
+ghost use Rattle.pb_route.specs.Words.{Gathers};
 ghost use Rattle.pb_tables.specs.Scenes.{IsScene};
 
 use pb_hosts::Cast;
 use pb_inventory::Inventory;
 use pb_play::Play;
+use pb_route::Route;
 use pb_task::Task;
-use pb_way::Route;
 use std::alloc::{AllocError, Global};
 
 /// A play with its hosts and the paths through it.

@@ -12,7 +12,7 @@ use Rattle.pb_flow.proofs.Sounds.{sound-left, sound-right}
 use Rattle.pb_task.specs.declared.task.Task.{Task}
 use Rattle.pb_tables.specs.Scenes.{AreScenes, IsScene}
 use Rattle.pb_tables.specs.declared.scene.Scene.{Scene}
-use Rattle.pb_way.specs.Routes.{Gathers}
+use Rattle.pb_route.specs.Routes.{Gathers}
 use Rattle.pb_verify.specs.Scenes.{AllGather, gathered_at}
 
 -- the scenes of the first plays, and of one more

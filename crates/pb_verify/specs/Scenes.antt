@@ -3,7 +3,7 @@ use Rattle.std.specs.Prelude.{◌≡◌, ℕ, List, [], ◌∷◌, Option, Some,
 use Rattle.pb_language.specs.Book.{Registry}
 use Rattle.pb_play.specs.declared.play.Play.{Play}
 use Rattle.pb_task.specs.declared.task.Task.{Task}
-use Rattle.pb_way.specs.Routes.{Gathers}
+use Rattle.pb_route.specs.Routes.{Gathers}
 
 -- one for each play that gathers facts, at its place
 abbrev pub AllGather : Registry → List Play → List (Option Task) → Type 0

@@ -9,15 +9,15 @@ ghost use Rattle.pb_inventory.specs.Words.{inventory_view};
 ghost use Rattle.pb_play.specs.Words.{AreSound, all_tasks, play_view};
 ghost use Rattle.pb_sig.specs.Words.{modules_of};
 ghost use Rattle.pb_tables.specs.Words.{AreScenes};
-ghost use Rattle.pb_way.specs.Words.{Gathers};
+ghost use Rattle.pb_route.specs.Words.{Gathers};
 ghost use Rattle.pb_verify.specs.Scenes.{AllGather, gathered_at};
 
 use pb_inventory::Inventory;
 use pb_play::Play;
+use pb_route::gathering_task;
 use pb_sig::Registry;
 use pb_tables::Scene;
 use pb_task::Task;
-use pb_way::gathering_task;
 use std::alloc::{AllocError, Global};
 
 // For each play the task that gathers its facts, where it has one.

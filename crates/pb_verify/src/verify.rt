@@ -15,7 +15,7 @@ ghost use Rattle.pb_tables.specs.Words.{host_offence, outcome_verdict};
 ghost use Rattle.pb_verify.specs.Judges.{refused_verdict};
 ghost use Rattle.pb_verify.specs.Known.{IsTable};
 ghost use Rattle.pb_verify.specs.Meaning.{code_number, refusal_of};
-ghost use Rattle.pb_expr.specs.Words.{fault_view};
+ghost use Rattle.pb_forms.specs.Words.{fault_view};
 ghost use Rattle.pb_language.specs.Words.{code_of as number_of};
 
 use crate::checked::{Accepted, Checked};

@@ -11,9 +11,9 @@ use Rattle.pb_language.specs.Narrow.{narrow_each}
 use Rattle.pb_language.specs.Plays.{append_expressions}
 use Rattle.pb_language.specs.Scope.{Scope}
 use Rattle.pb_syntax.specs.ExprView.{exprs_view}
-use Rattle.pb_expr.specs.Before.{Before}
-use Rattle.pb_expr.specs.FitView.{fault_view}
-use Rattle.pb_expr.specs.TaughtView.{scope_view, untaught}
+use Rattle.pb_taught.specs.Before.{Before}
+use Rattle.pb_forms.specs.FitView.{fault_view}
+use Rattle.pb_taught.specs.TaughtView.{scope_view, untaught}
 use Rattle.pb_fit.specs.declared.held.Held.{Held}
 use Rattle.pb_fit.proofs.InTurn.{conditions-append, expanded-append, narrow_each-append}
 use Rattle.pb_flow.specs.Nodes.{conditions_after}

@@ -1,11 +1,6 @@
-mod Stripped
-mod Sets
-mod Facts
 mod Held
 mod Looped
 mod OnGround
 mod Ends
 mod Making
 mod Leading
-mod Round
-mod Placed

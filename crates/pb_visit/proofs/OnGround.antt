@@ -25,25 +25,18 @@ use Rattle.pb_task.specs.declared.task.Work.TheVariants.{Module, Debug, SetFact,
 use Rattle.pb_template.specs.Entries.{entries_view}
 use Rattle.pb_template.specs.declared.entry.Entry.{Entry}
 use Rattle.pb_vars.specs.InScope.{in_scope}
-use Rattle.pb_expr.specs.FitView.{fault_view}
-use Rattle.pb_expr.specs.TaughtView.{scope_view}
-use Rattle.pb_expr.specs.declared.scope.Taught.{Taught}
-use Rattle.pb_expr.specs.declared.unfit.Unfit.{Unfit}
+use Rattle.pb_forms.specs.FitView.{fault_view}
+use Rattle.pb_taught.specs.TaughtView.{scope_view}
+use Rattle.pb_taught.specs.declared.scope.Taught.{Taught}
+use Rattle.pb_forms.specs.declared.unfit.Unfit.{Unfit}
 use Rattle.pb_flow.specs.Nodes.{conditions_after}
 use Rattle.pb_flow.specs.declared.graph.Around.{Around}
 use Rattle.pb_outlook.specs.Standing.{before_at}
 use Rattle.pb_visit.specs.Footing.{Footing, before_on, item_on, visit_footing}
-use Rattle.pb_visit.specs.Station.{facts_of, lone_registry}
+use Rattle.pb_route.specs.Station.{facts_of, lone_registry}
+use Rattle.pb_route.proofs.Placed.{lone_resolves}
 use Rattle.pb_visit.specs.Visits.{env_of, item_before, task_there}
 use Rattle.pb_visit.specs.declared.visit.Visit.{Visit}
-
--- the module that is called is found in the registry that has it alone
-pub lone_resolves : (w : Work) → Resolves (lone_registry w) w
-lone_resolves (Module m) = let k = known_view m.value in ap (λ q. cond q (Some k) None) (own_name k.name)
-lone_resolves Debug = tt
-lone_resolves SetFact = tt
-lone_resolves (Assert a) = tt
-lone_resolves Fail = tt
 
 -- what a task does is asked where that is known of its own names
 pub action_at : (st : Setting) (vars : Parts) (place : ℕ) (own its : Slots) (t : Taught) (w : Work) (xs ys : List Entry) (u : Option Fault) → own ≡ its → xs ≡ ys

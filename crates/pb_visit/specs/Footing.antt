@@ -9,7 +9,7 @@ use Rattle.pb_language.specs.Setting.{Setting, named_slots, scope_at, with_item}
 use Rattle.pb_lattice.specs.Environments.{exit_of}
 use Rattle.pb_vars.specs.InScope.{in_scope}
 use Rattle.pb_vars.specs.declared.in_scope.InScope.{InScope}
-use Rattle.pb_expr.specs.Before.{Before}
+use Rattle.pb_taught.specs.Before.{Before}
 use Rattle.pb_outlook.specs.Standing.{known_of, with_result}
 use Rattle.pb_visit.specs.declared.visit.Visit.{Visit}
 

@@ -1,5 +1,3 @@
-pub mod Station
-pub mod Gathered
 pub mod Visits
 pub mod Footing
 pub mod Made

@@ -12,12 +12,12 @@ use Rattle.pb_language.specs.Task.{Task}
 use Rattle.pb_lattice.specs.Environments.{Stands, exit_of, is_dead}
 use Rattle.pb_kind.specs.KindView.{kind_view}
 use Rattle.pb_vars.specs.InScope.{in_scope}
-use Rattle.pb_expr.specs.Before.{Before}
-use Rattle.pb_expr.specs.FitView.{fault_view}
-use Rattle.pb_expr.specs.declared.inferred.Inferred.{Inferred}
+use Rattle.pb_taught.specs.Before.{Before}
+use Rattle.pb_forms.specs.FitView.{fault_view}
+use Rattle.pb_forms.specs.declared.inferred.Inferred.{Inferred}
 use Rattle.pb_outlook.specs.Standing.{known_of}
 use Rattle.pb_transfer.specs.Written.{sets_view}
-use Rattle.pb_visit.specs.Station.{station_task}
+use Rattle.pb_route.specs.Station.{station_task}
 use Rattle.pb_visit.specs.declared.visit.Visit.{Visit}
 use Rattle.pb_visit.specs.declared.writes.Writes.{Writes}
 

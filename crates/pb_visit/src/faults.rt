@@ -11,8 +11,8 @@ ghost use Rattle.pb_language.specs.Words.{action_fault, asks, conditions_fault, 
 ghost use Rattle.pb_kind.specs.Words.{kind_view};
 ghost use Rattle.pb_syntax.specs.Words.{exprs_view};
 ghost use Rattle.pb_vars.specs.Words.{in_scope};
-ghost use Rattle.pb_expr.specs.Words.{fault_view};
-ghost use Rattle.pb_visit.specs.Station.{IsStation};
+ghost use Rattle.pb_forms.specs.Words.{fault_view};
+ghost use Rattle.pb_route.specs.Station.{IsStation};
 ghost use Rattle.pb_visit.specs.Visits.{IsReached, env_of, task_there};
 
 use crate::asked::{given, registers, until_of};

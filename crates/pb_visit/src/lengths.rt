@@ -3,7 +3,7 @@ ghost use Rattle.std.specs.Prelude.{◌≡◌, IfOk};
 ghost use Rattle.pb_language.specs.Cases.{length_bound};
 ghost use Rattle.pb_language.specs.Judgement.{loop_length};
 ghost use Rattle.pb_kind.specs.Words.{kind_view};
-ghost use Rattle.pb_visit.specs.Station.{IsStation};
+ghost use Rattle.pb_route.specs.Station.{IsStation};
 ghost use Rattle.pb_visit.specs.Visits.{IsReached, env_of, task_there};
 
 use crate::started::looped;

@@ -1,7 +1,6 @@
 // A task of a host in an environment: what is asked of it there, what it writes, and what is known
 // after it.
 //
-//     let station = Station::of(alloc, &task, &node.around, node.place, &play.vars)?;
 //     let visit = Visit { station: &station, space: &space, at };
 //     let unfit = fault(alloc, &visit, &outlook)?;
 //     let writes = written(alloc, &visit, &outlook)?;
@@ -11,17 +10,14 @@
 mod asked;
 pub mod faults;
 mod footing;
-mod gathered;
 pub mod lengths;
 mod started;
-pub mod station;
 pub mod transfer;
 pub mod visit;
 pub mod writes;
 
 pub use faults::fault;
 pub use lengths::length;
-pub use station::Station;
 pub use transfer::led;
 pub use visit::Visit;
 pub use writes::{Writes, written};

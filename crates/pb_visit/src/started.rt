@@ -4,8 +4,9 @@ ghost use Rattle.pb_language.specs.Judgement.{loop_fault};
 ghost use Rattle.pb_language.specs.Setting.{action_scope, item_scope, loop_kind, start_scope};
 ghost use Rattle.pb_language.specs.Words.{conditions_fault};
 ghost use Rattle.pb_kind.specs.Words.{kind_view};
-ghost use Rattle.pb_expr.specs.Words.{fault_view, scope_view};
-ghost use Rattle.pb_visit.specs.Station.{IsStation};
+ghost use Rattle.pb_forms.specs.Words.{fault_view};
+ghost use Rattle.pb_taught.specs.Words.{scope_view};
+ghost use Rattle.pb_route.specs.Station.{IsStation};
 ghost use Rattle.pb_visit.specs.Visits.{IsReached, env_of, item_before, loop_found, task_there};
 ghost use Rattle.pb_visit.specs.Visits.{unfit_found};
 

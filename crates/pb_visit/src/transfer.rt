@@ -8,18 +8,18 @@ ghost use Rattle.pb_kind.specs.Words.{kind_view};
 ghost use Rattle.pb_flow.specs.Words.{along_way};
 ghost use Rattle.pb_outlook.specs.Words.{known_of};
 ghost use Rattle.pb_transfer.specs.Words.{AreSame, where_led};
-ghost use Rattle.pb_visit.specs.Station.{IsStation, station_task};
+ghost use Rattle.pb_route.specs.Station.{IsStation, station_task};
 ghost use Rattle.pb_visit.specs.Made.{IsFailing, IsGoing};
 
 use crate::asked::registers;
 use crate::started::{kind_of_loop, looped};
-use crate::station::Station;
 use crate::visit::Visit;
 use crate::writes::{failing_kind, going_kind, sets_there};
 use pb_flow::Way;
 use pb_kind::Kind;
 use pb_lattice::{Environment, Environments};
 use pb_outlook::Outlook;
+use pb_route::station::Station;
 use pb_transfer::{Set, with_register, with_sets};
 use std::alloc::{AllocError, Global};
 

@@ -2,12 +2,12 @@
 ghost use Rattle.std.specs.Prelude.{◌≡◌, true};
 ghost use Rattle.pb_lattice.specs.Words.{exit_of};
 ghost use Rattle.pb_visit.specs.Footing.{footing, visit_footing};
-ghost use Rattle.pb_visit.specs.Station.{IsStation};
+ghost use Rattle.pb_route.specs.Station.{IsStation};
 ghost use Rattle.pb_visit.specs.Visits.{IsReached};
 
-use crate::station::Station;
 use pb_lattice::{Environment, Environments};
 use pb_outlook::{Ground, Outlook};
+use pb_route::station::Station;
 
 /// A way of a host to a task, by what is known of the host's variables there.
 #[derive(Drop)]

@@ -16,9 +16,9 @@ use Rattle.pb_transfer.specs.Written.{AreSame}
 use Rattle.pb_flow.specs.Solved.{along_way}
 use Rattle.pb_flow.specs.declared.flow.Way.{Way}
 use Rattle.pb_flow.specs.declared.flow.Way.TheVariants.{Begins, Goes, Fails, Passes}
-use Rattle.pb_visit.specs.Station.{station_task}
-use Rattle.pb_visit.specs.declared.station.Station.{Station}
-use Rattle.pb_way.specs.Routes.{ArePaths, Paths, node_step, path_step, task_step}
+use Rattle.pb_route.specs.Station.{station_task}
+use Rattle.pb_route.specs.declared.station.Station.{Station}
+use Rattle.pb_route.specs.Routes.{ArePaths, Paths, node_step, path_step, task_step}
 
 -- exits of which the same is known are below each other
 pub same-below : (e f : Exit) → WellExit f → AreSame e f → ExitLe e f × ExitLe f e

@@ -1,12 +1,4 @@
-pub mod NodesVisits
-pub mod Gathered
 pub mod Alongs
 pub mod Tables
 pub mod Walking
 pub mod Solved
-pub mod Stations
-pub mod PathSteps
-pub mod Routed
-pub mod PlacesCounted
-pub mod PlacesFirsts
-pub mod PlacesRows

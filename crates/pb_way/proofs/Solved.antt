@@ -16,15 +16,12 @@ use Rattle.pb_lattice.specs.declared.environment.Environment.{Environment}
 use Rattle.pb_lattice.proofs.Exits.{stands_well}
 use Rattle.pb_flow.specs.Solved.{SolutionIsWalk}
 use Rattle.pb_walks.specs.Laws.{ValuesAreVisits}
-use Rattle.pb_way.specs.Routes.{ArePathsOf, Paths, path_step}
+use Rattle.pb_route.specs.Routes.{ArePathsOf, Paths, path_step}
 use Rattle.pb_way.specs.Tabled.{Known, known_in}
-use Rattle.pb_way.specs.Visited.{NodesAreVisits}
+use Rattle.pb_route.specs.Visited.{NodesAreVisits}
 use Rattle.pb_way.specs.Walks.{IsWalk}
+use Rattle.pb_route.proofs.Stations.{if-ok}
 use Rattle.pb_way.proofs.Walking.{path-walk}
-
-pub if-ok : {A E : Type 0} (r : Result A E) (P Q : A → Type 0) → IfOk r P → ((a : A) → P a → Q a) → IfOk r Q
-if-ok (Ok a) P Q p f = f a p
-if-ok (Err e) P Q p f = tt
 
 -- as of the values in a table
 abbrev pub KnownCovers : (ℕ → Exit → Exit) → Graph → Known → (ℕ → Known) → Type 0

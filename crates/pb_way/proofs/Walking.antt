@@ -19,8 +19,8 @@ use Rattle.pb_flow.specs.Flow.{end_node}
 use Rattle.pb_flow.specs.Solved.{SolutionIsWalk, row_graph, row_step}
 use Rattle.pb_walks.specs.Agree.{AllVisitsAgree, SettingsAgree}
 use Rattle.pb_walks.specs.Laws.{ValuesAreVisits}
-use Rattle.pb_way.specs.Routes.{ArePathsOf, Paths, path_step}
-use Rattle.pb_way.specs.Visited.{NodesAreVisits}
+use Rattle.pb_route.specs.Routes.{ArePathsOf, Paths, path_step}
+use Rattle.pb_route.specs.Visited.{NodesAreVisits}
 use Rattle.pb_way.specs.Walks.{IsWalk}
 
 -- a setting agrees with itself

@@ -7,7 +7,7 @@ use Rattle.pb_language.specs.Walk.{walk}
 use Rattle.pb_language.specs.Wells.{WellExit}
 use Rattle.pb_flow.specs.Flow.{end_node, tasks_of}
 use Rattle.pb_walks.specs.Agree.{AllVisitsAgree, ExitsAgree}
-use Rattle.pb_way.specs.Visited.{nodes_visits}
+use Rattle.pb_route.specs.Visited.{nodes_visits}
 
 -- the walk of the row, as far as kinds that are below each other are the same
 pub record IsWalk (st : Setting) (row : Row) (e : Exit) (val : ℕ → Exit) : Type 0 where

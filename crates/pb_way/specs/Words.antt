@@ -1,4 +1,2 @@
 -- The words of this crate that the contracts of others cite, from one place.
-pub use Rattle.pb_way.specs.Routes.{ArePaths, ArePathsOf, Gathers, Paths}
-pub use Rattle.pb_way.specs.Visited.{nodes_visits}
 pub use Rattle.pb_way.specs.Walks.{IsWalk}

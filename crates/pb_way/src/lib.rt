@@ -6,14 +6,8 @@
 //     let end = values[values.len() - 1]; // where the next play begins
 #![tactic(auto)]
 
-pub mod gathering;
-pub mod laws;
 mod moves;
-pub mod places;
-pub mod route;
 mod tabled;
 pub mod walks;
 
-pub use gathering::gathering_task;
-pub use route::Route;
 pub use walks::walk;

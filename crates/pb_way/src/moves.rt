@@ -1,8 +1,8 @@
 // What goes along the edges of a play on a host's way.
-use crate::route::Route;
 use crate::tabled::Tabled;
 use pb_lattice::{Environments, Steps, Transfer};
 use pb_outlook::Outlook;
+use pb_route::route::Route;
 use pb_transfer::laws::what_is_led_goes_up;
 use pb_visit::led;
 use std::alloc::{AllocError, Global};
@@ -23,7 +23,7 @@ pub struct Move<'s, 'p, O: Outlook> {
 }
 
 impl<'s, 'p, O: Outlook> Steps for Move<'s, 'p, O> {
-    ghost use Rattle.pb_way.specs.Routes.{path_step};
+    ghost use Rattle.pb_route.specs.Routes.{path_step};
 
     ghost carried = { λ m.
         path_step (O.setting m.moves.outlook.now) m.moves.route.now m.edge };

@@ -2,16 +2,16 @@
 ghost use Rattle.std.specs.Prelude.{◌≡◌, ◌+◌, All, IfOk, length, slice_index_or, vec_len};
 ghost use Rattle.pb_language.specs.Task.{Row};
 ghost use Rattle.pb_lattice.specs.Words.{IsKept, Stands, exit_of};
-ghost use Rattle.pb_way.specs.Routes.{ArePathsOf};
+ghost use Rattle.pb_route.specs.Routes.{ArePathsOf};
 ghost use Rattle.pb_way.specs.Walks.{IsWalk};
 
-use crate::laws::nodes_are_visits;
 use crate::moves::{Move, Moves};
-use crate::route::Route;
 use crate::tabled::{Tabled, environments_of};
 use pb_flow::laws::solution_is_walk;
 use pb_lattice::{Environment, Environments, solve};
 use pb_outlook::Outlook;
+use pb_route::laws::nodes_are_visits;
+use pb_route::route::Route;
 use pb_walks::values_are_visits;
 use std::alloc::{AllocError, Global};
 

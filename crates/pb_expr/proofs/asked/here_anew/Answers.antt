@@ -1,4 +1,4 @@
-use Rattle.pb_expr.specs.TaughtView.{scope_view}
+use Rattle.pb_taught.specs.TaughtView.{scope_view}
 use Rattle.pb_expr.proofs.asked.here_anew.Goals as goal
 
 pub returns-clause-right : goal.returns-clause-right

@@ -5,7 +5,8 @@ use Rattle.pb_language.specs.Scope.{Scope, has_view, host_spot, is_certain, put_
 use Rattle.pb_kind.specs.KindView.{is_always, kind_view}
 use Rattle.pb_syntax.specs.ExprView.{names_of}
 use Rattle.pb_expr.specs.ChangeView.{change_view}
-use Rattle.pb_expr.specs.TaughtView.{scope_view, slot_given}
+use Rattle.pb_kind.specs.Found.{slot_given}
+use Rattle.pb_taught.specs.TaughtView.{scope_view}
 use Rattle.pb_expr.proofs.change.teach_there.Goals as goal
 
 abbrev taught_there : Scope → List ℕ → List ℕ → Bool → KindData → Scope

@@ -1,4 +1,4 @@
-use Rattle.pb_expr.specs.TaughtView.{scope_view}
+use Rattle.pb_taught.specs.TaughtView.{scope_view}
 use Rattle.pb_expr.proofs.fit.infer_kind.Goals as goal
 
 pub infer-requires : goal.infer-requires

@@ -10,15 +10,16 @@ use Rattle.pb_language.specs.Narrow.{narrow, narrow_each, narrow_some, where_tau
 use Rattle.pb_kind.specs.KindView.{kind_view, slots_view}
 use Rattle.pb_syntax.specs.ExprView.{expr_view, exprs_view, parts_view, names_of, root_view, status_view}
 use Rattle.pb_syntax.specs.declared.expr.Expr.{Expr}
-use Rattle.pb_expr.specs.FitView.{fault_view}
-use Rattle.pb_expr.specs.Found.{AreFound, IsFoundOf, are_bools, are_plain_kinds, fault_in, faults_in, joined_in, part_faults_in}
-use Rattle.pb_expr.specs.TaughtView.{scope_view, scopes_view, taught_by}
-use Rattle.pb_expr.specs.declared.inferred.Inferred.{Inferred}
+use Rattle.pb_forms.specs.FitView.{fault_view}
+use Rattle.pb_expr.specs.Found.{AreFound, IsFoundOf}
+use Rattle.pb_forms.specs.InferredView.{are_bools, are_plain_kinds, fault_in, faults_in, joined_in, part_faults_in}
+use Rattle.pb_taught.specs.TaughtView.{scope_view, scopes_view, taught_by}
+use Rattle.pb_forms.specs.declared.inferred.Inferred.{Inferred}
 use Rattle.pb_syntax.proofs.Ascending.{Ascending}
-use Rattle.pb_expr.proofs.Findings.{and-true, first-none, fault-turn, chain-turn, booleans-turn}
+use Rattle.pb_forms.proofs.Findings.{and-true, first-none, fault-turn, chain-turn, booleans-turn}
 use Rattle.pb_syntax.proofs.Exprs.{view-Concat, view-List, view-PathStatus}
 use Rattle.pb_expr.proofs.FoundParts.{found-booleans, found-chain, found-count, found-faults, found-items, found-kinds, found-plain}
-use Rattle.pb_expr.proofs.Records.{slots_from, put_slot-last, parts_slots-ascending}
+use Rattle.pb_forms.proofs.Records.{slots_from, put_slot-last, parts_slots-ascending}
 use Rattle.pb_syntax.proofs.Left.{drop-at}
 use Rattle.pb_expr.proofs.Ways.{some-ways, status-narrowed, ways, ways-turn, same-last}
 use Rattle.pb_expr.proofs.inference.+infer.Goals as goal

@@ -6,11 +6,11 @@ use Rattle.pb_language.specs.Narrow.{narrow_each}
 use Rattle.pb_kind.specs.KindView.{slots_view}
 use Rattle.pb_syntax.specs.ExprView.{expr_view, exprs_view, parts_view}
 use Rattle.pb_syntax.specs.declared.expr.Expr.{Expr, size-Expr}
-use Rattle.pb_expr.specs.FitView.{fault_view}
+use Rattle.pb_forms.specs.FitView.{fault_view}
 use Rattle.pb_expr.specs.Found.{AreFound, IsRight}
-use Rattle.pb_expr.specs.TaughtView.{scope_view, scopes_view, taught_by}
-use Rattle.pb_expr.specs.declared.inferred.Inferred.{Inferred}
-use Rattle.pb_expr.proofs.Records.{slots_from}
+use Rattle.pb_taught.specs.TaughtView.{scope_view, scopes_view, taught_by}
+use Rattle.pb_forms.specs.declared.inferred.Inferred.{Inferred}
+use Rattle.pb_forms.proofs.Records.{slots_from}
 use Rattle.pb_expr.proofs.Ways.{ways}
 use Rattle.pb_expr.proofs.inference.+infer.Given as goal
 

@@ -2,8 +2,8 @@ use Rattle.std.proofs.Common.{◌∷◌, ap, ◌∙◌}
 use Rattle.pb_language.specs.Expansion.{expanded_root}
 use Rattle.pb_language.specs.Scope.{resolved}
 use Rattle.pb_syntax.specs.ExprView.{names_of, root_view}
-use Rattle.pb_expr.specs.TaughtView.{present_view, presents_view, scope_view}
-use Rattle.pb_expr.proofs.NamedRoots.{resolved-expanded}
+use Rattle.pb_taught.specs.TaughtView.{present_view, presents_view, scope_view}
+use Rattle.pb_taught.proofs.NamedRoots.{resolved-expanded}
 use Rattle.pb_expr.proofs.Untold.{shown_at, with_present}
 use Rattle.pb_expr.proofs.narrow.add_shown.Goals as goal
 

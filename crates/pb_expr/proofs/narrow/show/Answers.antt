@@ -4,7 +4,7 @@ use Rattle.pb_language.specs.Expansion.{expanded_root}
 use Rattle.pb_language.specs.Narrow.{defined_at, teach, teach_present, there_spot}
 use Rattle.pb_language.specs.Scope.{resolved}
 use Rattle.pb_syntax.specs.ExprView.{names_of, root_view}
-use Rattle.pb_expr.specs.TaughtView.{scope_view}
+use Rattle.pb_taught.specs.TaughtView.{scope_view}
 use Rattle.pb_expr.proofs.Untold.{present-kept, resolved-taught, shown-last, shown_at, with_present}
 use Rattle.pb_expr.proofs.narrow.show.Goals as goal
 

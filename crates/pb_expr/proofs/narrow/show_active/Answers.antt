@@ -3,7 +3,7 @@ use Rattle.std.proofs.lemmas.Result.{IfOk-weaker}
 use Rattle.pb_language.specs.Narrow.{active_member, teach_active}
 use Rattle.pb_language.specs.World.{member_of}
 use Rattle.pb_syntax.specs.ExprView.{term_view}
-use Rattle.pb_expr.specs.TaughtView.{scope_view}
+use Rattle.pb_taught.specs.TaughtView.{scope_view}
 use Rattle.pb_expr.proofs.narrow.show_active.Goals as goal
 
 pub returns-in-Named : goal.returns-in-Named

@@ -1,6 +1,6 @@
 use Rattle.std.proofs.Common.{sym, ◌∙◌}
 use Rattle.std.proofs.lemmas.Result.{IfOk-weaker}
-use Rattle.pb_expr.specs.TaughtView.{scope_view, scopes_view}
+use Rattle.pb_taught.specs.TaughtView.{scope_view, scopes_view}
 use Rattle.pb_expr.proofs.Ways.{last-taken, taught-last}
 use Rattle.pb_expr.proofs.narrow.taught_by_all.Goals as goal
 

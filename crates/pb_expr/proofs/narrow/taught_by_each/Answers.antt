@@ -1,5 +1,5 @@
 use Rattle.std.proofs.Common.{◌≡◌, [], sym, ap, ◌∙◌, arith}
-use Rattle.pb_expr.specs.TaughtView.{scope_view, scopes_view}
+use Rattle.pb_taught.specs.TaughtView.{scope_view, scopes_view}
 use Rattle.pb_expr.proofs.Ways.{met_by, no-entries, taught-last, way-met}
 use Rattle.pb_expr.proofs.narrow.taught_by_each.Goals as goal
 

@@ -1,6 +1,6 @@
 use Rattle.std.proofs.Common.{◌≡◌, length}
-use Rattle.pb_expr.specs.Before.{Before}
-use Rattle.pb_expr.specs.TaughtView.{scope_view, scopes_view}
+use Rattle.pb_taught.specs.Before.{Before}
+use Rattle.pb_taught.specs.TaughtView.{scope_view, scopes_view}
 use Rattle.pb_expr.proofs.Ways.{met_by}
 use Rattle.pb_expr.proofs.narrow.taught_by_each.Given as goal
 

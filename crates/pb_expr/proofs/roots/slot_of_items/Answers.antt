@@ -5,7 +5,7 @@ use Rattle.pb_language.specs.Scope.{each_spot, hosts_at, spot_among, unnamed}
 use Rattle.pb_kind.specs.Found.{spot_view}
 use Rattle.pb_kind.specs.KindView.{is_always, kind_view}
 use Rattle.pb_kind.proofs.KindLemmas.{kind_view-Host}
-use Rattle.pb_expr.specs.TaughtView.{scope_view}
+use Rattle.pb_taught.specs.TaughtView.{scope_view}
 use Rattle.pb_expr.proofs.Untold.{each-untold}
 use Rattle.pb_expr.proofs.roots.slot_of_items.Goals as goal
 

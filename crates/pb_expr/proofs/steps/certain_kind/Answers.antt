@@ -1,7 +1,7 @@
 use Rattle.std.proofs.Common.{sym, ap, ◌∙◌}
 use Rattle.pb_semantics.specs.Kind.{spot}
 use Rattle.pb_kind.specs.KindView.{kind_view}
-use Rattle.pb_expr.specs.FitView.{certain}
+use Rattle.pb_forms.specs.FitView.{certain}
 use Rattle.pb_expr.proofs.steps.certain_kind.Goals as goal
 
 pub returns-then-is_always : goal.returns-then-is_always

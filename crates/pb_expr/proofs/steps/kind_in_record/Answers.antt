@@ -2,7 +2,7 @@ use Rattle.std.proofs.lemmas.Result.{MatchResult-weaker}
 use Rattle.pb_kind.specs.KindView.{kind_view, slots_view}
 use Rattle.pb_kind.proofs.Views.{kind_view-Rec}
 use Rattle.pb_kind.proofs.KindLemmas.{kind_view-Never}
-use Rattle.pb_expr.proofs.Findings.{field-certain, field-uncertain, below-never}
+use Rattle.pb_forms.proofs.Findings.{field-certain, field-uncertain, below-never}
 use Rattle.pb_expr.proofs.steps.kind_in_record.Goals as goal
 
 pub returns-in-Never : goal.returns-in-Never

@@ -2,8 +2,8 @@ use Rattle.std.proofs.Common.{sym, ap, ◌∙◌}
 use Rattle.pb_language.specs.Fit.{steps_fault}
 use Rattle.pb_language.specs.Scope.{spot_kind}
 use Rattle.pb_syntax.specs.ExprView.{names_of}
-use Rattle.pb_expr.specs.TaughtView.{slot_given}
-use Rattle.pb_expr.proofs.Findings.{never-steps}
+use Rattle.pb_kind.specs.Found.{slot_given}
+use Rattle.pb_forms.proofs.Findings.{never-steps}
 use Rattle.pb_expr.proofs.steps.steps_unfit.Goals as goal
 
 pub returns-in-None : goal.returns-in-None

@@ -2,9 +2,9 @@ use Rattle.std.proofs.Common.{◌≡◌, ◌+◌, ◌∷◌, ◌<◌, List, ap, 
 use Rattle.std.proofs.lemmas.Bool.{ne_eqb}
 use Rattle.std.proofs.lemmas.List.{get_or_read}
 use Rattle.pb_syntax.proofs.Left.{drop-at}
-use Rattle.pb_visit.specs.Station.{station_task}
-use Rattle.pb_visit.specs.declared.station.Station.{Station}
-use Rattle.pb_way.specs.Places.{length_at, places_calls}
+use Rattle.pb_route.specs.Station.{station_task}
+use Rattle.pb_route.specs.declared.station.Station.{Station}
+use Rattle.pb_route.specs.Places.{length_at, places_calls}
 use Rattle.pb_find.specs.Ways.{way_visits}
 use Rattle.pb_find.proofs.Counting.{first_counted, other_counted}
 use Rattle.pb_find.proofs.calls.calls_in.Goals.{then-from-next+in_ok-here+in_ok-calls, else-from-next}

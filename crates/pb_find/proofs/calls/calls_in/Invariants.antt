@@ -1,6 +1,6 @@
 use Rattle.std.proofs.Common.{◌≡◌, ◌+◌, ◌≤◌, ◌^◌, drop, map}
-use Rattle.pb_visit.specs.Station.{station_task}
-use Rattle.pb_way.specs.Places.{places_calls}
+use Rattle.pb_route.specs.Station.{station_task}
+use Rattle.pb_route.specs.Places.{places_calls}
 use Rattle.pb_find.specs.Ways.{way_visits}
 use Rattle.pb_find.proofs.calls.calls_in.Given as goal
 

@@ -1,9 +1,9 @@
 use Rattle.std.proofs.Common.{◌≡◌, ◌+◌, ◌++◌, ◌∷◌, List, ap, drop, length, max, slice_index, suc, take, ◌∙◌, arith}
 use Rattle.pb_language.specs.Walk.{visits_at}
 use Rattle.pb_syntax.proofs.Left.{drop-at}
-use Rattle.pb_visit.specs.Station.{station_task}
-use Rattle.pb_visit.specs.declared.station.Station.{Station}
-use Rattle.pb_way.specs.Places.{length_at}
+use Rattle.pb_route.specs.Station.{station_task}
+use Rattle.pb_route.specs.declared.station.Station.{Station}
+use Rattle.pb_route.specs.Places.{length_at}
 use Rattle.pb_find.specs.Ways.{Visits, value_at, visits_from}
 use Rattle.pb_find.proofs.Counting.{written_back}
 use Rattle.pb_find.proofs.calls.lengths_in.Goals as goal

@@ -1,6 +1,6 @@
 use Rattle.std.proofs.Common.{◌≡◌, ℕ, ◌+◌, ◌<◌, max, drop, slice_index, vec_len}
 use Rattle.std.specs.List.{All}
-use Rattle.pb_way.specs.Places.{length_at}
+use Rattle.pb_route.specs.Places.{length_at}
 use Rattle.pb_find.specs.Ways.{visits_from, way_visits}
 use Rattle.pb_find.proofs.calls.lengths_in.Given as goal
 

@@ -1,5 +1,5 @@
 use Rattle.std.proofs.Common.{ℕ, ◌<◌, get_or}
-use Rattle.pb_visit.specs.declared.station.Station.{Station}
+use Rattle.pb_route.specs.declared.station.Station.{Station}
 use Rattle.pb_find.proofs.calls.places_of.Given as goal
 
 abbrev pub invariant-loop-station : goal.invariant-loop-station

@@ -3,7 +3,7 @@ use Rattle.std.proofs.lemmas.Result.{IfOk-weaker}
 use Rattle.pb_language.specs.Walk.{Visit}
 use Rattle.pb_lattice.specs.Environments.{exit_of}
 use Rattle.pb_kind.specs.KindView.{slots_view}
-use Rattle.pb_visit.specs.Station.{station_task}
+use Rattle.pb_route.specs.Station.{station_task}
 use Rattle.pb_find.specs.Finds.{Finds}
 use Rattle.pb_find.proofs.Finding.{alive_visits, dead_visits, finds_nothing}
 use Rattle.pb_find.proofs.find.find_at.Goals as goal

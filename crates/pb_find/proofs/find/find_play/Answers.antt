@@ -3,9 +3,9 @@ use Rattle.std.proofs.lemmas.List.{drop_all}
 use Rattle.pb_language.specs.Walk.{visits_at}
 use Rattle.pb_syntax.proofs.Left.{drop-at}
 use Rattle.pb_kind.specs.KindView.{slots_view}
-use Rattle.pb_visit.specs.Station.{station_task}
-use Rattle.pb_visit.specs.declared.station.Station.{Station}
-use Rattle.pb_way.specs.Visited.{nodes_visits}
+use Rattle.pb_route.specs.Station.{station_task}
+use Rattle.pb_route.specs.declared.station.Station.{Station}
+use Rattle.pb_route.specs.Visited.{nodes_visits}
 use Rattle.pb_find.specs.Finds.{Finds}
 use Rattle.pb_find.specs.Ways.{nothing_known, value_at, visits_from}
 use Rattle.pb_find.proofs.Finding.{finds_node, finds_nothing, values_well}

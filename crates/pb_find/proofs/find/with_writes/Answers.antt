@@ -6,7 +6,7 @@ use Rattle.pb_syntax.proofs.Left.{drop-at}
 use Rattle.pb_transfer.specs.Written.{sets_view}
 use Rattle.pb_transfer.specs.declared.written.Set.{Set}
 use Rattle.pb_kind.specs.KindView.{kind_view, slots_view}
-use Rattle.pb_visit.specs.Station.{station_task}
+use Rattle.pb_route.specs.Station.{station_task}
 use Rattle.pb_visit.specs.Visits.{registered}
 use Rattle.pb_find.specs.Written.{Written}
 use Rattle.pb_find.proofs.Writes.{any_flag, well_first, well_second, written_nothing, written_then}

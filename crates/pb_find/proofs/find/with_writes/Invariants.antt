@@ -4,7 +4,7 @@ use Rattle.pb_semantics.specs.Well.{Well}
 use Rattle.pb_language.specs.Wells.{WellSets}
 use Rattle.pb_kind.specs.KindView.{slots_view}
 use Rattle.pb_transfer.specs.Written.{sets_view}
-use Rattle.pb_visit.specs.Station.{station_task}
+use Rattle.pb_route.specs.Station.{station_task}
 use Rattle.pb_visit.specs.Visits.{writes_view}
 use Rattle.pb_find.specs.Written.{Written}
 use Rattle.pb_find.specs.declared.find.Find.{Find}

@@ -3,7 +3,7 @@ use Rattle.std.proofs.lemmas.Result.{IfOk-weaker}
 use Rattle.pb_language.specs.Expansion.{parts_expanded}
 use Rattle.pb_language.specs.Judgement.{action_fault, arguments_fault}
 use Rattle.pb_language.specs.Plays.{action_of}
-use Rattle.pb_expr.specs.TaughtView.{scope_view}
+use Rattle.pb_taught.specs.TaughtView.{scope_view}
 use Rattle.pb_sig.specs.ModuleView.{known_view}
 use Rattle.pb_sig.specs.declared.registry.Known.{Known}
 use Rattle.pb_task.specs.Tasks.{Resolves, work_view}

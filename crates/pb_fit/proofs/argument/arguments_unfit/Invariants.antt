@@ -1,7 +1,7 @@
 use Rattle.std.proofs.Common.{◌≡◌, map, drop}
 use Rattle.pb_language.specs.Expansion.{parts_expanded}
 use Rattle.pb_language.specs.Judgement.{arguments_fault}
-use Rattle.pb_expr.specs.TaughtView.{scope_view}
+use Rattle.pb_taught.specs.TaughtView.{scope_view}
 use Rattle.pb_sig.specs.Views.{parameter_view}
 use Rattle.pb_template.specs.Entries.{entries_view}
 use Rattle.pb_fit.proofs.argument.arguments_unfit.Given as goal

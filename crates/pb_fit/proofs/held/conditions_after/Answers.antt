@@ -6,9 +6,9 @@ use Rattle.pb_language.specs.Judgement.{conditions_fault}
 use Rattle.pb_language.specs.Narrow.{narrow_each}
 use Rattle.pb_syntax.specs.ExprView.{expr_view, exprs_view}
 use Rattle.pb_syntax.proofs.Left.{drop-at}
-use Rattle.pb_expr.specs.FitView.{fault_view}
-use Rattle.pb_expr.specs.TaughtView.{scope_view}
-use Rattle.pb_expr.proofs.Findings.{first-none}
+use Rattle.pb_forms.specs.FitView.{fault_view}
+use Rattle.pb_taught.specs.TaughtView.{scope_view}
+use Rattle.pb_forms.proofs.Findings.{first-none}
 use Rattle.pb_fit.proofs.InTurn.{condition-turn}
 use Rattle.pb_fit.proofs.held.conditions_after.Goals as goal
 

@@ -4,8 +4,8 @@ use Rattle.pb_language.specs.Fit.{first}
 use Rattle.pb_language.specs.Judgement.{conditions_fault}
 use Rattle.pb_language.specs.Narrow.{narrow_each}
 use Rattle.pb_syntax.specs.ExprView.{exprs_view}
-use Rattle.pb_expr.specs.FitView.{fault_view}
-use Rattle.pb_expr.specs.TaughtView.{scope_view}
+use Rattle.pb_forms.specs.FitView.{fault_view}
+use Rattle.pb_taught.specs.TaughtView.{scope_view}
 use Rattle.pb_fit.proofs.held.conditions_after.Given as goal
 
 abbrev pub invariant-loop-condition : goal.invariant-loop-condition

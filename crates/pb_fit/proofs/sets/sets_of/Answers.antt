@@ -4,7 +4,7 @@ use Rattle.pb_language.specs.Cases.{append_sets, sets, parts_set}
 use Rattle.pb_language.specs.Expansion.{parts_expanded}
 use Rattle.pb_kind.specs.KindView.{kind_view}
 use Rattle.pb_syntax.proofs.Left.{drop-at}
-use Rattle.pb_expr.specs.TaughtView.{scope_view}
+use Rattle.pb_taught.specs.TaughtView.{scope_view}
 use Rattle.pb_template.specs.Entries.{entries_view}
 use Rattle.pb_fit.specs.SetsView.{sets_view}
 use Rattle.pb_fit.proofs.SetNames.{append_sets-push, append_sets-none}

@@ -1,7 +1,7 @@
 use Rattle.std.proofs.Common.{◌≡◌, Bool, drop}
 use Rattle.pb_language.specs.Cases.{append_sets, parts_set}
 use Rattle.pb_language.specs.Expansion.{parts_expanded}
-use Rattle.pb_expr.specs.TaughtView.{scope_view}
+use Rattle.pb_taught.specs.TaughtView.{scope_view}
 use Rattle.pb_template.specs.Entries.{entries_view}
 use Rattle.pb_fit.specs.SetsView.{sets_view}
 use Rattle.pb_fit.proofs.sets.sets_of.Given as goal

@@ -4,7 +4,7 @@ use Rattle.pb_language.specs.Expression.{Name}
 use Rattle.pb_language.specs.Scope.{is_certain}
 use Rattle.pb_lattice.specs.Words.{exit_of, lost_marks, spot_in}
 use Rattle.pb_syntax.proofs.Left.{drop-at}
-use Rattle.pb_visit.specs.declared.station.Station.{Station}
+use Rattle.pb_route.specs.declared.station.Station.{Station}
 use Rattle.pb_find.specs.Ways.{value_at, way_visits}
 use Rattle.pb_hosts.specs.Tables.{never_lasts}
 use Rattle.pb_lasting.specs.Losses.{AreAll, reached}

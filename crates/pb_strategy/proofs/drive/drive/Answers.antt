@@ -2,11 +2,11 @@ use Rattle.std.proofs.Common.{◌≡◌, ◌∷◌, [], ◌++◌, ℕ, true, len
 use Rattle.std.proofs.lemmas.List.{length_push}
 use Rattle.pb_strategy.specs.Drives.{IsJobDone, ends, goes_on}
 use Rattle.pb_strategy.specs.History.{RunState, is_over, is_stopped}
-use Rattle.pb_strategy.specs.Jobs.{ticket_out}
-use Rattle.pb_strategy.specs.declared.answer.Job.{Job}
-use Rattle.pb_strategy.specs.declared.event.Event.TheVariants.{Start, Give}
-use Rattle.pb_strategy.specs.declared.event.Taken.{Taken}
-use Rattle.pb_strategy.specs.declared.event.Taken.TheVariants as taken
+use Rattle.pb_outcome.specs.Jobs.{ticket_out}
+use Rattle.pb_outcome.specs.declared.answer.Job.{Job}
+use Rattle.pb_outcome.specs.declared.event.Event.TheVariants.{Start, Give}
+use Rattle.pb_outcome.specs.declared.event.Taken.{Taken}
+use Rattle.pb_outcome.specs.declared.event.Taken.TheVariants as taken
 use Rattle.pb_strategy.proofs.Drives.{IsQuiet, is_job-none, IsQuiet-taken}
 use Rattle.pb_strategy.proofs.Histories.{runnable-stop, is_over-stopped}
 use Rattle.pb_strategy.proofs.drive.drive.Goals as goal

@@ -1,6 +1,6 @@
 use Rattle.std.proofs.Common.{◌≡◌, ◌∷◌, [], nat_lt, true}
 use Rattle.pb_strategy.specs.Standing.{is_done}
-use Rattle.pb_strategy.specs.declared.host.HostState.{HostState}
+use Rattle.pb_outcome.specs.declared.host.HostState.{HostState}
 use Rattle.pb_strategy.proofs.run.are_through.Given as goal
 
 abbrev pub invariant-loop-state : goal.invariant-loop-state

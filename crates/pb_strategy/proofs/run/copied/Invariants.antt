@@ -1,5 +1,5 @@
 use Rattle.std.proofs.Common.{◌≡◌, map, take}
-use Rattle.pb_strategy.specs.Events.{answer_data, why_of}
+use Rattle.pb_outcome.specs.Events.{answer_data, why_of}
 use Rattle.pb_strategy.proofs.run.copied.Given as goal
 
 abbrev pub invariant-loop-answer : goal.invariant-loop-answer

@@ -4,8 +4,8 @@ use Rattle.std.proofs.lemmas.List.{length-map, length-replicate, nil_from_length
 use Rattle.pb_language.specs.Program.{memberships_of}
 use Rattle.pb_language.specs.World.{HostVariables}
 use Rattle.pb_inventory.specs.Inventory.{inventory_view}
-use Rattle.pb_strategy.specs.Recaps.{nothing}
-use Rattle.pb_strategy.specs.Room.{IsOpening}
+use Rattle.pb_outcome.specs.Recaps.{nothing}
+use Rattle.pb_outcome.specs.Room.{IsOpening}
 use Rattle.pb_strategy.proofs.run.opening_hosts.Goals as goal
 
 first_of : {X : Type 0} (f : HostVariables → X) (hs : List HostVariables) (h : HostVariables) (k : ℕ) (x : X) → hs ≡ h ∷ [] → k ≡ 0 → option_map f (slice_get hs k) ≡ Some x → x ≡ f h

@@ -1,6 +1,6 @@
 use Rattle.std.proofs.Common.{◌≡◌, ◌∷◌, [], length, nat_lt, cond, Some, None, ◌&&◌}
 use Rattle.pb_strategy.specs.Standing.{can_run}
-use Rattle.pb_strategy.specs.declared.host.HostState.{HostState}
+use Rattle.pb_outcome.specs.declared.host.HostState.{HostState}
 use Rattle.pb_strategy.proofs.run.ready_host.Given as goal
 
 abbrev pub invariant-loop-host : goal.invariant-loop-host

@@ -1,6 +1,6 @@
 use Rattle.std.proofs.Common.{◌≡◌, ◌++◌, [], ◌∷◌, ◌+◌, map, take, sym, ap, ◌∙◌}
 use Rattle.std.proofs.lemmas.List.{take_more}
-use Rattle.pb_strategy.specs.Events.{event_view}
+use Rattle.pb_outcome.specs.Events.{event_view}
 use Rattle.pb_strategy.specs.History.{enabled_of}
 use Rattle.pb_strategy.proofs.Machines.{there}
 use Rattle.pb_strategy.proofs.Replays.{enabled_of-push}

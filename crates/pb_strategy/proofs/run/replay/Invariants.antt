@@ -1,6 +1,6 @@
 use Rattle.std.proofs.Common.{◌≡◌, map, take, []}
 use Rattle.pb_strategy.specs.Readiness.{run_of_ready}
-use Rattle.pb_strategy.specs.Events.{event_view}
+use Rattle.pb_outcome.specs.Events.{event_view}
 use Rattle.pb_strategy.specs.History.{enabled_of}
 use Rattle.pb_strategy.proofs.run.replay.Given as goal
 

@@ -1,5 +1,5 @@
 use Rattle.std.proofs.Common.{◌≡◌, ◌≤◌, count_by, is_some, take}
-use Rattle.pb_strategy.specs.Jobs.{ticket_in}
+use Rattle.pb_outcome.specs.Jobs.{ticket_in}
 use Rattle.pb_strategy.proofs.run.running.Given as goal
 
 abbrev pub invariant-loop-state : goal.invariant-loop-state

@@ -1,5 +1,5 @@
 use Rattle.std.proofs.Common.{refl}
-use Rattle.pb_strategy.specs.Jobs.{ticket_in}
+use Rattle.pb_outcome.specs.Jobs.{ticket_in}
 use Rattle.pb_strategy.proofs.Jobs.{tickets_of-set}
 use Rattle.pb_strategy.proofs.Tallies.{recaps_of-kept}
 use Rattle.pb_strategy.proofs.run.set_running.Goals as goal

@@ -3,11 +3,11 @@ use Rattle.std.proofs.lemmas.Option.{get_or_from_slice_get, slice_get_within}
 use Rattle.pb_semantics.specs.Data.{field_value}
 use Rattle.pb_language.specs.plain.Gives.{goes_on}
 use Rattle.pb_value.specs.View.{fields_view}
-use Rattle.pb_strategy.specs.Outcomes.{IsSettledHost}
-use Rattle.pb_strategy.specs.Recaps.{Counts}
-use Rattle.pb_strategy.specs.Endings.{came_of}
-use Rattle.pb_strategy.specs.Jobs.{ticket_in}
-use Rattle.pb_strategy.specs.declared.host.Stage.TheVariants as stage
+use Rattle.pb_outcome.specs.Outcomes.{IsSettledHost}
+use Rattle.pb_outcome.specs.Recaps.{Counts}
+use Rattle.pb_outcome.specs.Endings.{came_of}
+use Rattle.pb_outcome.specs.Jobs.{ticket_in}
+use Rattle.pb_outcome.specs.declared.host.Stage.TheVariants as stage
 use Rattle.pb_strategy.proofs.Jobs.{tickets_of-set}
 use Rattle.pb_strategy.proofs.Tallies.{recap_of-at, recaps_of-set}
 use Rattle.pb_strategy.proofs.run.settle.Goals as goal

@@ -11,7 +11,7 @@ use Rattle.pb_lattice.specs.Environments.{exit_of}
 use Rattle.pb_inventory.specs.Inventory.{inventory_view}
 use Rattle.pb_inventory.specs.declared.inventory.Inventory as read
 use Rattle.pb_kind.specs.KindView.{slots_view}
-use Rattle.pb_way.specs.Routes.{ArePathsOf}
+use Rattle.pb_route.specs.Routes.{ArePathsOf}
 use Rattle.pb_language.specs.Plays.{play_row}
 use Rattle.pb_hosts.specs.Shown.{views_view}
 use Rattle.pb_hosts.specs.Sights.{seen_setting}

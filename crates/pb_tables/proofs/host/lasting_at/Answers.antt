@@ -10,7 +10,7 @@ use Rattle.pb_lattice.specs.Environments.{Stands, exit_of}
 use Rattle.pb_lattice.specs.declared.environment.Environment.{Environment}
 use Rattle.pb_inventory.specs.Inventory.{inventory_view}
 use Rattle.pb_inventory.specs.declared.inventory.Inventory as read
-use Rattle.pb_visit.specs.declared.station.Station.{Station}
+use Rattle.pb_route.specs.declared.station.Station.{Station}
 use Rattle.pb_find.specs.Ways.{nothing_known, value_at, way_visits}
 use Rattle.pb_find.proofs.Entering.{kept_through}
 use Rattle.pb_hosts.specs.Shown.{views_view}

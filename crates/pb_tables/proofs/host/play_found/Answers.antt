@@ -6,9 +6,9 @@ use Rattle.pb_language.specs.Tables.{row_calls}
 use Rattle.pb_lattice.specs.Environments.{exit_of}
 use Rattle.pb_lattice.specs.declared.environment.Environment.{Environment}
 use Rattle.pb_kind.specs.KindView.{slots_view}
-use Rattle.pb_visit.specs.Station.{station_task}
-use Rattle.pb_visit.specs.declared.station.Station.{Station}
-use Rattle.pb_way.specs.Places.{places_calls}
+use Rattle.pb_route.specs.Station.{station_task}
+use Rattle.pb_route.specs.declared.station.Station.{Station}
+use Rattle.pb_route.specs.Places.{places_calls}
 use Rattle.pb_find.specs.Finds.{Finds}
 use Rattle.pb_find.specs.Ways.{nothing_known, value_at, way_visits}
 use Rattle.pb_tables.specs.Played.{IsWay}

@@ -2,7 +2,7 @@ use Rattle.std.proofs.Common.{◌≡◌, ◌+◌, [], ◌∷◌, ◌++◌, take,
 use Rattle.std.proofs.lemmas.List.{take_more}
 use Rattle.std.proofs.lemmas.List.Elements.{All-push}
 use Rattle.std.proofs.lemmas.Option.{slice_get_read}
-use Rattle.pb_way.specs.Routes.{Gathers}
+use Rattle.pb_route.specs.Routes.{Gathers}
 use Rattle.pb_verify.proofs.Gathered.{gathered_there, program_more, scenes_more, sound_there}
 use Rattle.pb_verify.proofs.scenes.scenes_of.Goals as goal
 

@@ -4,7 +4,7 @@ use Rattle.pb_language.specs.Fit.{asks, unknown_handler}
 use Rattle.pb_language.specs.Judgement.{action_fault, conditions_fault, keyword_fault, loop_fault, until_fault}
 use Rattle.pb_language.specs.Notify.{all_notified, names_something}
 use Rattle.pb_language.specs.Setting.{action_scope, give_scope, item_scope, start_scope, until_scope}
-use Rattle.pb_expr.specs.FitView.{fault_view}
+use Rattle.pb_forms.specs.FitView.{fault_view}
 use Rattle.pb_visit.specs.Visits.{env_of, task_there}
 use Rattle.pb_visit.proofs.OnGround.{faults_in_order}
 use Rattle.pb_visit.proofs.faults.fault.Goals as goal

@@ -4,7 +4,7 @@ use Rattle.pb_language.specs.Judgement.{action_fault, conditions_fault}
 use Rattle.pb_language.specs.Setting.{action_scope, item_scope}
 use Rattle.pb_lattice.specs.Environments.{exit_of}
 use Rattle.pb_kind.specs.KindView.{kind_view}
-use Rattle.pb_expr.specs.FitView.{fault_view}
+use Rattle.pb_forms.specs.FitView.{fault_view}
 use Rattle.pb_visit.specs.Footing.{footing}
 use Rattle.pb_visit.specs.Visits.{env_of, task_there}
 use Rattle.pb_visit.proofs.OnGround.{started_action, then_found}

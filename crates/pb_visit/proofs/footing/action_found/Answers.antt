@@ -4,7 +4,7 @@ use Rattle.pb_language.specs.Setting.{named_slots, with_item}
 use Rattle.pb_lattice.specs.Environments.{exit_of}
 use Rattle.pb_kind.specs.KindView.{kind_view}
 use Rattle.pb_vars.specs.InScope.{in_scope}
-use Rattle.pb_expr.specs.FitView.{fault_view}
+use Rattle.pb_forms.specs.FitView.{fault_view}
 use Rattle.pb_outlook.specs.Standing.{known_of, own_names}
 use Rattle.std.proofs.Common.{None}
 use Rattle.pb_visit.proofs.OnGround.{action_at}

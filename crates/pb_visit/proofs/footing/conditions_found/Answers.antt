@@ -2,8 +2,8 @@ use Rattle.std.proofs.Common.{◌≡◌, ◌<◌, ◌≤◌, ap, get_or, length,
 use Rattle.std.proofs.lemmas.List.{take_all}
 use Rattle.std.proofs.lemmas.Result.{IfOk-weaker}
 use Rattle.pb_syntax.specs.ExprView.{exprs_view}
-use Rattle.pb_expr.specs.FitView.{fault_view}
-use Rattle.pb_expr.specs.TaughtView.{scope_view}
+use Rattle.pb_forms.specs.FitView.{fault_view}
+use Rattle.pb_taught.specs.TaughtView.{scope_view}
 use Rattle.pb_visit.proofs.Held.{IsHeld, conditions_round, fault_more, round_next, taught_more}
 use Rattle.pb_visit.proofs.footing.conditions_found.Goals as goal
 

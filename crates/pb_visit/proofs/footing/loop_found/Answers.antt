@@ -4,8 +4,8 @@ use Rattle.pb_language.specs.Expansion.{expanded, trees}
 use Rattle.pb_lattice.specs.Environments.{exit_of}
 use Rattle.pb_kind.specs.KindView.{kind_view}
 use Rattle.pb_syntax.specs.ExprView.{expr_view}
-use Rattle.pb_expr.specs.FitView.{fault_view}
-use Rattle.pb_expr.specs.TaughtView.{scope_view}
+use Rattle.pb_forms.specs.FitView.{fault_view}
+use Rattle.pb_taught.specs.TaughtView.{scope_view}
 use Rattle.pb_visit.specs.Footing.{before_on, footing, loop_on}
 use Rattle.pb_visit.proofs.Looped.{fault_there, kind_there}
 use Rattle.pb_visit.proofs.footing.loop_found.Goals as goal

@@ -1,7 +1,7 @@
 use Rattle.std.proofs.Common.{option_map}
 use Rattle.pb_lattice.specs.Environments.{exit_of}
 use Rattle.pb_kind.specs.KindView.{kind_view}
-use Rattle.pb_expr.specs.FitView.{fault_view}
+use Rattle.pb_forms.specs.FitView.{fault_view}
 use Rattle.pb_visit.specs.Footing.{footing}
 use Rattle.pb_visit.proofs.Looped.{looped_fault, looped_kind}
 use Rattle.pb_visit.proofs.started.looped.Goals as goal

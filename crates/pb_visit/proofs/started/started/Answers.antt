@@ -2,7 +2,7 @@ use Rattle.std.proofs.Common.{option_map}
 use Rattle.std.proofs.lemmas.Result.{IfOk-weaker}
 use Rattle.pb_lattice.specs.Environments.{exit_of}
 use Rattle.pb_kind.specs.KindView.{kind_view}
-use Rattle.pb_expr.specs.FitView.{fault_view}
+use Rattle.pb_forms.specs.FitView.{fault_view}
 use Rattle.pb_visit.specs.Footing.{footing}
 use Rattle.pb_visit.proofs.OnGround.{started_fault, started_taught}
 use Rattle.pb_visit.proofs.started.started.Goals as goal

@@ -3,7 +3,7 @@ use Rattle.std.proofs.lemmas.Result.{IfOk-weaker}
 use Rattle.pb_lattice.specs.Environments.{exit_of}
 use Rattle.pb_lattice.proofs.Exits.{stands_well}
 use Rattle.pb_kind.specs.KindView.{kind_view}
-use Rattle.pb_visit.specs.Station.{station_task}
+use Rattle.pb_route.specs.Station.{station_task}
 use Rattle.pb_visit.proofs.Making.{fails_with}
 use Rattle.pb_visit.proofs.transfer.failing.Goals as goal
 

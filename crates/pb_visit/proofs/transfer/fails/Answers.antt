@@ -5,7 +5,7 @@ use Rattle.pb_kind.specs.KindView.{kind_view}
 use Rattle.pb_kind.specs.declared.kind.Kind.{Kind}
 use Rattle.pb_outlook.specs.Standing.{known_of}
 use Rattle.pb_visit.specs.Made.{IsFailing}
-use Rattle.pb_visit.specs.Station.{station_task}
+use Rattle.pb_route.specs.Station.{station_task}
 use Rattle.pb_visit.proofs.Leading.{fails_nowhere, fails_somewhere}
 use Rattle.pb_visit.proofs.transfer.fails.Goals as goal
 

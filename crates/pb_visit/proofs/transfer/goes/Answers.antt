@@ -6,7 +6,7 @@ use Rattle.pb_outlook.specs.Standing.{known_of}
 use Rattle.pb_transfer.specs.Written.{AreSame, sets_view, where_led}
 use Rattle.pb_transfer.specs.declared.written.Set.{Set}
 use Rattle.pb_visit.specs.Made.{IsGoing}
-use Rattle.pb_visit.specs.Station.{station_task}
+use Rattle.pb_route.specs.Station.{station_task}
 use Rattle.pb_visit.specs.declared.transfer.Made.{Made}
 use Rattle.pb_transfer.proofs.Same.{kept_through}
 use Rattle.pb_visit.proofs.Leading.{goes_nowhere, goes_somewhere}

@@ -2,7 +2,7 @@ use Rattle.std.proofs.Common.{◌∙◌, ap, option_map, sym}
 use Rattle.pb_lattice.specs.Environments.{exit_of}
 use Rattle.pb_lattice.proofs.Exits.{stands_well}
 use Rattle.pb_kind.specs.KindView.{kind_view}
-use Rattle.pb_visit.specs.Station.{station_task}
+use Rattle.pb_route.specs.Station.{station_task}
 use Rattle.pb_visit.specs.declared.transfer.Made.{Made}
 use Rattle.pb_visit.proofs.Making.{goes_making, goes_not}
 use Rattle.pb_visit.proofs.transfer.going.Goals as goal

@@ -4,8 +4,8 @@ use Rattle.pb_fit.specs.SetsView.{sets_view as found_view}
 use Rattle.pb_fit.specs.declared.sets.Set as found
 use Rattle.pb_transfer.specs.Written.{sets_view}
 use Rattle.pb_transfer.specs.declared.written.Set.{Set}
-use Rattle.pb_visit.proofs.Facts.{nothing_left}
-use Rattle.pb_visit.proofs.Sets.{append_sets-none, append_sets-push}
+use Rattle.pb_route.proofs.Facts.{nothing_left}
+use Rattle.pb_route.proofs.Sets.{append_sets-none, append_sets-push}
 use Rattle.pb_visit.proofs.writes.as_written.Goals as goal
 
 pub loop-name-init : goal.loop-name-init

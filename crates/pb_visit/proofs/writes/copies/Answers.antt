@@ -4,7 +4,7 @@ use Rattle.pb_language.specs.Cases.{append_sets, sets}
 use Rattle.pb_syntax.proofs.Left.{drop-at}
 use Rattle.pb_transfer.specs.Written.{sets_view}
 use Rattle.pb_transfer.specs.declared.written.Set.{Set}
-use Rattle.pb_visit.proofs.Sets.{append_sets-none, append_sets-push}
+use Rattle.pb_route.proofs.Sets.{append_sets-none, append_sets-push}
 use Rattle.pb_visit.proofs.writes.copies.Goals as goal
 
 pub loop-set-preserved : goal.loop-set-preserved

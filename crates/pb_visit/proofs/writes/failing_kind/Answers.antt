@@ -2,7 +2,7 @@ use Rattle.std.proofs.Common.{Option, ◌∙◌, ap, option_map, sym, Bor}
 use Rattle.std.proofs.lemmas.Result.{IfOk-weaker}
 use Rattle.pb_kind.specs.KindView.{kind_view}
 use Rattle.pb_kind.specs.declared.kind.Kind.{Kind}
-use Rattle.pb_visit.specs.Station.{station_task}
+use Rattle.pb_route.specs.Station.{station_task}
 use Rattle.pb_visit.specs.Visits.{failing_kind}
 use Rattle.pb_visit.proofs.Ends.{fails_alone, fails_looped, fails_never}
 use Rattle.pb_visit.proofs.writes.failing_kind.Goals as goal

@@ -2,7 +2,7 @@ use Rattle.std.proofs.Common.{Option, ◌∙◌, ap, is_some, option_map, sym, B
 use Rattle.std.proofs.lemmas.Result.{IfOk-weaker}
 use Rattle.pb_kind.specs.KindView.{kind_view}
 use Rattle.pb_kind.specs.declared.kind.Kind.{Kind}
-use Rattle.pb_visit.specs.Station.{station_task}
+use Rattle.pb_route.specs.Station.{station_task}
 use Rattle.pb_visit.specs.Visits.{going_kind}
 use Rattle.pb_visit.proofs.Ends.{goes_alone}
 use Rattle.pb_visit.proofs.writes.going_kind.Goals as goal

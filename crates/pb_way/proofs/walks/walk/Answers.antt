@@ -2,7 +2,8 @@ use Rattle.std.proofs.Common.{◌∙◌, length, map, sym, ap, subst, arith}
 use Rattle.std.proofs.lemmas.List.{length-map}
 use Rattle.std.specs.List.{All}
 use Rattle.pb_lattice.specs.Environments.{Stands}
-use Rattle.pb_way.proofs.Solved.{if-ok, solved-walk, stand-all}
+use Rattle.pb_way.proofs.Solved.{solved-walk, stand-all}
+use Rattle.pb_route.proofs.Stations.{if-ok}
 use Rattle.pb_way.proofs.Tables.{kept-known}
 use Rattle.pb_way.proofs.walks.walk.Goals as goal
 

@@ -1,6 +1,6 @@
 use Rattle.std.proofs.Common.{sym, subst}
 use Rattle.pb_expr.specs.Found.{AreRight}
-use Rattle.pb_expr.specs.TaughtView.{scope_view}
+use Rattle.pb_taught.specs.TaughtView.{scope_view}
 use Rattle.pb_expr.proofs.asked.Here.copy.Goals as goal
 
 pub returns-clause-right : goal.returns-clause-right

@@ -3,10 +3,10 @@ use Rattle.std.proofs.lemmas.List.{length-map, length_push}
 use Rattle.pb_language.specs.Machine.{enabled, start}
 use Rattle.pb_strategy.specs.History.{RunState, state_of}
 use Rattle.pb_strategy.specs.Inside.{run_state, tickets_of, handed_of}
-use Rattle.pb_strategy.specs.Jobs.{ticket_in}
-use Rattle.pb_strategy.specs.Passes.{job_calls}
+use Rattle.pb_outcome.specs.Jobs.{ticket_in}
+use Rattle.pb_outcome.specs.Passes.{job_calls}
 use Rattle.pb_strategy.specs.Standing.{plain_after}
-use Rattle.pb_strategy.specs.declared.event.Event.TheVariants.{Start}
+use Rattle.pb_outcome.specs.declared.event.Event.TheVariants.{Start}
 use Rattle.pb_strategy.proofs.Histories.{IsRun-push, RunState-same}
 use Rattle.pb_strategy.proofs.Jobs.{tickets-more}
 use Rattle.pb_strategy.proofs.Machines.{there, IsMachine-start, calls-start, slice_get-start, within-start}

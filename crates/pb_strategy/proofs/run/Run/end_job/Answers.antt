@@ -4,17 +4,17 @@ use Rattle.std.proofs.lemmas.List.Sums.{count_by-le-length}
 use Rattle.std.proofs.lemmas.Option.{slice_get_within, get_or_from_slice_get}
 use Rattle.pb_sig.specs.Modules.{modules_of}
 use Rattle.pb_strategy.specs.Inside.{recaps_of, tickets_of, handed_of, is_phase_stopped}
-use Rattle.pb_strategy.specs.Jobs.{ticket_in, ticket_out}
-use Rattle.pb_strategy.specs.Outcomes.{ComesTo}
-use Rattle.pb_strategy.specs.Recaps.{counted, Counts}
+use Rattle.pb_outcome.specs.Jobs.{ticket_in, ticket_out}
+use Rattle.pb_outcome.specs.Outcomes.{ComesTo}
+use Rattle.pb_outcome.specs.Recaps.{counted, Counts}
 use Rattle.pb_strategy.specs.History.{RunState, is_stopped}
 use Rattle.pb_strategy.specs.Tally.{is_give_of, recap_of, gives_of}
-use Rattle.pb_strategy.specs.declared.answer.Answer.{Answer}
-use Rattle.pb_strategy.specs.declared.event.Event.TheVariants.{Give}
+use Rattle.pb_outcome.specs.declared.answer.Answer.{Answer}
+use Rattle.pb_outcome.specs.declared.event.Event.TheVariants.{Give}
 use Rattle.pb_strategy.proofs.Histories.{IsRun-push, length-longer, RunState-same, IsRun-same}
 use Rattle.pb_strategy.proofs.Jobs.{get_or-tickets, tickets-more}
 use Rattle.pb_strategy.proofs.Machines.{slice_get-read, slice_get-running, place-running, IsMachine-give, IsMachine-room}
-use Rattle.pb_strategy.proofs.Settled.{IsSettledHost-roomier}
+use Rattle.pb_outcome.proofs.Settled.{IsSettledHost-roomier}
 use Rattle.pb_strategy.proofs.Tallies.{recap_of-at, recaps_of-settled, tally-give}
 use Rattle.pb_strategy.proofs.run.Run.end_job.Goals as goal
 

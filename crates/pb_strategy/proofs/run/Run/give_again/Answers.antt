@@ -1,11 +1,11 @@
 use Rattle.std.proofs.Common.{◌≡◌, ◌&&◌, not, is_some, map, get_or, None, refl, sym, ap, ap₂, ◌∙◌}
 use Rattle.std.proofs.Math.Bool.{and-false}
 use Rattle.pb_language.specs.Machine.{give}
-use Rattle.pb_strategy.specs.Events.{answer_data, why_of}
+use Rattle.pb_outcome.specs.Events.{answer_data, why_of}
 use Rattle.pb_strategy.specs.History.{RunState, is_stopped}
 use Rattle.pb_strategy.specs.Inside.{tickets_of}
-use Rattle.pb_strategy.specs.Jobs.{ticket_out}
-use Rattle.pb_strategy.specs.declared.event.Event.TheVariants.{Give}
+use Rattle.pb_outcome.specs.Jobs.{ticket_out}
+use Rattle.pb_outcome.specs.declared.event.Event.TheVariants.{Give}
 use Rattle.pb_strategy.proofs.Replays.{enabled-give, is_some-answerable, Follows-none, Follows-one}
 use Rattle.pb_strategy.proofs.run.Run.give_again.Goals as goal
 

@@ -1,5 +1,5 @@
 use Rattle.std.proofs.Common.{sym, ap, ◌∙◌}
-use Rattle.pb_strategy.specs.Jobs.{is_ticket, ticket_out}
+use Rattle.pb_outcome.specs.Jobs.{is_ticket, ticket_out}
 use Rattle.pb_strategy.proofs.Jobs.{get_or-tickets}
 use Rattle.pb_strategy.proofs.Machines.{slice_get-read}
 use Rattle.pb_strategy.proofs.run.Run.is_out.Goals as goal

@@ -3,7 +3,7 @@ use Rattle.std.proofs.lemmas.List.{length-map, length-replicate}
 use Rattle.pb_inventory.specs.Inventory.{inventory_view}
 use Rattle.pb_plain.specs.Books.{plays_of}
 use Rattle.pb_strategy.specs.History.{has_no_plays}
-use Rattle.pb_strategy.specs.Recaps.{nothing}
+use Rattle.pb_outcome.specs.Recaps.{nothing}
 use Rattle.pb_strategy.proofs.Histories.{or-false, IsMachine-same}
 use Rattle.pb_strategy.proofs.Jobs.{get_or-none}
 use Rattle.pb_strategy.proofs.Openings.{IsMachine-opening}

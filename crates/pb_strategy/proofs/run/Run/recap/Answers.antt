@@ -1,5 +1,5 @@
 use Rattle.std.proofs.Common.{ap, ◌∙◌}
-use Rattle.pb_strategy.specs.Events.{recap_data}
+use Rattle.pb_outcome.specs.Events.{recap_data}
 use Rattle.pb_strategy.specs.History.{state_of}
 use Rattle.pb_strategy.specs.Inside.{recaps_of}
 use Rattle.pb_strategy.specs.Tally.{recap_of}

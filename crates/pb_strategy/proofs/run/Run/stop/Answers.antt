@@ -1,7 +1,7 @@
 use Rattle.std.proofs.Common.{refl, ap, ◌∙◌}
 use Rattle.pb_strategy.specs.History.{is_stopped}
 use Rattle.pb_strategy.specs.Inside.{run_state, tickets_of}
-use Rattle.pb_strategy.specs.declared.event.Event.TheVariants.{Stop}
+use Rattle.pb_outcome.specs.declared.event.Event.TheVariants.{Stop}
 use Rattle.pb_strategy.specs.declared.run.Phase.TheVariants as phase
 use Rattle.pb_strategy.proofs.Histories.{length-longer, is_stopped-stop, is_over-stop, IsMachine-same}
 use Rattle.pb_strategy.proofs.Jobs.{tickets-other}

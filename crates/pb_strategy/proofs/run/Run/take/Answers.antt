@@ -2,10 +2,10 @@ use Rattle.std.proofs.Common.{◌≡◌, ◌<◌, ◌≤◌, ◌&&◌, nat_lt, c
 use Rattle.pb_language.specs.Machine.{enabled, start, turn}
 use Rattle.pb_strategy.specs.History.{RunState, after, is_over, state_of}
 use Rattle.pb_strategy.specs.Inside.{is_phase_ended, is_phase_stopped}
-use Rattle.pb_strategy.specs.Jobs.{ticket_in}
+use Rattle.pb_outcome.specs.Jobs.{ticket_in}
 use Rattle.pb_strategy.specs.Next.{starts, waits, ended, stopped, next_of}
 use Rattle.pb_strategy.specs.Standing.{can_run}
-use Rattle.pb_strategy.specs.declared.event.Event.TheVariants.{Turn}
+use Rattle.pb_outcome.specs.declared.event.Event.TheVariants.{Turn}
 use Rattle.pb_strategy.proofs.Histories.{is_over-turn}
 use Rattle.pb_strategy.proofs.Jobs.{IsOneOut-busy}
 use Rattle.pb_strategy.proofs.Nexts.{ticket_in-busy, ticket_in-idle, ready, next_of-stopped, next_of-ended, next_of-starts, next_of-waits, next_of-turns}

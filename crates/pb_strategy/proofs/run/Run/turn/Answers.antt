@@ -2,7 +2,7 @@ use Rattle.std.proofs.Common.{◌≡◌, true, false, refl, ap, ◌∙◌, rules
 use Rattle.pb_language.specs.Machine.{enabled, turn}
 use Rattle.pb_strategy.specs.History.{RunState, is_stopped, state_of}
 use Rattle.pb_strategy.specs.Inside.{run_state, tickets_of}
-use Rattle.pb_strategy.specs.declared.event.Event.TheVariants.{Turn}
+use Rattle.pb_outcome.specs.declared.event.Event.TheVariants.{Turn}
 use Rattle.pb_strategy.specs.declared.run.Phase.TheVariants as phase
 use Rattle.pb_strategy.proofs.Histories.{length-longer, is_stopped-more, or-false, is_over-turn, IsMachine-same}
 use Rattle.pb_strategy.proofs.Jobs.{tickets-other}

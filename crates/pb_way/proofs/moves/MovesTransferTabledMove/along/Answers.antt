@@ -2,7 +2,7 @@ use Rattle.std.proofs.Common.{◌∙◌, ap}
 use Rattle.pb_language.specs.Ordered.{ExitLe}
 use Rattle.pb_lattice.proofs.Exits.{stands_well}
 use Rattle.pb_lattice.specs.Environments.{exit_of}
-use Rattle.pb_way.specs.Routes.{path_step}
+use Rattle.pb_route.specs.Routes.{path_step}
 use Rattle.pb_way.proofs.Alongs.{start-along, task-along}
 use Rattle.pb_way.proofs.Tables.{known-kept}
 use Rattle.pb_way.proofs.moves.MovesTransferTabledMove.along.Given as given

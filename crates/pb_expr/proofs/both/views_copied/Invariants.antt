@@ -1,7 +1,0 @@
-use Rattle.std.proofs.Common.{◌≡◌, []}
-use Rattle.pb_expr.specs.TaughtView.{views_view}
-use Rattle.pb_expr.proofs.Seen.{copied_onto}
-use Rattle.pb_expr.proofs.both.views_copied.Given as goal
-
-abbrev pub invariant-loop-host : goal.invariant-loop-host
-invariant-loop-host l = copied_onto l.views.entries [] ≡ copied_onto l.host-iterator (views_view l.all.entries)

@@ -1,5 +1,0 @@
-use Rattle.std.proofs.Common.{length}
-use Rattle.pb_expr.proofs.scope.+begins.Given as goal
-
-abbrev pub decreases-begins : goal.decreases-begins
-decreases-begins l = length l.few.now

@@ -1,8 +1,0 @@
-use Rattle.std.proofs.Common.{◌≡◌, drop}
-use Rattle.pb_syntax.specs.Aliases.{Trees}
-use Rattle.pb_expr.specs.TaughtView.{learned_view}
-use Rattle.pb_expr.proofs.NamedRoots.{append_learned}
-use Rattle.pb_expr.proofs.scope.learned_copied.Given as goal
-
-abbrev pub invariant-loop-taught : goal.invariant-loop-taught
-invariant-loop-taught l = (f : Trees) → learned_view f l.learned ≡ append_learned (learned_view f l.all.items) (learned_view f (drop l.taught-index l.learned))

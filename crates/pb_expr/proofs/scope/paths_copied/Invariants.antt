@@ -1,7 +1,0 @@
-use Rattle.std.proofs.Common.{◌≡◌, ◌++◌, drop}
-use Rattle.pb_syntax.specs.Aliases.{Trees}
-use Rattle.pb_expr.specs.TaughtView.{presents_view}
-use Rattle.pb_expr.proofs.scope.paths_copied.Given as goal
-
-abbrev pub invariant-loop-path : goal.invariant-loop-path
-invariant-loop-path l = (f : Trees) → presents_view f l.paths ≡ presents_view f l.all.items ++ presents_view f (drop l.path-index l.paths)

@@ -1,0 +1,4 @@
+pub mod Findings
+pub mod AnsweredCases
+pub mod NewCases
+pub mod Records

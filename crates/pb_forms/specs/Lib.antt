@@ -1,0 +1,4 @@
+pub mod FitView
+pub mod InferredView
+pub mod SpotFound
+pub mod Words

@@ -1,0 +1,13 @@
+pub mod Stripped
+pub mod Sets
+pub mod Facts
+pub mod Round
+pub mod Placed
+pub mod NodesVisits
+pub mod GatheringTask
+pub mod Stations
+pub mod PathSteps
+pub mod Routed
+pub mod PlacesCounted
+pub mod PlacesFirsts
+pub mod PlacesRows

@@ -1,0 +1,3 @@
+pub mod BothTaught
+pub mod Seen
+pub mod NamedRoots

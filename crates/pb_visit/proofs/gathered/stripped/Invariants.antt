@@ -1,6 +1,0 @@
-use Rattle.pb_kind.specs.KindView.{slots_view}
-use Rattle.pb_visit.proofs.Stripped.{IsStripping}
-use Rattle.pb_visit.proofs.gathered.stripped.Given as goal
-
-abbrev pub invariant-loop-name : goal.invariant-loop-name
-invariant-loop-name l = IsStripping (slots_view l.facts.entries) (slots_view l.name-iterator) (slots_view l.stripped.entries)

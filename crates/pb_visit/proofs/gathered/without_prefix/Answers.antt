@@ -1,5 +1,0 @@
-use Rattle.pb_visit.proofs.Stripped.{after_prefix-stripped}
-use Rattle.pb_visit.proofs.gathered.without_prefix.Goals as goal
-
-pub returns : goal.returns
-returns c = after_prefix-stripped c.args.name.now c.strip_prefix.result c.strip_prefix.ensures.cases

@@ -1,5 +1,0 @@
-use Rattle.pb_way.proofs.NodesVisits.{row-visits}
-use Rattle.pb_way.proofs.laws.nodes_are_visits.Goals as goal
-
-pub returns : goal.returns
-returns c = λ st row val n. row-visits st val row n

@@ -179,8 +179,8 @@ pub fn kind_at_end(slot: &Option<Slot<Kind>>, steps: &[String]) -> Result<Kind, 
     }
 }
 
-/// The kind at the end of the steps where something certainly stands there, or a test showed that it
-/// does, the other where nothing can, else the least kind above both.
+/// The kind at the end of the steps where something certainly stands there, or a test showed that
+/// it does, the other where nothing can, else the least kind above both.
 ///
 /// # Errors
 ///

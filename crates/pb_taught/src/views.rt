@@ -19,8 +19,8 @@ use pb_kind::{Kind, Slot, Slots};
 use std::alloc::{AllocError, Global};
 use std::collections::{BTreeMap, BTreeSet};
 
-/// What is known of a variable of the host of that name, with what tests taught of it; the flag says
-/// that the host is known to be active.
+/// What is known of a variable of the host of that name, with what tests taught of it; the flag
+/// says that the host is known to be active.
 ///
 /// # Errors
 ///

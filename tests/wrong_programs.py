@@ -279,7 +279,7 @@ class Followed:
 
     @contextlib.contextmanager
     def turn(self):
-        """While rt ci runs, which wants the other half of the memory, half of the processors are for wrong programs; then all."""
+        """One of those in which so many crates may be tried at once."""
         while not self.is_begun():
             time.sleep(1)
         try:
@@ -289,11 +289,17 @@ class Followed:
                 self.tried -= 1
 
     def is_begun(self):
-        most = self.processors if ENDED in self.lines() else max(self.processors // 2, 1)
         with self.lock:
-            is_free = self.tried < most
+            is_free = self.tried < self.most()
             self.tried += is_free
         return is_free
+
+    def most(self):
+        """While rt ci runs, which wants the other half of the memory, half of the processors are for wrong programs, and one more
+        where one has been idle for a minute; then all."""
+        if ENDED in self.lines():
+            return self.processors
+        return max(self.processors // 2, 1) + (os.getloadavg()[0] < self.processors - 0.5)
 
     def lines(self):
         return self.log.read_text(errors="replace").splitlines()

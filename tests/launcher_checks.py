@@ -1,11 +1,12 @@
 # Checks of ./playcheck in copies of the tree: which program it runs, and what it says where it has to build one:
-# python3 tests/launcher_checks.py. With the program that rt built; see also that dist/playcheck is that program.
+# python3 tests/launcher_checks.py [PROGRAM], with a program that is of these sources.
 import os
 import shutil
 import subprocess
 import sys
 import tempfile
 import time
+from concurrent.futures import ThreadPoolExecutor
 from pathlib import Path
 
 TOP = Path(__file__).resolve().parent.parent
@@ -24,12 +25,11 @@ chmod +x out/pb_cli
 
 
 def path_without_rt(tools):
-    """A PATH with what the launcher needs, and no rt: a folder of links."""
-    for name in ["bash", "sh", "env", "cat", "cut", "date", "dirname", "mkdir", "mktemp", "chmod", "printf"]:
+    """Makes a folder of links to what the launcher needs, with no rt: a PATH."""
+    for name in ["bash", "sh", "env", "cat", "cut", "date", "find", "mkdir", "mktemp", "chmod", "mv", "printf"]:
         link(tools, name)
     for name in ["readlink", "rm", "sha256sum", "sort", "touch", "tr", "xargs"]:
         link(tools, name)
-    return str(tools)
 
 
 def link(tools, name):
@@ -38,7 +38,7 @@ def link(tools, name):
         os.symlink(found, tools / name)
 
 
-def tree(folder):
+def tree(folder, program):
     """A copy of what the launcher reads, with nothing built and a ready program that is of these sources."""
     top = folder / "tree"
     for source in ["crates.txt", "playcheck", "sources.sh"]:
@@ -49,7 +49,7 @@ def tree(folder):
             shutil.copytree(crate / "src", top / "crates" / crate.name / "src")
     shutil.copytree(TOP / "examples", top / "examples")
     (top / "dist").mkdir()
-    shutil.copy2(PROGRAM, top / "dist/playcheck")
+    shutil.copy2(program, top / "dist/playcheck")
     said = subprocess.run(
         ["bash", "-c", f"top='{top}'; . '{top}/sources.sh'; sources_sum"], stdout=subprocess.PIPE, check=True
     )
@@ -67,9 +67,26 @@ def build_here(top, says, age=0):
     os.utime(out / "pb_cli", (moment, moment))
 
 
+SOURCE = "crates/pb_value/src/lib.rt"
+
+
 def edit_source(top):
-    with open(top / "crates/pb_value/src/lib.rt", "a", encoding="utf-8") as source:
+    with open(top / SOURCE, "a", encoding="utf-8") as source:
         source.write("// edited\n")
+
+
+def edit_in_secret(top):
+    """An edit that leaves the source as long as it was, and as old."""
+    source = top / SOURCE
+    before = source.stat()
+    text = source.read_bytes()
+    source.write_bytes(text[:-2] + b"~" + text[-1:])
+    os.utime(source, ns=(before.st_atime_ns, before.st_mtime_ns))
+
+
+def add_old_source(top):
+    (top / "crates/pb_value/src/more.rt").write_text("// more\n")
+    os.utime(top / "crates/pb_value/src/more.rt", (0, 0))
 
 
 def truncate(top):
@@ -79,6 +96,10 @@ def truncate(top):
 
 def write_ready(top, text):
     (top / "dist/playcheck").write_text(text)
+
+
+def write_stamp(top, text):
+    (top / "dist/stamp").write_text(text)
 
 
 # Each case: its name, what is done to the copy, whether an rt is there, and what is wanted: status, output, errors.
@@ -106,50 +127,62 @@ CASES = [
 ]
 
 
-def failure_of(change, has_rt, wanted):
+# The same where ./playcheck was run before, so that it goes by its stamp. With no `sha256sum` it has nothing else to go by.
+STAMPED = [
+    ("nothing has changed", lambda top: (top.parent / "tools/sha256sum").unlink(), False, READY),
+    ("a source is edited", edit_source, False, REFUSED),
+    ("a source is edited in secret", edit_in_secret, False, REFUSED),
+    ("an old file is added", add_old_source, False, REFUSED),
+    ("a source is removed", lambda top: (top / SOURCE).unlink(), False, REFUSED),
+    ("a crate is removed", lambda top: shutil.rmtree(top / "crates/pb_walks"), False, REFUSED),
+    ("a script as the ready program", lambda top: write_ready(top, "#!/bin/sh\necho wrong\n"), False, REFUSED),
+    ("no ready program", lambda top: (top / "dist/playcheck").unlink(), False, REFUSED),
+    ("another sum", lambda top: (top / "dist/sources").write_text("0\n"), False, REFUSED),
+    ("a program built here", lambda top: build_here(top, "built here"), False, HERE),
+    ("a stamp that names another program", lambda top: write_stamp(top, "../tools/sh\n"), False, READY),
+    ("an empty stamp", lambda top: write_stamp(top, ""), False, READY),
+]
+
+
+def launched(top, tools):
+    return subprocess.run(
+        [str(top / "playcheck"), *CHECK], cwd=top, env={"PATH": str(tools)}, capture_output=True, timeout=60
+    )
+
+
+def failure_of(program, is_stamped, change, has_rt, wanted):
     """What is wrong with what the launcher does in a copy to which that was done; nothing where it is as wanted."""
     with tempfile.TemporaryDirectory() as name:
         folder = Path(name)
         tools = folder / "tools"
         tools.mkdir()
-        path = path_without_rt(tools)
+        path_without_rt(tools)
         if has_rt:
             (tools / "rt").write_text(RT)
             (tools / "rt").chmod(0o755)
-        top = tree(folder)
+        top = tree(folder, program)
+        if is_stamped:
+            # What is younger than a second counts as changed.
+            time.sleep(2.1)
+            launched(top, tools)
+            if not (top / "dist/stamp").is_file():
+                return "no stamp is written"
         change(top)
-        done = subprocess.run(
-            [str(top / "playcheck"), *CHECK], cwd=top, env={"PATH": path}, capture_output=True, timeout=60
-        )
+        done = launched(top, tools)
     got = (done.returncode, done.stdout, done.stderr)
     return "" if got == wanted else f"wanted {wanted}, got {got}"
 
 
-def ready_failure():
-    """What is wrong with dist/playcheck: it has to be the program, where dist/sources is of the tree's sources."""
-    said = subprocess.run(
-        ["bash", "-c", f"top='{TOP}'; . '{TOP}/sources.sh'; sources_sum"], stdout=subprocess.PIPE, check=True
-    )
-    try:
-        of_these = (TOP / "dist/sources").read_bytes().startswith(said.stdout)
-    except OSError:
-        of_these = False
-    if not of_these:
-        print("dist/playcheck is of older sources: ./release makes it anew")
-        return ""
-    if (TOP / "dist/playcheck").read_bytes() != PROGRAM.read_bytes():
-        return "dist/playcheck isn't the program that was built from these sources"
-    return ""
-
-
 def main():
-    failures = [(name, failure_of(change, has_rt, wanted)) for name, change, has_rt, wanted in CASES]
-    failures.append(("the ready program", ready_failure()))
-    failed = 0
-    for name, said in failures:
+    program = os.path.abspath(sys.argv[1] if len(sys.argv) > 1 else PROGRAM)
+    cases = [(f"launcher, {name}", False, *rest) for name, *rest in CASES]
+    cases += [(f"launcher that ran before, {name}", True, *rest) for name, *rest in STAMPED]
+    with ThreadPoolExecutor(os.cpu_count() or 1) as pool:
+        failures = list(pool.map(lambda it: failure_of(program, *it[1:]), cases))
+    for (name, *_), said in zip(cases, failures):
         if said:
-            failed += 1
-            print(f"FAILED: launcher, {name}: {said}")
+            print(f"FAILED: {name}: {said}")
+    failed = sum(bool(said) for said in failures)
     print(f"{len(failures) - failed} passed, {failed} failed")
     return 1 if failed else 0
 

@@ -1,8 +1,10 @@
-# Each allocation refused in turn, of the program and of the tests that make calls by hand: the answer, or want of memory
-# by name, and nothing else.
+# Each allocation refused in turn, of the program and, where they are given, of the tests that make calls by hand: the answer, or
+# want of memory by name, and nothing else: python3 tests/refused_checks.py PROGRAM [TESTS]
 import json
 import os
+import shutil
 import subprocess
+import sys
 import tempfile
 from pathlib import Path
 
@@ -11,6 +13,7 @@ from check import TIMEOUT, Outcome, write_files
 TESTS = Path(__file__).resolve().parent
 REFUSED = b"allocation refused\n"  # what refuse.c says
 MOST = 20_000  # more allocations than any of these makes
+SHOWN = 20
 
 OK = {"changed": True, "rc": 0, "stdout": "a", "stderr": "", "stdout_lines": ["a"], "stderr_lines": []}
 TASKS = [{"command": "x", "register": "out"}, {"debug": {"msg": "{{ out.stdout }}"}}]
@@ -42,13 +45,21 @@ BY_HAND = ["refusals::a_command_and_a_debug", "refusals::a_refused_give_and_a_st
 GIVE_REFUSED = b"give refused\n"  # what the second of these says
 
 
-def build(folder):
-    """The library that refuses an allocation of the program that it is loaded into, by the kit's own compiler."""
+def compiler():
+    """The first that is here, and what it needs to link; the kit's own is the last."""
+    for name in ["cc", "gcc", "clang"]:
+        if shutil.which(name):
+            return [name]
     page = subprocess.run(["rt", "doc"], capture_output=True, text=True, check=True).stdout.strip()
-    clang = Path(page).parent / "toolchain/bin/clang"
+    return [Path(page).parent / "toolchain/bin/clang", "--target=x86_64-unknown-linux-gnu", "-nostdlib", "-fuse-ld=lld"]
+
+
+def build(folder):
+    """The library that refuses an allocation of the program that it is loaded into."""
     library = os.path.join(folder, "refuse.so")
-    words = ["--target=x86_64-unknown-linux-gnu", "-shared", "-fPIC", "-nostdlib", "-fuse-ld=lld", "-O2"]
-    subprocess.run([clang, *words, "-o", library, TESTS / "refuse.c"], check=True)
+    # What it defines is known to compilers, and by another type.
+    flags = ["-shared", "-fPIC", "-O2", "-fno-builtin"]
+    subprocess.run([*compiler(), *flags, "-o", library, TESTS / "refuse.c"], check=True)
     return library
 
 
@@ -85,7 +96,7 @@ def by_hand_failures(library, folder, tests, name):
 
 
 def refused_failures(program, tests):
-    """Of all of these."""
+    """Of all of these: how many were tried, and what is to be said."""
     with tempfile.TemporaryDirectory() as folder:
         write_files(folder, FILES)
         library = build(folder)
@@ -93,6 +104,21 @@ def refused_failures(program, tests):
             program_failures(library, folder, [program, *CHECK], ACCEPTED),
             program_failures(library, folder, [program, *CHECK_GROUPS], ACCEPTED_OF_THREE),
             program_failures(library, folder, [program, *RUN], RECAP),
-            *(by_hand_failures(library, folder, tests, name) for name in BY_HAND),
         ]
+        counts += [by_hand_failures(library, folder, tests, name) for name in BY_HAND] if tests else []
     return sum(count for count, _ in counts), [text for _, texts in counts for text in texts]
+
+
+def main():
+    program, *tests = map(os.path.abspath, sys.argv[1:])
+    tried, failures = refused_failures(program, tests[0] if tests else None)
+    for said in failures[:SHOWN]:
+        print(f"FAILED: {said}")
+    if len(failures) > SHOWN:
+        print(f"and {len(failures) - SHOWN} more")
+    print(f"{max(tried - len(failures), 0)} passed, {len(failures)} failed")
+    return 1 if failures else 0
+
+
+if __name__ == "__main__":
+    sys.exit(main())

@@ -1,8 +1,7 @@
 # Runs the cases of tests/cases, the refusals of refusals.jsonl, the worked rows of tests/semantics, and the checks of
-# program_checks.py and refused_checks.py: python3 tests/run_cases.py [PROGRAM [TESTS]]
+# program_checks.py: python3 tests/run_cases.py [PROGRAM]
 import json
 import os
-import subprocess
 import sys
 from concurrent.futures import ThreadPoolExecutor
 from pathlib import Path
@@ -11,11 +10,9 @@ sys.dont_write_bytecode = True
 
 from check import Check, exactly
 from program_checks import program_checks
-from refused_checks import refused_failures
 
 TESTS = Path(__file__).resolve().parent
 PROGRAM = TESTS.parent / "crates/pb_cli/out/pb_cli"
-BY_HAND = TESTS.parent / "crates/pb_tests/out/pb_tests_tests"
 LIMIT = TESTS / "not_built_yet"
 SHOWN = 20
 
@@ -85,20 +82,14 @@ def within_limit(count):
 
 def main():
     program = os.path.abspath(sys.argv[1] if len(sys.argv) > 1 else PROGRAM)
-    by_hand = os.path.abspath(sys.argv[2] if len(sys.argv) > 2 else BY_HAND)
     designed = list(cases())
-    try:
-        refusals, failures = refused_failures(program, by_hand)
-    except (OSError, subprocess.SubprocessError, RuntimeError) as fault:  # also a program that can't be run
-        refusals, failures = 0, [f"refused\n  got: {fault!r}"]
     results = run_all(program, designed + program_checks(TESTS.parent))
-    refused = max(refusals - len(failures), 0)
-    failures += [said for kind, said in results if kind == FAILED]
+    failures = [said for kind, said in results if kind == FAILED]
     for said in failures[:SHOWN]:
         print(f"FAILED: {said}")
     if len(failures) > SHOWN:
         print(f"and {len(failures) - SHOWN} more")
-    passed = refused + sum(kind == PASSED for kind, _ in results)
+    passed = sum(kind == PASSED for kind, _ in results)
     failed = len(failures)
     if not within_limit(sum(kind == NOT_BUILT for kind, _ in results)):
         failed += 1

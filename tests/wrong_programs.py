@@ -1,6 +1,9 @@
 # Tries the wrong programs of crates/*/wrong, each of which the prover must refuse:
-#     python3 tests/wrong_programs.py [CRATE..]
-#     python3 tests/wrong_programs.py --beside LOG, while rt ci runs and writes to LOG
+#     python3 tests/wrong_programs.py [--again] [--below] [CRATE..]
+#     python3 tests/wrong_programs.py [--again] --beside LOG, while rt ci runs and writes to LOG
+#
+# Those that were refused before, of the very same sources, are taken from tests/refused (record.py), unless all are tried
+# again; --below is for the crates below the named ones too. What is refused by a goal of its own is recorded.
 #
 # An edit says which function it makes wrong, and how (`function:`, then `file:`, `old:` and `new:`). A function is proved
 # against the contracts of what it calls and not against their bodies, so all edits are tried at once, in a crate in which no
@@ -10,6 +13,7 @@
 # else is found, the function is tried as it is: if it is proved, the name went with the edit, and else that one is tried in the
 # whole crate. That the same functions are proved as they are in the whole crate is for rt ci to say, beside which it stands on
 # copies of the libraries that that one builds; else it is tried before the edits, over the libraries that were built last.
+import argparse
 import contextlib
 import importlib.machinery
 import importlib.util
@@ -29,8 +33,10 @@ from pathlib import Path
 sys.dont_write_bytecode = True
 
 from blanks import FUNCTION, Blanks, leave_open
+from record import Record
 
 TOP = Path(__file__).resolve().parent.parent
+RECORD = TOP / "tests/refused"
 # What a line of a function says where its proof waits for that of another.
 WAITS = re.compile(r"it calls|it waits for|it passes the block")
 # What it says where a goal of its own isn't met.
@@ -42,7 +48,7 @@ MET = re.compile(r"proved$|no holes|depends on a hole")
 # A check that is killed, most likely for memory, is tried again.
 KILLED = (-signal.SIGKILL, 128 + signal.SIGKILL)
 TRIES = 3
-# What ./test writes behind all that rt ci says.
+# What ./prove writes behind all that rt ci says.
 ENDED = "rt ci has ended"
 # What is said where that alone is found.
 ONLY_NAMES = "refused (only since a stored answer names what the edit took away)"
@@ -260,6 +266,10 @@ class Built:
         """A time in which a crate may be tried."""
         return contextlib.nullcontext()
 
+    def is_proved(self, _crate):
+        """A crate's functions were proved as they are before its edits."""
+        return True
+
     def prepare(self, crate):
         """Why a library of the crate can't be had; nothing where all are there."""
         for library in crate.below():
@@ -337,30 +347,62 @@ def tried(rt, libraries, crate, edits):
         return Trial(rt, crate, edits, kept, libraries.is_told).run(), time.monotonic() - begun
 
 
-def tell(rt, libraries, crates):
-    """Tries the edits of the crates, those that stand on fewer first, says what is found, and returns how many are and aren't refused."""
+def recorded(record, libraries, crate, known, told):
+    """Records what was refused by a goal of its own, of a crate that is proved as it is; what is gone is forgotten."""
+    by_goals = [edit for edit, is_refused, text in told if is_refused and not text.startswith(ONLY_NAMES)]
+    record.write(crate, [*known, *by_goals] if not told or libraries.is_proved(crate) else known)
+
+
+def tell(crates, libraries, record, try_edits, is_again=False):
+    """Tries the edits of the crates that the record doesn't have, those of crates that stand on fewer first, and says what is
+    found. Answers how many are refused, how many of these are taken from the record, and how many aren't refused."""
     work = [(it, list(map(read_edit, sorted(Path(it.folder).glob("wrong/*.edit"))))) for it in crates]
-    work = sorted([it for it in work if it[1]], key=lambda it: (len(it[0].below()), -it[0].count(rb"\n")))
-    passed = failed = 0
+    work = [(it, edits, [] if is_again else record.known(it, edits)) for it, edits in work if edits]
+    work.sort(key=lambda it: (len(it[0].below()), -len(it[1])))
+    left = [(it, [edit for edit in edits if edit not in known]) for it, edits, known in work]
+    passed = taken = failed = 0
     with ThreadPoolExecutor(len(os.sched_getaffinity(0))) as pool:
-        found = pool.map(lambda it: tried(rt, libraries, *it), work)
-        for (crate, _), (told, seconds) in zip(work, found):
+        found = pool.map(lambda it: try_edits(*it) if it[1] else ([], 0), left)
+        for (crate, _, known), (told, seconds) in zip(work, found):
             for edit, is_refused, text in told:
                 print(f"wrong {edit.crate}/{edit.name}: {text}", flush=True)
                 passed, failed = passed + is_refused, failed + (not is_refused)
-            print(f"(wrong {crate.name}: {seconds:.0f} s)", flush=True)
-    return passed, failed
+            print(f"(wrong {crate.name}: {len(known)} taken from the record, {len(told)} tried, {seconds:.0f} s)", flush=True)
+            passed, taken = passed + len(known), taken + len(known)
+            recorded(record, libraries, crate, known, told)
+    return passed, taken, failed
+
+
+def options():
+    parser = argparse.ArgumentParser(description="Tries the wrong programs, each of which the prover must refuse.")
+    parser.add_argument("--again", action="store_true", help="try also those that the record has")
+    parser.add_argument("--below", action="store_true", help="also those of the crates below the named ones")
+    parser.add_argument("--beside", metavar="LOG", help="stand on what rt ci builds, which writes to that file")
+    parser.add_argument("crates", nargs="*", metavar="CRATE")
+    return parser.parse_args()
+
+
+def chosen(every, names, with_below):
+    """The crates of these names, all where there is none; with those below them."""
+    unknown = set(names) - {it.name for it in every}
+    if unknown:
+        sys.exit(f"no crate is named {' or '.join(sorted(unknown))}")
+    wanted = [it for it in every if not names or it.name in names]
+    below = {it.name for crate in wanted for it in crate.below()} if with_below else set()
+    return [it for it in every if it in wanted or it.name in below]
 
 
 def main():
-    rt, words = kit(), sys.argv[1:]
+    rt, said = kit(), options()
     os.chdir(TOP)
     rt.rtlib.guarded()
-    is_beside = words[:1] == ["--beside"]
-    crates = [it for it in rt.rtlib.crates_below(os.getcwd()) if is_beside or not words or it.name in words]
+    crates = chosen(rt.rtlib.crates_below(os.getcwd()), said.crates, said.below)
+    line = subprocess.run(["rt", "version"], capture_output=True, text=True, check=True).stdout.strip()
     with tempfile.TemporaryDirectory(prefix="libraries-") as room:
-        libraries = Followed(words[1], room, len(os.sched_getaffinity(0))) if is_beside else Built()
-        passed, failed = tell(rt, libraries, crates)
+        libraries = Followed(said.beside, room, len(os.sched_getaffinity(0))) if said.beside else Built()
+        try_edits = lambda crate, edits: tried(rt, libraries, crate, edits)
+        passed, taken, failed = tell(crates, libraries, Record(RECORD, line), try_edits, said.again)
+    print(f"{taken} of {passed + failed} wrong programs were taken from the record")
     print(f"{passed} passed, {failed} failed")
     return 1 if failed or not passed else 0
 

@@ -39,15 +39,15 @@ def sections(page):
 
 def examples(text):
     """Each book of a section with its other files, and what is printed."""
-    files = {}
+    files = {"inventory": ONE_HOST}
     for info, content in FENCE.findall(text):
         words = info.split()
         if words[:1] == ["json"]:
             files[words[1]] = json.loads(content) if "generated" in words else content
         if words == ["text", "prints"]:
             yield files, content
-            files = {}
-    if files:
+            files = {"inventory": ONE_HOST}
+    if "book" in files:
         yield files, ""
 
 
@@ -59,12 +59,11 @@ def command_words(files):
 
 
 def refusals(page):
-    """The check of each book; one whose line has another code than its heading wants that code too, and so fails."""
+    """The check of each book."""
     for code, text in sections(page):
         for number, (files, printed) in enumerate(examples(text), 1):
-            files = {"inventory": ONE_HOST, **files}
-            wanted = printed if printed.startswith(f"refused {code or ''}") else f"refused {code}, not {printed}"
-            yield Check(f"{REFUSALS.name} {code or 'example'} {number}", command_words(files), exactly(wanted, 1), files)
+            name = f"{REFUSALS.name}: {code or 'no code'}, book {number}"
+            yield Check(name, command_words(files), exactly(printed, 1), files)
 
 
 def codes():
@@ -73,10 +72,15 @@ def codes():
 
 
 def wrong_sections(page):
-    """Each code has just one section, with a book at least, and no other code has one."""
-    shown = [code for code, text in sections(page) if code and list(examples(text))]
+    """Each code has just one section, with books that are refused with it, and no other code has one."""
+    shown = []
+    for code, text in sections(page):
+        lines = [printed for _, printed in examples(text)]
+        if code and lines:
+            shown.append(code)
+            yield from (f"{code}: its section shows {line!r}" for line in lines if not line.startswith(f"refused {code} "))
     known = list(codes())
-    for code in sorted(set(known) | set(shown)):
+    for code in sorted({*known, *shown}):
         if known.count(code) != 1 or shown.count(code) != 1:
             yield f"{code}: {known.count(code)} in the definitions, {shown.count(code)} sections with a book"
 

@@ -17,6 +17,18 @@ WEIGHING = ("pb_value", "pb_kind")
 MAKES_WEIGHTS = re.compile(r"\b(Weighed|Weight)::")
 COMPARED = 29
 NOT_BUILT = re.compile(r"^(\S+) of the cases of `tests/cases` aren't built yet", re.M)
+SHORT_PAGES = ("README.md", "docs/ARCHITECTURE.md")
+PAGE_LINES = 150
+CELL = 300
+SECTIONS = ["definitions", "values", "expressions", "reading", "paths", "verifier", "run", "program", "tests"]
+SECTION = re.compile(r"^#+ (\w+)(:|$)")
+LISTED_CRATE = re.compile(r"^(\w+)[^#]*:")
+SHOWN_CRATE = re.compile(r"^- \[(\w+)\]\(\1/README\.md\): ")
+CODE = re.compile(r"^code_text (\w+) =", re.M)
+FENCE = re.compile(r"^```.*?^```$", re.M | re.S)
+LINK = re.compile(r"\]\(([^)\s]+)\)")
+# Files of proofs that the prover's answers stand in, and lists of modules.
+UNNAMED_PROOFS = ("Answers.antt", "Invariants.antt", "Proof.antt", "Lib.antt")
 
 
 def sources():
@@ -91,6 +103,89 @@ def wrong_comparisons():
             yield f"docs/COMPARED.md: no single row of {book} with {refusal}"
 
 
+def pages():
+    """Each page with its text, but for what stands in fences."""
+    for path in sorted(TOP.rglob("*.md")):
+        folders = path.relative_to(TOP).parts[:-1]
+        if not any(folder == "out" or folder.startswith(".") for folder in folders):
+            yield path, FENCE.sub("", path.read_text(encoding="utf-8"))
+
+
+def long_pages():
+    """The first page and the map are read at once."""
+    for name in SHORT_PAGES:
+        count = len((TOP / name).read_text(encoding="utf-8").splitlines())
+        if count > PAGE_LINES:
+            yield f"{name}: {count} lines"
+
+
+def by_section(name, crate):
+    """The crates that a file names, each with the heading above it."""
+    section = None
+    for line in (TOP / name).read_text(encoding="utf-8").splitlines():
+        heading = SECTION.match(line)
+        section = heading[1] if heading else section
+        found = crate.match(line)
+        if found:
+            yield section, found[1]
+
+
+def lost_crates():
+    """crates.txt and crates/README.md have the same crates in the same nine sections, and each crate has its README."""
+    listed = list(by_section("crates.txt", LISTED_CRATE))
+    shown = list(by_section("crates/README.md", SHOWN_CRATE))
+    for section, crate in sorted(set(listed) ^ set(shown), key=str):
+        yield f"{crate} stands under {section} in crates.txt or in crates/README.md alone"
+    if list(dict.fromkeys(section for section, _ in listed)) != SECTIONS or len(listed) != len(set(listed)):
+        yield f"crates.txt: the sections aren't {', '.join(SECTIONS)}, or a crate stands there twice"
+    for _, crate in listed:
+        if not (TOP / "crates" / crate / "README.md").is_file():
+            yield f"crates/{crate}: no README.md"
+
+
+def lost_codes():
+    """docs/REFUSALS.md has each code, with a book and the line that is printed."""
+    path = TOP / "docs/REFUSALS.md"
+    text = path.read_text(encoding="utf-8") if path.is_file() else ""
+    parts = {part.partition(":")[0]: part for part in re.split(r"^### ", text, flags=re.M)[1:]}
+    for codes in sorted((TOP / "crates").glob("*/specs/Codes.antt")):
+        for code in CODE.findall(codes.read_text(encoding="utf-8")):
+            part = parts.get(code, "")
+            has_book = re.search(r"^```json book( generated)?$", part, re.M)
+            if not has_book or f"```text prints\nrefused {code} line " not in part:
+                yield f"docs/REFUSALS.md: no {code} with a book and what is printed"
+
+
+def long_cells():
+    for path, text in pages():
+        for line in text.splitlines():
+            cells = re.split(r"(?<!\\)\|", line) if line.startswith("|") else []
+            if any(len(cell.strip()) > CELL for cell in cells):
+                yield f"{path.relative_to(TOP)}: {line[:60]}"
+
+
+def anchors(path):
+    """What a link can name behind a page: its headings, as they are shown on the web."""
+    for heading in re.findall(r"^#+ (.*)$", FENCE.sub("", path.read_text(encoding="utf-8")), re.M):
+        yield re.sub(r"[^\w\- ]", "", LINK.sub("", heading).lower()).replace(" ", "-")
+
+
+def lost_links():
+    for path, text in pages():
+        for link in LINK.findall(text):
+            name, _, anchor = link.partition("#")
+            target = path.parent / name if name else path
+            if ":" not in link and (not target.exists() or (anchor and anchor not in anchors(target))):
+                yield f"{path.relative_to(TOP)}: {link}"
+
+
+def silent_proofs():
+    """Each proof file that is written by hand opens with a line that says what it is for."""
+    for path in sorted((TOP / "crates").glob("*/proofs/**/*.antt")):
+        if path.name not in UNNAMED_PROOFS and not path.read_text(encoding="utf-8").startswith("-- "):
+            yield str(path.relative_to(TOP))
+
+
 def main():
     checks = [
         ("a file of src/ or specs/ cites a proof", proofs_cited),
@@ -99,6 +194,12 @@ def main():
         ("weights are made elsewhere", makers_of_weights),
         ("a count is wrong", wrong_counts),
         ("a compared book is wrong", wrong_comparisons),
+        ("a page is too long", long_pages),
+        ("a crate isn't in the map", lost_crates),
+        ("a code isn't explained", lost_codes),
+        ("a cell of a table is too long", long_cells),
+        ("a link leads nowhere", lost_links),
+        ("a proof doesn't say what it is for", silent_proofs),
     ]
     failed = 0
     for name, search in checks:

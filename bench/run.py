@@ -113,10 +113,10 @@ def start_up(found):
 
 
 def launcher(found):
-    """What ./playcheck takes over the program itself, with the program that it picks."""
+    """What ./playcheck takes over the program itself, which it picks by its stamp."""
     through, alone = found["launcher"].seconds, found["empty"].seconds
-    detail = f"{ms(through)} less {ms(alone)}"
-    line("launcher over the program", f"{ms(through - alone)} ({detail})", "at most 20 ms", through - alone <= 0.020)
+    detail = f"{ms(through)} less {ms(alone)}, {through / alone:.2f} times"
+    line("launcher over the program", f"{ms(through - alone)} ({detail})", "at most 5 ms", through - alone <= 0.005)
 
 
 def against_json_load(found, name="check", most=3):

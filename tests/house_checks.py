@@ -179,6 +179,15 @@ def lost_links():
                 yield f"{path.relative_to(TOP)}: {link}"
 
 
+def lost_records():
+    """Each file of tests/refused is of a crate, and each of its lines of a wrong program of that crate."""
+    for path in sorted((TOP / "tests/refused").glob("*")):
+        edits = {edit.stem for edit in (TOP / "crates" / path.name / "wrong").glob("*.edit")}
+        for line in path.read_text(encoding="utf-8").splitlines():
+            if not re.fullmatch(r"\w+ [0-9a-f]{64}", line) or line.split()[0] not in edits:
+                yield f"tests/refused/{path.name}: {line}"
+
+
 def silent_proofs():
     """Each proof file that is written by hand opens with a line that says what it is for."""
     for path in sorted((TOP / "crates").glob("*/proofs/**/*.antt")):
@@ -199,6 +208,7 @@ def main():
         ("a code isn't explained", lost_codes),
         ("a cell of a table is too long", long_cells),
         ("a link leads nowhere", lost_links),
+        ("a record is of no wrong program", lost_records),
         ("a proof doesn't say what it is for", silent_proofs),
     ]
     failed = 0

@@ -1,0 +1,4 @@
+pub mod Facts
+pub mod Rows
+pub mod Variables
+pub mod Words

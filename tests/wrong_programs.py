@@ -26,7 +26,7 @@ import sys
 import tempfile
 import threading
 import time
-from concurrent.futures import ThreadPoolExecutor
+from concurrent.futures import ThreadPoolExecutor, as_completed
 from dataclasses import dataclass
 from pathlib import Path
 
@@ -353,17 +353,23 @@ def recorded(record, libraries, crate, known, told):
     record.write(crate, [*known, *by_goals] if not told or libraries.is_proved(crate) else known)
 
 
+def tried_but(try_edits, crate, edits, known):
+    """What is found of the edits of a crate but the known ones."""
+    left = [edit for edit in edits if edit not in known]
+    return try_edits(crate, left) if left else ([], 0)
+
+
 def tell(crates, libraries, record, try_edits, is_again=False):
     """Tries the edits of the crates that the record doesn't have, those of crates that stand on fewer first, and says what is
     found. Answers how many are refused, how many of these are taken from the record, and how many aren't refused."""
     work = [(it, list(map(read_edit, sorted(Path(it.folder).glob("wrong/*.edit"))))) for it in crates]
     work = [(it, edits, [] if is_again else record.known(it, edits)) for it, edits in work if edits]
     work.sort(key=lambda it: (len(it[0].below()), -len(it[1])))
-    left = [(it, [edit for edit in edits if edit not in known]) for it, edits, known in work]
     passed = taken = failed = 0
     with ThreadPoolExecutor(len(os.sched_getaffinity(0))) as pool:
-        found = pool.map(lambda it: try_edits(*it) if it[1] else ([], 0), left)
-        for (crate, _, known), (told, seconds) in zip(work, found):
+        trials = {pool.submit(tried_but, try_edits, *it): it for it in work}
+        for trial in as_completed(trials):
+            (crate, _, known), (told, seconds) = trials[trial], trial.result()
             for edit, is_refused, text in told:
                 print(f"wrong {edit.crate}/{edit.name}: {text}", flush=True)
                 passed, failed = passed + is_refused, failed + (not is_refused)

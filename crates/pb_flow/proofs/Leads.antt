@@ -1,5 +1,5 @@
 -- The nodes of a play lead to higher ones.
-use Rattle.std.proofs.Common.{◌≡◌, ◌≤◌, ◌<◌, ℕ, suc, List, [], ◌∷◌, ◌++◌, Bool, true, ◌&&◌, cond, nat_lt, nat_le, length, Option, Some, None, refl, sym, ap, subst, arith}
+use Rattle.std.proofs.Common.{◌≡◌, ◌≤◌, ◌<◌, ℕ, suc, List, [], ◌∷◌, ◌++◌, Bool, true, ◌&&◌, cond, nat_lt, nat_le, length, Option, Some, None, refl, sym, ap, subst, arith, is_some}
 use Rattle.std.proofs.lemmas.Bool.Decides.{nat_tests}
 use Rattle.pb_language.specs.Book.{Registry}
 use Rattle.pb_language.specs.Expression.{Parts}
@@ -44,12 +44,12 @@ nodes-lead ms vars last lo o [] r = refl
 nodes-lead ms vars last lo o (n ∷ ns) r =
     let t = node_task ms vars n in
     let rest = nodes_links ms vars (suc o) ns in
-    let ends = link_to o t goes n.ok ++ link_to o t fails n.failed in
+    let ends = link_to o t goes n.ok.to ++ link_to o t fails n.failed.to in
     let own = first-rise lo last (node_links ms vars o n) rest r in
-    let e = others-rise lo last (cond n.is_handler (link_to o t passes n.ok) []) ends own in
-    all-three (is_ahead o last n.ok) (is_ahead o last n.failed) (lead_on last (suc o) ns)
-    (leads-ahead o 0 last t goes n.ok (first-rise 0 last (link_to o t goes n.ok) (link_to o t fails n.failed) e))
-    (leads-ahead o 0 last t fails n.failed (others-rise 0 last (link_to o t goes n.ok) (link_to o t fails n.failed) e))
+    let e = others-rise lo last (cond (is_some n.handler) (link_to o t passes n.ok.to) []) ends own in
+    all-three (is_ahead o last n.ok.to) (is_ahead o last n.failed.to) (lead_on last (suc o) ns)
+    (leads-ahead o 0 last t goes n.ok.to (first-rise 0 last (link_to o t goes n.ok.to) (link_to o t fails n.failed.to) e))
+    (leads-ahead o 0 last t fails n.failed.to (others-rise 0 last (link_to o t goes n.ok.to) (link_to o t fails n.failed.to) e))
     (nodes-lead ms vars last 0 (suc o) ns (others-rise lo last (node_links ms vars o n) rest r))
 
 begin-leads : (last : ℕ) (o : Option ℕ) → Within 1 last o → is_ahead 0 last o ≡ true

@@ -1,5 +1,5 @@
 -- The edges of the nodes are those of the row.
-use Rattle.std.proofs.Common.{◌≡◌, ℕ, suc, List, [], ◌∷◌, ◌++◌, Bool, true, false, cond, length, map, Option, Some, None, refl, sym, ap, ◌∙◌}
+use Rattle.std.proofs.Common.{◌≡◌, ℕ, suc, List, [], ◌∷◌, ◌++◌, Bool, true, false, cond, length, map, Option, Some, None, refl, sym, ap, ◌∙◌, is_some}
 use Rattle.pb_language.specs.Book.{Registry}
 use Rattle.pb_language.specs.Expression.{Parts}
 use Rattle.pb_language.specs.Links.{Link, Way, goes, fails, passes, link_to, size}
@@ -30,12 +30,12 @@ same-edges : (ms : Registry) (vars : Parts) (o : ℕ) (ns : List Node) → map e
 same-edges ms vars o [] = refl
 same-edges ms vars o (n ∷ ns) =
     let t = node_task ms vars n in
-    let over = cond n.is_handler (link_to o t passes n.ok) [] in
-    let goes-on = link_to o t goes n.ok in
-    let fails-at = link_to o t fails n.failed in
+    let over = cond (is_some n.handler) (link_to o t passes n.ok.to) [] in
+    let goes-on = link_to o t goes n.ok.to in
+    let fails-at = link_to o t fails n.failed.to in
     map-both (over ++ (goes-on ++ fails-at)) (nodes_links ms vars (suc o) ns)
     ∙ ap (λ es. es ++ map edge_of (nodes_links ms vars (suc o) ns)) (map-both over (goes-on ++ fails-at) ∙ ap (λ es. map edge_of over ++ es) (map-both goes-on fails-at))
-    ∙ rw (passing-edge n.is_handler o t n.ok, one-edge o t goes n.ok, one-edge o t fails n.failed, same-edges ms vars (suc o) ns) refl
+    ∙ rw (passing-edge (is_some n.handler) o t n.ok.to, one-edge o t goes n.ok.to, one-edge o t fails n.failed.to, same-edges ms vars (suc o) ns) refl
 
 pub same-graph : (ms : Registry) (vars : Parts) (row : Row) (begin : Option ℕ) (ns : List Node) → begin ≡ begins_at row → nodes_links ms vars 1 ns ≡ row_links row → length ns ≡ size row → flow_edges begin ns ≡ row_graph row
 same-graph ms vars row begin ns b l s =

@@ -1,5 +1,5 @@
 -- What goes along the edges of nodes is what goes along those of the row.
-use Rattle.std.proofs.Common.{◌≡◌, ℕ, suc, List, [], ◌∷◌, ◌++◌, Bool, true, false, cond, map, slice_index_or, Option, Some, None, refl, sym, ap, ◌∙◌}
+use Rattle.std.proofs.Common.{◌≡◌, ℕ, suc, List, [], ◌∷◌, ◌++◌, Bool, true, false, cond, map, slice_index_or, Option, Some, None, refl, sym, ap, ◌∙◌, is_some}
 use Rattle.std.proofs.lemmas.List.{map-append}
 use Rattle.pb_language.specs.Book.{Registry}
 use Rattle.pb_language.specs.Expression.{Parts}
@@ -27,11 +27,11 @@ module _ (st : Setting) where
   one-node : (ms : Registry) (vars : Parts) (o : ℕ) (n : Node) → map step_of (node_links ms vars o n) ≡ node_steps st (node_task ms vars n) n
   one-node ms vars o n =
       let t = node_task ms vars n in
-      let over = cond n.is_handler (link_to o t passes n.ok) [] in
-      let goes-on = link_to o t goes n.ok in
-      let fails-at = link_to o t fails n.failed in
+      let over = cond (is_some n.handler) (link_to o t passes n.ok.to) [] in
+      let goes-on = link_to o t goes n.ok.to in
+      let fails-at = link_to o t fails n.failed.to in
       map-append step_of over (goes-on ++ fails-at) ∙ ap (λ es. map step_of over ++ es) (map-append step_of goes-on fails-at)
-      ∙ rw (passing-step n.is_handler o t n.ok, one-step o t goes n.ok, one-step o t fails n.failed) refl
+      ∙ rw (passing-step (is_some n.handler) o t n.ok.to, one-step o t goes n.ok.to, one-step o t fails n.failed.to) refl
 
   all-nodes : (ms : Registry) (vars : Parts) (o : ℕ) (ns : List Node) → map step_of (nodes_links ms vars o ns) ≡ nodes_steps st ms vars ns
   all-nodes ms vars o [] = refl

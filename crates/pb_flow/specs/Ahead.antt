@@ -1,6 +1,6 @@
 -- The edges that the nodes of a graph lead along.
 use Rattle.std.specs.Prelude.{ℕ, suc, nat_lt, nat_le, List, [], ◌∷◌, ◌++◌, length, Bool, true, ◌&&◌}
-use Rattle.std.specs.Prelude.{cond, Option, Some, None}
+use Rattle.std.specs.Prelude.{cond, Option, Some, None, is_some}
 use Rattle.pb_lattice.specs.Graph.{Graph as Edges}
 use Rattle.pb_lattice.specs.declared.graph.Edge.{Edge}
 use Rattle.pb_flow.specs.declared.flow.Way.{Way}
@@ -16,7 +16,7 @@ is_ahead o last (Some n) = nat_lt o n && nat_le n last
 abbrev pub lead_on : ℕ → ℕ → List Node → Bool
 lead_on last o [] = true
 lead_on last o (n ∷ ns) =
-    is_ahead o last n.ok && (is_ahead o last n.failed && lead_on last (suc o) ns)
+    is_ahead o last n.ok.to && (is_ahead o last n.failed.to && lead_on last (suc o) ns)
 
 -- the start leads to a node, and each node to higher ones
 abbrev pub all_lead_on : Option ℕ → List Node → Bool
@@ -35,11 +35,12 @@ way_to w (Some n) = w ∷ []
 -- a handler may be passed over
 abbrev pub node_edges : ℕ → Node → List Edge
 node_edges o n =
-    cond n.is_handler (edge_to o n.ok) [] ++ (edge_to o n.ok ++ edge_to o n.failed)
+    cond (is_some n.handler) (edge_to o n.ok.to) [] ++ (edge_to o n.ok.to ++ edge_to o n.failed.to)
 
 abbrev pub node_ways : Node → List Way
 node_ways n =
-    cond n.is_handler (way_to Passes n.ok) [] ++ (way_to Goes n.ok ++ way_to Fails n.failed)
+    cond (is_some n.handler) (way_to Passes n.ok.to) []
+    ++ (way_to Goes n.ok.to ++ way_to Fails n.failed.to)
 
 abbrev pub nodes_edges : ℕ → List Node → List Edge
 nodes_edges o [] = []

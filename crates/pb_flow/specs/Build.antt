@@ -1,9 +1,9 @@
 -- The nodes of a play as they are built, from its end to its start.
-use Rattle.std.specs.Prelude.{◌≡◌, ℕ, ◌+◌, List, [], ◌++◌, Bool, cond, Option, Some, None, length}
+use Rattle.std.specs.Prelude.{◌≡◌, ℕ, ◌+◌, List, ◌++◌, Bool, Option, Some, None, length}
 use Rattle.std.specs.Prelude.{map, reverse}
 use Rattle.pb_language.specs.Book.{PlayData, Registry, Steps, block_step, no_steps}
 use Rattle.pb_language.specs.Expression.{Parts}
-use Rattle.pb_language.specs.Links.{Link, entry, fails, goes, link_to, links, passes, size}
+use Rattle.pb_language.specs.Links.{size}
 use Rattle.pb_language.specs.Plays.{ended_row, gathering_task, handlers_at, places_in, row_of}
 use Rattle.pb_language.specs.Plays.{section_row, sections_row, task_at}
 use Rattle.pb_language.specs.Task.{Handlers, Row, Task, end, flush, task}
@@ -12,39 +12,31 @@ use Rattle.pb_play.specs.Sound.{AreSound, handler_tasks, tasks_in}
 use Rattle.pb_play.specs.declared.play.Block.{Block}
 use Rattle.pb_play.specs.declared.play.Handler.{Handler}
 use Rattle.pb_play.specs.declared.play.Play.{Play}
-use Rattle.pb_play.specs.declared.play.Step.{Step}
+use Rattle.pb_play.specs.declared.play.Step.{Step as ReadStep}
 use Rattle.pb_task.specs.declared.task.Task.{Task as ReadTask}
-use Rattle.pb_flow.specs.Flow.{tasks_of}
-use Rattle.pb_flow.specs.Nodes.{AreVisitedSound, around_view, node_task, nodes_links, visited_view}
+use Rattle.pb_machine.specs.Steps.{Step, Target, row_steps, row_target}
+use Rattle.pb_flow.specs.Nodes.{AreVisitedSound, around_view, node_step, visited_view}
 use Rattle.pb_flow.specs.declared.build.Scene.{Scene}
 use Rattle.pb_flow.specs.declared.build.Tail.{Tail}
 use Rattle.pb_flow.specs.declared.graph.Around.{Around}
-use Rattle.pb_flow.specs.declared.graph.Exits.{Exits}
 use Rattle.pb_flow.specs.declared.graph.Visited.{Visited}
 
--- the tasks and the edges of the nodes that are built
-abbrev pub tail_tasks : Registry → Parts → Tail → List Task
-tail_tasks ms vars t = map (node_task ms vars) (reverse t.nodes.items)
+-- the steps of the nodes that are built
+abbrev pub tail_steps : Registry → Parts → Tail → List Step
+tail_steps ms vars t = map (node_step ms vars) (reverse t.nodes.items)
 
-abbrev pub tail_links : Registry → Parts → Tail → List Link
-tail_links ms vars t = nodes_links ms vars t.front (reverse t.nodes.items)
-
--- the task of a node, and the edges from it
+-- the task of a node
 abbrev pub task_of : Registry → Parts → Around → ℕ → Visited → Task
 task_of ms vars a p v = task_at (around_view ms vars a) p (visited_view v)
 
-abbrev pub edges_from : Bool → ℕ → Task → Exits → List Link
-edges_from is_handler o t to = cond is_handler (link_to o t passes to.ok) []
-    ++ (link_to o t goes to.ok ++ link_to o t fails to.failed)
-
--- the row stands in front of what was built before, between those exits, and is entered there
-pub record IsPut (ms : Registry) (vars : Parts) (row : Row) (to : Exits) (old new : Tail)
-    (at : Option ℕ) : Type 0 where
+-- the row stands in front of what was built before, between those targets, inside so many `always`
+-- parts that run after a failure, and is entered there
+pub record IsPut (ms : Registry) (vars : Parts) (row : Row) (m : ℕ) (ok failed : Target)
+    (old new : Tail) (at : Target) : Type 0 where
   pub room : new.front + size row ≡ old.front
-  pub tasks : tail_tasks ms vars new ≡ tasks_of row ++ tail_tasks ms vars old
-  pub edges : tail_links ms vars new
-      ≡ links row new.front to.ok to.failed ++ tail_links ms vars old
-  pub entered : at ≡ entry row new.front to.ok
+  pub steps : tail_steps ms vars new
+      ≡ row_steps row m new.front ok failed ++ tail_steps ms vars old
+  pub entered : at ≡ row_target row new.front ok
 
 -- the handlers of a flush at a place
 abbrev pub handlers_from : Registry → Parts → Scene → ℕ → Handlers
@@ -80,7 +72,7 @@ all_sections_row ms vars s p play = sections_row (handlers_from ms vars s)
     (length s.handlers.now) (around_view ms vars s.around.value) p play
 
 -- a block with nothing behind it
-abbrev pub block_alone : Block Step → Steps
+abbrev pub block_alone : Block ReadStep → Steps
 block_alone b = block_step (head_view b.head) (steps_view b.body.items)
     (steps_view b.rescue.items) (steps_view b.always.items) no_steps
 
@@ -89,7 +81,7 @@ pub record StaySound (hs : List Handler) (ts : List ReadTask) (old new : Tail) :
   pub sound : (ms : Registry) (line : Option ℕ) → AreSound ms (handler_tasks hs) → AreSound ms ts
       → AreVisitedSound ms line old.nodes.items → AreVisitedSound ms line new.nodes.items
 
-abbrev pub block_tasks : Block Step → List ReadTask
+abbrev pub block_tasks : Block ReadStep → List ReadTask
 block_tasks b = tasks_in b.body.items ++ (tasks_in b.rescue.items ++ tasks_in b.always.items)
 
 abbrev pub sections_tasks : Play → List ReadTask

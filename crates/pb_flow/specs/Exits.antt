@@ -11,7 +11,7 @@ node_at ns (suc k) = slice_get ns k
 
 abbrev pub exits_from : Option Node → Exits
 exits_from None = record { ok = None; failed = None }
-exits_from (Some n) = record { ok = n.ok; failed = n.failed }
+exits_from (Some n) = record { ok = n.ok.to; failed = n.failed.to }
 
 -- where a host goes from that node: from the start to where it begins
 abbrev pub exits_at : Option ℕ → List Node → ℕ → Exits

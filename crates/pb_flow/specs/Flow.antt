@@ -1,22 +1,8 @@
 -- The nodes of a play: its start, each task in each of its ways, and its end (this project's own).
-use Rattle.std.specs.Prelude.{◌≤◌, ◌<◌, ℕ, suc, List, [], ◌∷◌, ◌++◌, Option, Some, None}
+use Rattle.std.specs.Prelude.{◌≤◌, ◌<◌, ℕ, suc, List, [], ◌∷◌, Option, Some, None}
 use Rattle.pb_language.specs.Links.{Link, entry, links, size}
-use Rattle.pb_language.specs.Task.{Task, Handlers, no_handlers, handler, Row, end, task, flush}
-use Rattle.pb_language.specs.Task.{section, block}
-
-abbrev pub flush_tasks : Handlers → List Task
-flush_tasks no_handlers = []
-flush_tasks (handler n t hs) = t ∷ flush_tasks hs
-
--- the task of each node, in their order
-abbrev pub tasks_of : Row → List Task
-tasks_of end = []
-tasks_of (task t row) = t ∷ tasks_of row
-tasks_of (flush hs row) = flush_tasks hs ++ tasks_of row
-tasks_of (section body hs row) =
-    tasks_of body ++ (flush_tasks hs ++ (flush_tasks hs ++ tasks_of row))
-tasks_of (block d body saves rescued always row) = tasks_of body
-    ++ (tasks_of rescued ++ (tasks_of always ++ (tasks_of always ++ tasks_of row)))
+use Rattle.pb_language.specs.Task.{Row}
+pub use Rattle.pb_machine.specs.Joins.{flush_tasks, tasks_of}
 
 -- the start is the node 0, and the end follows the row's nodes
 abbrev pub end_node : Row → ℕ

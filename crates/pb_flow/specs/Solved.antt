@@ -1,6 +1,6 @@
 -- The graph of a play, and its least solution beside the walk of its row (this project's own).
 use Rattle.std.specs.Prelude.{◌≡◌, ◌≤◌, ℕ, suc, length, List, [], ◌∷◌, ◌++◌, Option, Some, None}
-use Rattle.std.specs.Prelude.{cond, map, slice_index_or}
+use Rattle.std.specs.Prelude.{cond, is_some, map, slice_index_or}
 use Rattle.pb_lattice.specs.Graph.{Graph}
 use Rattle.pb_lattice.specs.Solution.{Covers}
 use Rattle.pb_language.specs.Book.{Registry}
@@ -69,8 +69,8 @@ step_to f None = []
 step_to f (Some n) = f ∷ []
 
 abbrev pub node_steps : Setting → Task → Node → List (Exit → Exit)
-node_steps st t n = cond n.is_handler (step_to (along_way st t Passes) n.ok) []
-    ++ (step_to (along_way st t Goes) n.ok ++ step_to (along_way st t Fails) n.failed)
+node_steps st t n = cond (is_some n.handler) (step_to (along_way st t Passes) n.ok.to) []
+    ++ (step_to (along_way st t Goes) n.ok.to ++ step_to (along_way st t Fails) n.failed.to)
 
 abbrev pub nodes_steps : Setting → Registry → Parts → List Node → List (Exit → Exit)
 nodes_steps st ms vars [] = []

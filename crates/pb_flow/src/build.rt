@@ -4,20 +4,19 @@ ghost use Rattle.std.specs.Prelude.{Option, Some, [], cond, false, length, rever
 ghost use Rattle.pb_semantics.specs.Limits.{most_play_steps};
 ghost use Rattle.pb_language.specs.Book.{Registry, no_steps};
 ghost use Rattle.pb_language.specs.Expression.{Parts};
-ghost use Rattle.pb_language.specs.Links.{saved_entry};
 ghost use Rattle.pb_language.specs.Plays.{inside, is_given, places_in, play_surroundings};
 ghost use Rattle.pb_language.specs.Sites.{gathering_steps, section_steps, sections_steps, steps_in};
+ghost use Rattle.pb_machine.specs.Steps.{Target as FlatTarget, leaving, saved_target, to_node};
 ghost use Rattle.pb_template.specs.Entries.{entries_view};
 ghost use Rattle.pb_play.specs.Plays.{head_view, play_view, step_view, steps_view};
 ghost use Rattle.pb_play.specs.Sound.{step_tasks, tasks_in};
 ghost use Rattle.pb_flow.specs.Build.{IsPut, StaySound, all_sections_row, block_alone, block_tasks};
-ghost use Rattle.pb_flow.specs.Build.{edges_from, ended_steps_row, flush_row, gathering_row};
-ghost use Rattle.pb_flow.specs.Build.{one_section_row, sections_tasks, steps_row, tail_links};
-ghost use Rattle.pb_flow.specs.Build.{tail_tasks, task_of};
-ghost use Rattle.pb_flow.specs.Nodes.{AreVisitedSound, IsVisitedSound, around_view};
+ghost use Rattle.pb_flow.specs.Build.{ended_steps_row, flush_row, gathering_row, one_section_row};
+ghost use Rattle.pb_flow.specs.Build.{sections_tasks, steps_row, tail_steps, task_of};
+ghost use Rattle.pb_flow.specs.Nodes.{AreVisitedSound, IsVisitedSound, around_view, target_view};
 ghost use Rattle.pb_flow.specs.Places.{section_places, sections_places};
 
-use crate::graph::{Around, Exits, Node, Visited};
+use crate::graph::{Around, Move, Node, Target, Visited};
 use crate::steps::{Count, is_given};
 use pb_play::{Block, BlockHead, Handler, Play, Step};
 use std::alloc::{AllocError, Global};
@@ -68,42 +67,44 @@ impl<'p> Tail<'p> {
         nodes
     }
 
-    // Puts a node in front, and says which one it is.
+    // Puts a node in front, and says how it is reached.
     pub(crate) fn put(
         &mut self,
         visited: Visited<'p>,
         around: &Arc<Around<'p>>,
-        is_handler: bool,
-        to: Exits,
-    ) -> Result<Option<u32>, AllocError>
+        handler: Option<u32>,
+        ok: &Target,
+        failed: &Target,
+    ) -> Result<Target, AllocError>
         requires room { 0 < self.old.front }
         requires places { 0 < self.old.place }
         ensures front { OnOk result (suc self.new.front ≡ self.old.front) }
         ensures place { OnOk result (suc self.new.place ≡ self.old.place) }
-        ensures at { IfOk result (λ at. at ≡ Some self.new.front) }
-        ensures tasks { OnOk result ((ms : Registry) (vars : Parts) → tail_tasks ms vars self.new
-            ≡ task_of ms vars around.now.value self.new.place visited.entry
-            ∷ tail_tasks ms vars self.old) }
-        ensures edges { OnOk result ((ms : Registry) (vars : Parts) → tail_links ms vars self.new
-            ≡ edges_from is_handler self.new.front
-            (task_of ms vars around.now.value self.new.place visited.entry) to
-            ++ tail_links ms vars self.old) }
+        ensures at { IfOk result (λ at. target_view at ≡ to_node self.new.front) }
+        ensures steps { OnOk result ((ms : Registry) (vars : Parts) → tail_steps ms vars self.new
+            ≡ record {
+              task = task_of ms vars around.now.value self.new.place visited.entry;
+              handler = handler;
+              ok = target_view ok.now;
+              failed = target_view failed.now;
+            } ∷ tail_steps ms vars self.old) }
         ensures sound { OnOk result ((ms : Registry) (line : Option ℕ)
             → IsVisitedSound ms line visited.entry → AreVisitedSound ms line self.old.nodes.items
             → AreVisitedSound ms line self.new.nodes.items) }
     {
+        let alloc = *self.nodes.allocator();
         let node = Node {
             visited,
             around: around.clone()?,
             place: self.place - 1,
-            is_handler,
-            ok: to.ok,
-            failed: to.failed,
+            handler,
+            ok: ok.copy()?,
+            failed: failed.copy()?,
         };
         self.nodes.push(node)?;
         self.front -= 1;
         self.place -= 1;
-        Ok(Some(self.front))
+        Ok(Target::to_node(alloc, self.front))
     }
 }
 
@@ -112,43 +113,39 @@ impl<'p> Tail<'p> {
 fn put_flush<'p>(
     tail: &mut Tail<'p>,
     scene: &Scene<'p>,
-    after: Option<u32>,
-) -> Result<Option<u32>, AllocError>
+    after: &Target,
+) -> Result<Target, AllocError>
     requires room { length scene.now.handlers.now ≤ tail.old.front }
     requires places { length scene.now.handlers.now ≤ tail.old.place }
     ensures place { OnOk result (tail.new.place + length scene.now.handlers.now ≡ tail.old.place) }
     ensures front { OnOk result (tail.new.front + length scene.now.handlers.now ≡ tail.old.front) }
-    ensures put { IfOk result (λ at. (ms : Registry) (vars : Parts)
-        → IsPut ms vars (flush_row ms vars scene.now tail.new.place)
-        (record { ok = after; failed = None }) tail.old tail.new at) }
+    ensures put { IfOk result (λ at. (ms : Registry) (vars : Parts) (m : ℕ) (hurt : FlatTarget)
+        → IsPut ms vars (flush_row ms vars scene.now tail.new.place) m (target_view after.now) hurt
+        tail.old tail.new (target_view at)) }
     ensures sound { OnOk result (StaySound scene.now.handlers.now [] tail.old tail.new) }
 {
     let handlers = scene.handlers;
-    let mut next = after;
+    let leaving = Target::leaving(scene.alloc);
+    let mut next = after.copy()?;
     for index in (0..handlers.len()).rev() {
-        let to = Exits {
-            ok: next,
-            failed: None,
-        };
-        next = tail.put(
-            Visited::Task(&handlers[index].task),
-            &scene.around,
-            true,
-            to,
-        )?;
+        let work = Visited::Task(&handlers[index].task);
+        next = tail.put(work, &scene.around, Some(index as u32), &next, &leaving)?;
     }
     Ok(next)
 }
 
-// Puts steps in front, from the last to the first, and says where a host enters them.
+// Puts steps in front, from the last to the first, and says where a host enters them. So many
+// failures are held by the `always` parts round them.
 #[cycle(put)]
 fn put_steps<'p>(
     tail: &mut Tail<'p>,
     scene: &Scene<'p>,
     around: &Arc<Around<'p>>,
+    held: u32,
     steps: &'p [Step],
-    to: Exits,
-) -> Result<Option<u32>, AllocError>
+    ok: &Target,
+    failed: &Target,
+) -> Result<Target, AllocError>
     requires room { steps_in (length scene.now.handlers.now) 0 (steps_view steps.now)
         ≤ tail.old.front }
     requires places { places_in (length scene.now.handlers.now) (steps_view steps.now)
@@ -159,17 +156,14 @@ fn put_steps<'p>(
         + places_in (length scene.now.handlers.now) (steps_view steps.now) ≡ tail.old.place) }
     ensures put { IfOk result (λ at. (ms : Registry) (vars : Parts)
         → IsPut ms vars (steps_row ms vars scene.now around.now.value tail.new.place
-        (steps_view steps.now)) to tail.old tail.new at) }
+        (steps_view steps.now)) held
+        (target_view ok.now) (target_view failed.now) tail.old tail.new (target_view at)) }
     ensures sound { OnOk result
         (StaySound scene.now.handlers.now (tasks_in steps.now) tail.old tail.new) }
 {
-    let mut next = to.ok;
+    let mut next = ok.copy()?;
     for index in (0..steps.len()).rev() {
-        let on = Exits {
-            ok: next,
-            failed: to.failed,
-        };
-        next = put_step(tail, scene, around, &steps[index], on)?;
+        next = put_step(tail, scene, around, held, &steps[index], &next, failed)?;
     }
     Ok(next)
 }
@@ -179,9 +173,11 @@ fn put_step<'p>(
     tail: &mut Tail<'p>,
     scene: &Scene<'p>,
     around: &Arc<Around<'p>>,
+    held: u32,
     step: &'p Step,
-    to: Exits,
-) -> Result<Option<u32>, AllocError>
+    ok: &Target,
+    failed: &Target,
+) -> Result<Target, AllocError>
     requires room { steps_in (length scene.now.handlers.now) 0 (step_view step.now no_steps)
         ≤ tail.old.front }
     requires places { places_in (length scene.now.handlers.now) (step_view step.now no_steps)
@@ -194,27 +190,30 @@ fn put_step<'p>(
         ≡ tail.old.place) }
     ensures put { IfOk result (λ at. (ms : Registry) (vars : Parts)
         → IsPut ms vars (steps_row ms vars scene.now around.now.value tail.new.place
-        (step_view step.now no_steps)) to tail.old tail.new at) }
+        (step_view step.now no_steps)) held
+        (target_view ok.now) (target_view failed.now) tail.old tail.new (target_view at)) }
     ensures sound { OnOk result
         (StaySound scene.now.handlers.now (step_tasks step.now) tail.old tail.new) }
 {
     match step {
-        Step::Task(task) => tail.put(Visited::Task(task), around, false, to),
-        Step::Flush(_) => put_flush(tail, scene, to.ok),
-        Step::Block(block) => put_block(tail, scene, around, block, to),
+        Step::Task(task) => tail.put(Visited::Task(task), around, None, ok, failed),
+        Step::Flush(_) => put_flush(tail, scene, ok),
+        Step::Block(block) => put_block(tail, scene, around, held, block, ok, failed),
     }
 }
 
-// Puts the parts of a block in front: the `always` part as it runs after a failure, the same at the
-// same places as it runs else, then the `rescue` and the body.
+// Puts the parts of a block in front: the `always` part as it runs after a failure, which is held
+// until it is done, the same at the same places as it runs else, then the `rescue` and the body.
 #[cycle(put)]
 fn put_block<'p>(
     tail: &mut Tail<'p>,
     scene: &Scene<'p>,
     around: &Arc<Around<'p>>,
+    held: u32,
     block: &'p Block<Step>,
-    to: Exits,
-) -> Result<Option<u32>, AllocError>
+    ok: &Target,
+    failed: &Target,
+) -> Result<Target, AllocError>
     requires room { steps_in (length scene.now.handlers.now) 0 (block_alone block.now)
         ≤ tail.old.front }
     requires places { places_in (length scene.now.handlers.now) (block_alone block.now)
@@ -225,35 +224,44 @@ fn put_block<'p>(
         + places_in (length scene.now.handlers.now) (block_alone block.now) ≡ tail.old.place) }
     ensures put { IfOk result (λ at. (ms : Registry) (vars : Parts)
         → IsPut ms vars (steps_row ms vars scene.now around.now.value tail.new.place
-        (block_alone block.now)) to tail.old tail.new at) }
+        (block_alone block.now)) held
+        (target_view ok.now) (target_view failed.now) tail.old tail.new (target_view at)) }
     ensures sound { OnOk result
         (StaySound scene.now.handlers.now (block_tasks block.now) tail.old tail.new) }
 {
     let always = around_always(scene.alloc, around, block)?;
     let rescue = around_rescue(scene.alloc, around, block)?;
     let body = around_body(scene.alloc, around, block)?;
-    let place = tail.place;
-    let leaving = Exits {
-        ok: to.failed,
-        failed: to.failed,
+    // Nobody has memory for as many blocks.
+    let Some(deeper) = held.checked_add(1) else {
+        return Err(AllocError);
     };
-    let failed = put_steps(tail, scene, &always, &block.always, leaving)?;
+    let place = tail.place;
+    let out = failed.after(Move::Releasing(held))?;
+    let last = put_steps(tail, scene, &always, deeper, &block.always, &out, failed)?;
+    let fails = last.after(Move::Holding(held))?;
     tail.place = place;
-    let ok = put_steps(tail, scene, &always, &block.always, to)?;
-    let saved = put_steps(tail, scene, &rescue, &block.rescue, Exits { ok, failed })?;
-    let failed = failure_of(block, saved, failed);
-    put_steps(tail, scene, &body, &block.body, Exits { ok, failed })
+    let on = put_steps(tail, scene, &always, held, &block.always, ok, failed)?;
+    let inside = put_steps(tail, scene, &rescue, held, &block.rescue, &on, &fails)?;
+    let saved = failure_of(block, around.depth, &inside, &fails)?;
+    put_steps(tail, scene, &body, held, &block.body, &on, &saved)
 }
 
 // Where a failure of the body leads: into the `rescue`, if there is one.
-fn failure_of(block: &Block<Step>, inside: Option<u32>, outside: Option<u32>) -> Option<u32>
-    ensures { result
-        ≡ saved_entry (is_given (steps_view block.now.rescue.items)) inside outside }
+fn failure_of(
+    block: &Block<Step>,
+    depth: u32,
+    inside: &Target,
+    outside: &Target,
+) -> Result<Target, AllocError>
+    ensures { IfOk result (λ t. target_view t
+        ≡ saved_target depth (is_given (steps_view block.now.rescue.items))
+        (target_view inside.now) (target_view outside.now)) }
 {
     if is_given(&block.rescue) {
-        inside
+        inside.after(Move::Rescuing(depth))
     } else {
-        outside
+        outside.copy()
     }
 }
 
@@ -334,8 +342,8 @@ fn put_section<'p>(
     scene: &Scene<'p>,
     steps: &'p [Step],
     forces: bool,
-    after: Option<u32>,
-) -> Result<Option<u32>, AllocError>
+    after: &Target,
+) -> Result<Target, AllocError>
     requires room { section_steps (length scene.now.handlers.now) (cond forces 2 1)
         (steps_view steps.now) ≤ tail.old.front }
     requires places { section_places (length scene.now.handlers.now) (steps_view steps.now)
@@ -348,12 +356,13 @@ fn put_section<'p>(
         ≡ tail.old.place) }
     ensures put { IfOk result (λ at. (ms : Registry) (vars : Parts)
         → IsPut ms vars (one_section_row ms vars scene.now forces tail.new.place
-        (steps_view steps.now)) (record { ok = after; failed = None }) tail.old tail.new at) }
+        (steps_view steps.now)) 0 (target_view after.now) leaving
+        tail.old tail.new (target_view at)) }
     ensures sound { OnOk result
         (StaySound scene.now.handlers.now (tasks_in steps.now) tail.old tail.new) }
 {
     if !is_given(steps) {
-        return Ok(after);
+        return after.copy();
     }
     if forces {
         put_forced(tail, scene, steps, after)
@@ -367,8 +376,8 @@ fn put_ended<'p>(
     tail: &mut Tail<'p>,
     scene: &Scene<'p>,
     steps: &'p [Step],
-    after: Option<u32>,
-) -> Result<Option<u32>, AllocError>
+    after: &Target,
+) -> Result<Target, AllocError>
     requires room { steps_in (length scene.now.handlers.now) 0 (steps_view steps.now)
         + length scene.now.handlers.now ≤ tail.old.front }
     requires places { places_in (length scene.now.handlers.now) (steps_view steps.now)
@@ -381,16 +390,14 @@ fn put_ended<'p>(
         + length scene.now.handlers.now) ≡ tail.old.place) }
     ensures put { IfOk result (λ at. (ms : Registry) (vars : Parts)
         → IsPut ms vars (ended_steps_row ms vars scene.now false tail.new.place
-        (steps_view steps.now)) (record { ok = after; failed = None }) tail.old tail.new at) }
+        (steps_view steps.now)) 0 (target_view after.now) leaving
+        tail.old tail.new (target_view at)) }
     ensures sound { OnOk result
         (StaySound scene.now.handlers.now (tasks_in steps.now) tail.old tail.new) }
 {
+    let leaving = Target::leaving(scene.alloc);
     let flush = put_flush(tail, scene, after)?;
-    let to = Exits {
-        ok: flush,
-        failed: None,
-    };
-    put_steps(tail, scene, &scene.around, steps, to)
+    put_steps(tail, scene, &scene.around, 0, steps, &flush, &leaving)
 }
 
 // Puts steps in front of a flush that is forced: it stands there as it runs after a failure, and at
@@ -399,8 +406,8 @@ fn put_forced<'p>(
     tail: &mut Tail<'p>,
     scene: &Scene<'p>,
     steps: &'p [Step],
-    after: Option<u32>,
-) -> Result<Option<u32>, AllocError>
+    after: &Target,
+) -> Result<Target, AllocError>
     requires room { steps_in (length scene.now.handlers.now) 0 (steps_view steps.now)
         + 2 * length scene.now.handlers.now ≤ tail.old.front }
     requires places { places_in (length scene.now.handlers.now) (steps_view steps.now)
@@ -413,15 +420,17 @@ fn put_forced<'p>(
         + length scene.now.handlers.now) ≡ tail.old.place) }
     ensures put { IfOk result (λ at. (ms : Registry) (vars : Parts)
         → IsPut ms vars (ended_steps_row ms vars scene.now true tail.new.place
-        (steps_view steps.now)) (record { ok = after; failed = None }) tail.old tail.new at) }
+        (steps_view steps.now)) 0 (target_view after.now) leaving
+        tail.old tail.new (target_view at)) }
     ensures sound { OnOk result
         (StaySound scene.now.handlers.now (tasks_in steps.now) tail.old tail.new) }
 {
+    let leaving = Target::leaving(scene.alloc);
     let behind = tail.place;
-    let failed = put_flush(tail, scene, None)?;
+    let failed = put_flush(tail, scene, &leaving)?;
     tail.place = behind;
     let ok = put_flush(tail, scene, after)?;
-    put_steps(tail, scene, &scene.around, steps, Exits { ok, failed })
+    put_steps(tail, scene, &scene.around, 0, steps, &ok, &failed)
 }
 
 // Puts the sections in front, the last one first.
@@ -429,8 +438,8 @@ pub(crate) fn put_sections<'p>(
     tail: &mut Tail<'p>,
     scene: &Scene<'p>,
     play: &'p Play,
-    after: Option<u32>,
-) -> Result<Option<u32>, AllocError>
+    after: &Target,
+) -> Result<Target, AllocError>
     requires room { sections_steps (length scene.now.handlers.now)
         (cond play.now.force_handlers 2 1) (play_view play.now) ≤ tail.old.front }
     requires places { sections_places (length scene.now.handlers.now) (play_view play.now)
@@ -443,14 +452,15 @@ pub(crate) fn put_sections<'p>(
         ≡ tail.old.place) }
     ensures put { IfOk result (λ at. (ms : Registry) (vars : Parts)
         → IsPut ms vars (all_sections_row ms vars scene.now tail.new.place (play_view play.now))
-        (record { ok = after; failed = None }) tail.old tail.new at) }
+        0 (target_view after.now) leaving
+        tail.old tail.new (target_view at)) }
     ensures sound { OnOk result
         (StaySound scene.now.handlers.now (sections_tasks play.now) tail.old tail.new) }
 {
     let forces = play.force_handlers;
     let post_tasks = put_section(tail, scene, &play.post_tasks, forces, after)?;
-    let tasks = put_section(tail, scene, &play.tasks, forces, post_tasks)?;
-    put_section(tail, scene, &play.pre_tasks, forces, tasks)
+    let tasks = put_section(tail, scene, &play.tasks, forces, &post_tasks)?;
+    put_section(tail, scene, &play.pre_tasks, forces, &tasks)
 }
 
 // Puts the task in front that gathers facts, where there is one; where it fails the host leaves.
@@ -458,25 +468,29 @@ pub(crate) fn put_gathering<'p>(
     tail: &mut Tail<'p>,
     scene: &Scene<'p>,
     gathering: Option<u32>,
-    after: Option<u32>,
-) -> Result<Option<u32>, AllocError>
+    after: &Target,
+) -> Result<Target, AllocError>
     requires room { gathering_steps gathering ≤ tail.old.front }
     requires places { gathering_steps gathering ≤ tail.old.place }
     ensures front { OnOk result (tail.new.front + gathering_steps gathering ≡ tail.old.front) }
     ensures place { OnOk result (tail.new.place + gathering_steps gathering ≡ tail.old.place) }
     ensures put { IfOk result (λ at. (ms : Registry) (vars : Parts)
         → IsPut ms vars (gathering_row ms vars scene.now tail.new.place gathering)
-        (record { ok = after; failed = None }) tail.old tail.new at) }
+        0 (target_view after.now) leaving
+        tail.old tail.new (target_view at)) }
     ensures sound { OnOk result ((ms : Registry) → AreVisitedSound ms gathering tail.old.nodes.items
         → AreVisitedSound ms gathering tail.new.nodes.items) }
 {
-    let to = Exits {
-        ok: after,
-        failed: None,
-    };
+    let leaving = Target::leaving(scene.alloc);
     match gathering {
-        Some(line) => tail.put(Visited::Gathering(line), &scene.around, false, to),
-        None => Ok(after),
+        Some(line) => tail.put(
+            Visited::Gathering(line),
+            &scene.around,
+            None,
+            after,
+            &leaving,
+        ),
+        None => after.copy(),
     }
 }
 

@@ -55,8 +55,8 @@ impl<'p> Graph<'p> {
 impl Flow {
     // Takes in the edges from a node behind all sources so far.
     fn link_node(&mut self, source: usize, node: &Node) -> Result<(), AllocError>
-        requires ok { is_ahead source (self.old.graph.count - 1) node.now.ok ≡ true }
-        requires failed { is_ahead source (self.old.graph.count - 1) node.now.failed ≡ true }
+        requires ok { is_ahead source (self.old.graph.count - 1) node.now.ok.to ≡ true }
+        requires failed { is_ahead source (self.old.graph.count - 1) node.now.failed.to ≡ true }
         requires in_order { All (λ e. e.source ≤ source) self.old.graph.edges }
         ensures graph { OnOk result (self.new.graph ≡ record self.old.graph {
           edges = self.old.graph.edges ++ node_edges source node.now;
@@ -65,11 +65,11 @@ impl Flow {
             ≡ self.old.ways.items ++ node_ways node.now) }
         ensures in_order { OnOk result (All (λ e. e.source ≤ source) self.new.graph.edges) }
     {
-        if node.is_handler {
-            self.link(source, node.ok, Way::Passes)?;
+        if node.handler.is_some() {
+            self.link(source, node.ok.to, Way::Passes)?;
         }
-        self.link(source, node.ok, Way::Goes)?;
-        self.link(source, node.failed, Way::Fails)
+        self.link(source, node.ok.to, Way::Goes)?;
+        self.link(source, node.failed.to, Way::Fails)
     }
 
     // Takes in the edge to that node, where there is one.

@@ -4,13 +4,15 @@ ghost use Rattle.pb_semantics.specs.Limits.{most_play_steps};
 ghost use Rattle.pb_language.specs.Book.{Registry};
 ghost use Rattle.pb_language.specs.Plays.{play_row};
 ghost use Rattle.pb_language.specs.Sites.{steps_of};
+ghost use Rattle.pb_machine.specs.Steps.{leaving, moving, play_steps, to_node};
 ghost use Rattle.pb_play.specs.Plays.{play_view};
 ghost use Rattle.pb_play.specs.Sound.{AreSound, play_tasks};
 ghost use Rattle.pb_template.specs.Entries.{entries_view};
 ghost use Rattle.pb_flow.specs.Ahead.{all_lead_on};
 ghost use Rattle.pb_flow.specs.Exits.{exits_at, line_at, node_at, place_at};
 ghost use Rattle.pb_flow.specs.Flow.{begins_at, row_links, tasks_of};
-ghost use Rattle.pb_flow.specs.Nodes.{AreVisitedSound, node_task, nodes_links, visited_view};
+ghost use Rattle.pb_flow.specs.Nodes.{AreVisitedSound, move_view, node_step, node_task};
+ghost use Rattle.pb_flow.specs.Nodes.{nodes_links, target_view, visited_view};
 
 use crate::build::{Scene, Tail, put_gathering, put_sections};
 use crate::steps::count_of;
@@ -41,6 +43,27 @@ pub enum Visited<'p> {
     Task(&'p Task),
 }
 
+/// What happens to the text of a failure on the way from one task to the next.
+#[derive(Clone, Copy, PartialEq, Eq, Debug)]
+pub enum Move {
+    /// It is kept for the `rescue` part that begins, inside so many others.
+    Rescuing(u32),
+    /// It is held while the `always` part runs that begins, inside so many others that run after a
+    /// failure.
+    Holding(u32),
+    /// That part is done: the text that it held is the failure's again.
+    Releasing(u32),
+}
+
+/// Where a host goes, and what happens on the way.
+#[derive(Drop)]
+pub struct Target {
+    /// The first one first.
+    pub moves: Vec<Move>,
+    /// The node; none where the host then leaves.
+    pub to: Option<u32>,
+}
+
 /// A task in one of its ways: one outside of `always` parts has one node, one inside has two for
 /// each such part, and a handler has one for each flush, or two where the flush is forced.
 #[derive(Drop)]
@@ -49,12 +72,12 @@ pub struct Node<'p> {
     pub around: Arc<Around<'p>>,
     /// Its place in running order, which both modes of an `always` part share.
     pub place: u32,
-    /// A handler that wasn't notified is passed over.
-    pub is_handler: bool,
-    /// The node where the host goes on; none where it then leaves.
-    pub ok: Option<u32>,
-    /// The node that a failure leads to; none where the host then leaves.
-    pub failed: Option<u32>,
+    /// Of a handler its number; where it wasn't notified, it is passed over.
+    pub handler: Option<u32>,
+    /// Where the host goes on, also past a handler.
+    pub ok: Target,
+    /// Where a failure leads.
+    pub failed: Target,
 }
 
 /// Where a host goes from a node. Each node is a higher one.
@@ -91,6 +114,9 @@ impl<'p> Graph<'p> {
         ensures links { IfOk result (λ g. (ms : Registry)
             → nodes_links ms (entries_view play.now.vars.items) 1 g.tasks.items
             ≡ row_links (play_row ms (play_view play.now))) }
+        ensures steps { IfOk result (λ g. (ms : Registry)
+            → map (node_step ms (entries_view play.now.vars.items)) g.tasks.items
+            ≡ play_steps (play_row ms (play_view play.now))) }
         ensures sound { IfOk result (λ g. (ms : Registry) → AreSound ms (play_tasks play.now)
             → AreVisitedSound ms play.now.gathering g.tasks.items) }
     {
@@ -117,8 +143,8 @@ impl<'p> Graph<'p> {
         }
         match self.node_at(node) {
             Some(it) => Exits {
-                ok: it.ok,
-                failed: it.failed,
+                ok: it.ok.to,
+                failed: it.failed.to,
             },
             None => Exits {
                 ok: None,
@@ -168,15 +194,58 @@ fn nodes_of<'p>(alloc: Global, play: &'p Play) -> Result<(Option<u32>, Vec<Node<
     ensures links { IfOk result (λ g. (ms : Registry)
         → nodes_links ms (entries_view play.now.vars.items) 1 g.1.items
         ≡ row_links (play_row ms (play_view play.now))) }
+    ensures steps { IfOk result (λ g. (ms : Registry)
+        → map (node_step ms (entries_view play.now.vars.items)) g.1.items
+        ≡ play_steps (play_row ms (play_view play.now))) }
     ensures sound { IfOk result (λ g. (ms : Registry) → AreSound ms (play_tasks play.now)
         → AreVisitedSound ms play.now.gathering g.1.items) }
 {
     let scene = Scene::of(alloc, play)?;
     let mut tail = Tail::behind(alloc, count_of(play));
-    let end = Some(tail.front);
-    let first = put_sections(&mut tail, &scene, play, end)?;
-    let begin = put_gathering(&mut tail, &scene, play.gathering, first)?;
-    Ok((begin, tail.into_nodes()))
+    let end = Target::to_node(alloc, tail.front);
+    let first = put_sections(&mut tail, &scene, play, &end)?;
+    let begin = put_gathering(&mut tail, &scene, play.gathering, &first)?;
+    Ok((begin.to, tail.into_nodes()))
+}
+
+impl Target {
+    // To the node, with nothing on the way.
+    pub(crate) fn to_node(alloc: Global, node: u32) -> Target
+        ensures { target_view result ≡ to_node node }
+    {
+        Target {
+            moves: Vec::new(alloc),
+            to: Some(node),
+        }
+    }
+
+    // To where a host leaves.
+    pub(crate) fn leaving(alloc: Global) -> Target
+        ensures { target_view result ≡ leaving }
+    {
+        Target {
+            moves: Vec::new(alloc),
+            to: None,
+        }
+    }
+
+    pub(crate) fn copy(&self) -> Result<Target, AllocError>
+        ensures { IfOk result (λ t. target_view t ≡ target_view self.now) }
+    {
+        let mut moves = Vec::new(*self.moves.allocator());
+        moves.extend_from_slice(&self.moves)?;
+        Ok(Target { moves, to: self.to })
+    }
+
+    // The same, where that happens first.
+    pub(crate) fn after(&self, first: Move) -> Result<Target, AllocError>
+        ensures { IfOk result (λ t. target_view t
+            ≡ moving (move_view first) (target_view self.now)) }
+    {
+        let mut target = self.copy()?;
+        target.moves.insert(0, first)?;
+        Ok(target)
+    }
 }
 
 impl<'p> Visited<'p> {

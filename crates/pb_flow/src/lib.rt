@@ -15,5 +15,5 @@ pub mod laws;
 pub mod steps;
 
 pub use flow::{Flow, Way};
-pub use graph::{Around, Exits, Graph, Node, Visited};
+pub use graph::{Around, Exits, Graph, Move, Node, Target, Visited};
 pub use steps::{MOST_STEPS, steps_of};

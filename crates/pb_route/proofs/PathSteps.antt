@@ -1,5 +1,5 @@
 -- What becomes of what is known along each edge of the nodes of a play.
-use Rattle.std.proofs.Common.{◌≡◌, ◌∙◌, ◌<◌, ◌≤◌, ℕ, zero, suc, ◌+◌, List, [], ◌∷◌, ◌++◌, Bool, true, false, cond, Option, Some, None, length, map, slice_get, slice_index_or, length-append, refl, ap, arith}
+use Rattle.std.proofs.Common.{◌≡◌, ◌∙◌, ◌<◌, ◌≤◌, ℕ, zero, suc, ◌+◌, List, [], ◌∷◌, ◌++◌, Bool, true, false, cond, Option, Some, None, length, map, slice_get, slice_index_or, length-append, is_some, refl, ap, arith}
 use Rattle.pb_language.specs.Book.{Registry}
 use Rattle.pb_language.specs.Expression.{Parts}
 use Rattle.pb_language.specs.Judgement.{Exit}
@@ -28,19 +28,19 @@ passing-length false o x = refl
 
 node-length : (o : ℕ) (n : Node) → length (node_ways n) ≡ length (node_edges o n)
 node-length o n =
-    let es = edge_to o n.ok in
-    let fs = edge_to o n.failed in
-    let ws = way_to Goes n.ok in
-    let vs = way_to Fails n.failed in
+    let es = edge_to o n.ok.to in
+    let fs = edge_to o n.failed.to in
+    let ws = way_to Goes n.ok.to in
+    let vs = way_to Fails n.failed.to in
     omega (
       arith,
-      length-append (cond n.is_handler (way_to Passes n.ok) []) (ws ++ vs),
+      length-append (cond (is_some n.handler) (way_to Passes n.ok.to) []) (ws ++ vs),
       length-append ws vs,
-      length-append (cond n.is_handler es []) (es ++ fs),
+      length-append (cond (is_some n.handler) es []) (es ++ fs),
       length-append es fs,
-      passing-length n.is_handler o n.ok,
-      one-length o Goes n.ok,
-      one-length o Fails n.failed,
+      passing-length (is_some n.handler) o n.ok.to,
+      one-length o Goes n.ok.to,
+      one-length o Fails n.failed.to,
     )
 
 nodes-length : (o : ℕ) (ns : List Node) → length (nodes_ways ns) ≡ length (nodes_edges o ns)
@@ -73,8 +73,8 @@ nodes-until o m [] le = tt
 nodes-until o m (n ∷ ns) le =
     let here : o ≤ m = omega arith in
     until-both m (node_edges o n) (nodes_edges (suc o) ns)
-    (until-both m (cond n.is_handler (edge_to o n.ok) []) (edge_to o n.ok ++ edge_to o n.failed) (passing-until n.is_handler o m n.ok here)
-    (until-both m (edge_to o n.ok) (edge_to o n.failed) (one-until o m n.ok here) (one-until o m n.failed here)))
+    (until-both m (cond (is_some n.handler) (edge_to o n.ok.to) []) (edge_to o n.ok.to ++ edge_to o n.failed.to) (passing-until (is_some n.handler) o m n.ok.to here)
+    (until-both m (edge_to o n.ok.to) (edge_to o n.failed.to) (one-until o m n.ok.to here) (one-until o m n.failed.to here)))
     (nodes-until (suc o) m ns (omega arith))
 
 until-at : (m : ℕ) (es : List Edge) (i : ℕ) → Until m es → (edge_at (record { count = 0; edges = es }) i).source ≤ m
@@ -122,13 +122,13 @@ module _ (st : Setting) (all : List Station) where
 
     node-along : (n : Node) → along (node_edges (suc o) n) (node_ways n) ≡ node_steps st t n
     node-along n =
-        let es = edge_to (suc o) n.ok in
-        let fs = edge_to (suc o) n.failed in
-        let ws = way_to Goes n.ok in
-        let vs = way_to Fails n.failed in
-        along-both (cond n.is_handler es []) (es ++ fs) (cond n.is_handler (way_to Passes n.ok) []) (ws ++ vs) (passing-length n.is_handler (suc o) n.ok)
-        ∙ ap (λ xs. along (cond n.is_handler es []) (cond n.is_handler (way_to Passes n.ok) []) ++ xs) (along-both es fs ws vs (one-length (suc o) Goes n.ok))
-        ∙ rw (passing-along n.is_handler n.ok, one-along Goes n.ok, one-along Fails n.failed) refl
+        let es = edge_to (suc o) n.ok.to in
+        let fs = edge_to (suc o) n.failed.to in
+        let ws = way_to Goes n.ok.to in
+        let vs = way_to Fails n.failed.to in
+        along-both (cond (is_some n.handler) es []) (es ++ fs) (cond (is_some n.handler) (way_to Passes n.ok.to) []) (ws ++ vs) (passing-length (is_some n.handler) (suc o) n.ok.to)
+        ∙ ap (λ xs. along (cond (is_some n.handler) es []) (cond (is_some n.handler) (way_to Passes n.ok.to) []) ++ xs) (along-both es fs ws vs (one-length (suc o) Goes n.ok.to))
+        ∙ rw (passing-along (is_some n.handler) n.ok.to, one-along Goes n.ok.to, one-along Fails n.failed.to) refl
 
   nodes-along : (ms : Registry) (vars : Parts) (ns : List Node) (o : ℕ) (rest : List Station) → ((k : ℕ) → slice_get all (o + k) ≡ slice_get rest k) → map station_task rest ≡ map (node_task ms vars) ns
       → along (nodes_edges (suc o) ns) (nodes_ways ns) ≡ nodes_steps st ms vars ns

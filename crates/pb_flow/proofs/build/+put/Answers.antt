@@ -1,11 +1,14 @@
-use Rattle.std.proofs.Common.{◌≡◌, ◌∙◌, ◌||◌, suc, ◌+◌, ◌-◌, ◌<◌, length, drop, ap, sym, subst, refl, arith}
-use Rattle.pb_language.specs.Book.{no_steps}
+use Rattle.std.proofs.Common.{rules, ◌≡◌, ◌∙◌, ◌||◌, suc, ◌+◌, ◌-◌, ◌<◌, length, drop, ap, sym, subst, refl, arith}
+use Rattle.pb_language.specs.Book.{flush_step, no_steps}
 use Rattle.pb_language.specs.Plays.{inside, is_given, places_in, row_of}
 use Rattle.pb_language.specs.Task.{end}
 use Rattle.pb_language.specs.Sites.{steps_in}
 use Rattle.pb_play.specs.Plays.{head_view, step_view, steps_view}
-use Rattle.pb_flow.specs.Build.{IsPut, handlers_from}
-use Rattle.pb_flow.specs.Nodes.{around_view}
+use Rattle.pb_machine.specs.Steps.{saved_target}
+use Rattle.pb_play.specs.Sound.{tasks_in}
+use Rattle.pb_play.specs.declared.play.Step.{the_lemmas as step_lemmas}
+use Rattle.pb_flow.specs.Build.{IsPut, StaySound, handlers_from, steps_row}
+use Rattle.pb_flow.specs.Nodes.{around_view, target_view}
 use Rattle.pb_flow.proofs.Blocks.{block-put, both-ok, on-ok}
 use Rattle.pb_flow.proofs.Counts.{left, less-left, places-sum, steps-sum, sum-left, weight, weight-sum}
 use Rattle.pb_flow.proofs.Joins.{row-front}
@@ -40,7 +43,7 @@ put_steps-loop-index-preserved t c =
     let one : j ≡ i + 1 = omega arith in
     let lt : i < length ss = omega arith in
     let inv = c.loop-index.invariant in
-    let h = c.in_ok-next.ensures in
+    let h = c.in_ok-next-2.ensures in
     record {
       front = omega (arith, sum-left (steps_in n 0) (steps-sum n) ss i j s one lt c.index-steps-index.is, h.front);
       place = omega (arith, sum-left (places_in n) (places-sum n) ss i j s one lt c.index-steps-index.is, h.place);
@@ -51,8 +54,8 @@ put_steps-loop-index-preserved t c =
           let p = c.put_step.new.tail.place in
           let rest = steps_view (drop j ss) in
           let is : steps_view (drop i ss) ≡ step_view s rest = left ss i s lt c.index-steps-index.is ∙ ap (λ k. step_view s (steps_view (drop k ss))) (sym one) in
-          subst (λ r. IsPut ms vars r c.args.to c.args.tail.now c.put_step.new.tail c.in_ok-next.next) (sym (ap (λ x. row_of hs n a p x end) is ∙ row-front hs n a p c.loop-index.tail.place s rest h.place))
-          (put-joined ms vars (row_of hs n a p (step_view s no_steps) end) (row_of hs n a c.loop-index.tail.place rest end) c.args.to c.args.tail.now c.loop-index.tail c.put_step.new.tail c.loop-index.next c.in_ok-next.next (inv.put ms vars) (h.put ms vars));
+          subst (λ r. IsPut ms vars r c.args.held (target_view c.args.ok.now) (target_view c.args.failed.now) c.args.tail.now c.put_step.new.tail (target_view c.in_ok-next-2.next)) (sym (ap (λ x. row_of hs n a p x end) is ∙ row-front hs n a p c.loop-index.tail.place s rest h.place))
+          (put-joined ms vars (row_of hs n a p (step_view s no_steps) end) (row_of hs n a c.loop-index.tail.place rest end) c.args.held (target_view c.args.ok.now) (target_view c.args.failed.now) c.args.tail.now c.loop-index.tail c.put_step.new.tail (target_view c.loop-index.next) (target_view c.in_ok-next-2.next) (inv.put ms vars) (h.put ms vars));
     }
 
 pub put_block-put_steps-requires : goal.put_block-put_steps-requires
@@ -71,7 +74,7 @@ put_block-put_steps-requires-2 t c =
     let a5 = ap (λ xs. steps_in n 0 (steps_view xs)) c.deref-5.ensures.value in
     let b4 = ap (λ xs. places_in n (steps_view xs)) c.deref-4.ensures.value in
     let b5 = ap (λ xs. places_in n (steps_view xs)) c.deref-5.ensures.value in
-    (omega (arith, c.decreases, ap (λ xs. weight (steps_view xs)) c.deref-5.ensures.value), (omega (arith, c.requires.room, c.in_ok-failed.ensures.front), omega (arith, c.requires.places, c.in_ok-failed.ensures.place)))
+    (omega (arith, c.decreases, ap (λ xs. weight (steps_view xs)) c.deref-5.ensures.value), (omega (arith, c.requires.room, c.in_ok-last.ensures.front), omega (arith, c.requires.places, c.in_ok-last.ensures.place)))
 
 pub put_block-put_steps-requires-3 : goal.put_block-put_steps-requires-3
 put_block-put_steps-requires-3 t c =
@@ -83,7 +86,7 @@ put_block-put_steps-requires-3 t c =
     let b4 = ap (λ xs. places_in n (steps_view xs)) c.deref-4.ensures.value in
     let b5 = ap (λ xs. places_in n (steps_view xs)) c.deref-5.ensures.value in
     let b6 = ap (λ xs. places_in n (steps_view xs)) c.deref-6.ensures.value in
-    (omega (arith, c.decreases, ap (λ xs. weight (steps_view xs)) c.deref-6.ensures.value), (omega (arith, c.requires.room, c.in_ok-failed.ensures.front, c.in_ok-ok.ensures.front), omega (arith, c.requires.places, c.in_ok-failed.ensures.place, c.in_ok-ok.ensures.place)))
+    (omega (arith, c.decreases, ap (λ xs. weight (steps_view xs)) c.deref-6.ensures.value), (omega (arith, c.requires.room, c.in_ok-last.ensures.front, c.in_ok-on.ensures.front), omega (arith, c.requires.places, c.in_ok-last.ensures.place, c.in_ok-on.ensures.place)))
 
 pub put_block-put_steps-requires-4 : goal.put_block-put_steps-requires-4
 put_block-put_steps-requires-4 t c =
@@ -92,12 +95,12 @@ put_block-put_steps-requires-4 t c =
     let a4 = ap (λ xs. steps_in n 0 (steps_view xs)) c.deref-4.ensures.value in
     let a5 = ap (λ xs. steps_in n 0 (steps_view xs)) c.deref-5.ensures.value in
     let a6 = ap (λ xs. steps_in n 0 (steps_view xs)) c.deref-6.ensures.value in
-    let a7 = ap (λ xs. steps_in n 0 (steps_view xs)) c.deref-7.ensures.value in
+    let a7 = ap (λ xs. steps_in n 0 (steps_view xs)) c.deref-8.ensures.value in
     let b4 = ap (λ xs. places_in n (steps_view xs)) c.deref-4.ensures.value in
     let b5 = ap (λ xs. places_in n (steps_view xs)) c.deref-5.ensures.value in
     let b6 = ap (λ xs. places_in n (steps_view xs)) c.deref-6.ensures.value in
-    let b7 = ap (λ xs. places_in n (steps_view xs)) c.deref-7.ensures.value in
-    (omega (arith, c.decreases, ap (λ xs. weight (steps_view xs)) c.deref-7.ensures.value), (omega (arith, c.requires.room, c.in_ok-failed.ensures.front, c.in_ok-ok.ensures.front, c.in_ok-saved.ensures.front), omega (arith, c.requires.places, c.in_ok-failed.ensures.place, c.in_ok-ok.ensures.place, c.in_ok-saved.ensures.place)))
+    let b7 = ap (λ xs. places_in n (steps_view xs)) c.deref-8.ensures.value in
+    (omega (arith, c.decreases, ap (λ xs. weight (steps_view xs)) c.deref-8.ensures.value), (omega (arith, c.requires.room, c.in_ok-last.ensures.front, c.in_ok-on.ensures.front, c.in_ok-inside.ensures.front), omega (arith, c.requires.places, c.in_ok-last.ensures.place, c.in_ok-on.ensures.place, c.in_ok-inside.ensures.place)))
 
 pub put_block-returns-clause-front : goal.put_block-returns-clause-front
 put_block-returns-clause-front t c =
@@ -106,34 +109,49 @@ put_block-returns-clause-front t c =
     let a4 = ap (λ xs. steps_in n 0 (steps_view xs)) c.deref-4.ensures.value in
     let a5 = ap (λ xs. steps_in n 0 (steps_view xs)) c.deref-5.ensures.value in
     let a6 = ap (λ xs. steps_in n 0 (steps_view xs)) c.deref-6.ensures.value in
-    let a7 = ap (λ xs. steps_in n 0 (steps_view xs)) c.deref-7.ensures.value in
-    on-ok c.put_steps-4.result _ _ c.put_steps-4.ensures.front (λ e. omega (arith, c.in_ok-failed.ensures.front, c.in_ok-ok.ensures.front, c.in_ok-saved.ensures.front))
+    let a7 = ap (λ xs. steps_in n 0 (steps_view xs)) c.deref-8.ensures.value in
+    on-ok c.put_steps-4.result _ _ c.put_steps-4.ensures.front (λ e. omega (arith, c.in_ok-last.ensures.front, c.in_ok-on.ensures.front, c.in_ok-inside.ensures.front))
 
 pub put_block-returns-clause-put : goal.put_block-returns-clause-put
 put_block-returns-clause-put t c =
     let b = c.args.block.now in
+    let deeper : c.in-Some.deeper ≡ suc c.args.held = omega (arith, c.in-Some.ensures) in
     both-ok c.put_steps-4.result _ _ _ c.put_steps-4.ensures.put c.put_steps-4.ensures.place (λ at p e. λ ms vars.
     block-put ms vars c.args.scene.now c.args.around.now.value b c.in_ok-always.always.value c.in_ok-rescue.rescue.value c.in_ok-body.body.value
-    c.deref-7.result.now c.deref-6.result.now c.deref-4.result.now c.deref-5.result.now c.args.to
+    c.deref-8.result.now c.deref-6.result.now c.deref-4.result.now c.deref-5.result.now c.args.held (target_view c.args.ok.now) (target_view c.args.failed.now)
     c.args.tail.now c.put_steps.new.tail (record { nodes = c.put_steps.new.tail.nodes; front = c.put_steps.new.tail.front; place = c.args.tail.now.place }) c.put_steps-2.new.tail c.put_steps-3.new.tail c.put_steps-4.new.tail
-    c.in_ok-ok.ok c.in_ok-failed.failed c.in_ok-saved.saved c.failure_of-failed.result at
+    (target_view c.in_ok-out.out) (target_view c.in_ok-last.last) (target_view c.in_ok-on.on) (target_view c.in_ok-fails.fails) (target_view c.in_ok-inside.inside) (target_view c.in_ok-saved.saved) (target_view at)
     (subst (λ a. around_view ms vars c.in_ok-always.always.value ≡ inside (around_view ms vars a) (head_view b.head)) c.deref.ensures (c.in_ok-always.ensures ms vars))
     (subst (λ a. around_view ms vars c.in_ok-rescue.rescue.value ≡ record (inside (around_view ms vars a) (head_view b.head)) { depth = suc a.depth }) c.deref-2.ensures (c.in_ok-rescue.ensures ms vars))
     (subst (λ a. around_view ms vars c.in_ok-body.body.value ≡ record (inside (around_view ms vars a) (head_view b.head)) { rescued = a.rescued || is_given (steps_view b.rescue.items) }) c.deref-3.ensures (c.in_ok-body.ensures ms vars))
-    c.deref-7.ensures.value c.deref-6.ensures.value c.deref-4.ensures.value c.deref-5.ensures.value
-    refl refl refl refl c.in_ok-failed.ensures.place c.in_ok-ok.ensures.place c.in_ok-saved.ensures.place e
-    c.failure_of-failed.ensures (c.in_ok-failed.ensures.put ms vars) (c.in_ok-ok.ensures.put ms vars) (c.in_ok-saved.ensures.put ms vars) (p ms vars))
+    c.deref-8.ensures.value c.deref-6.ensures.value c.deref-4.ensures.value c.deref-5.ensures.value
+    refl refl refl c.in_ok-last.ensures.place c.in_ok-on.ensures.place c.in_ok-inside.ensures.place e
+    c.in_ok-out.ensures c.in_ok-fails.ensures
+    (subst (λ a. target_view c.in_ok-saved.saved ≡ saved_target a.depth (is_given (steps_view b.rescue.items)) (target_view c.in_ok-inside.inside) (target_view c.in_ok-fails.fails)) c.deref-7.ensures c.in_ok-saved.ensures)
+    (subst (λ k. IsPut ms vars (steps_row ms vars c.args.scene.now c.in_ok-always.always.value c.put_steps.new.tail.place (steps_view c.deref-4.result.now)) k (target_view c.in_ok-out.out) (target_view c.args.failed.now) c.args.tail.now c.put_steps.new.tail (target_view c.in_ok-last.last)) deeper (c.in_ok-last.ensures.put ms vars)) (c.in_ok-on.ensures.put ms vars) (c.in_ok-inside.ensures.put ms vars) (p ms vars))
 
 pub put_block-returns-clause-sound : goal.put_block-returns-clause-sound
 put_block-returns-clause-sound t c =
     let hs = c.args.scene.now.handlers.now in
-    let before = rw c.deref-4.ensures.value at c.in_ok-failed.ensures.sound in
-    let again = rw c.deref-5.ensures.value at c.in_ok-ok.ensures.sound in
-    let saved = rw c.deref-6.ensures.value at c.in_ok-saved.ensures.sound in
+    let before = rw c.deref-4.ensures.value at c.in_ok-last.ensures.sound in
+    let again = rw c.deref-5.ensures.value at c.in_ok-on.ensures.sound in
+    let saved = rw c.deref-6.ensures.value at c.in_ok-inside.ensures.sound in
     on-ok c.put_steps-4.result _ _ c.put_steps-4.ensures.sound (λ h.
     stay-block hs c.args.block.now c.args.tail.now c.put_steps.new.tail c.put_steps-2.new.tail c.put_steps-3.new.tail c.put_steps-4.new.tail
-    before (record { sound = again.sound }) saved (rw c.deref-7.ensures.value at h))
+    before (record { sound = again.sound }) saved (rw c.deref-8.ensures.value at h))
 
 pub put_step-returns-in-Task-clause-sound : goal.put_step-returns-in-Task-clause-sound
 put_step-returns-in-Task-clause-sound t c =
     on-ok c.put.result _ _ c.put.ensures.sound (λ f. record { sound = λ ms line a b. f ms line (task-alone ms c.args.step.now c.in-Task.task c.in-Task.is b) })
+
+pub put_step-returns-in-Flush-clause-put : goal.put_step-returns-in-Flush-clause-put
+put_step-returns-in-Flush-clause-put t c =
+    let f : step_view c.args.step.now no_steps ≡ flush_step c.in-Flush.field-0 no_steps = rw c.in-Flush.is (search (rules, step_lemmas)) in
+    both-ok c.put_flush.result _ _ _ c.put_flush.ensures.put c.put_flush.ensures.place (λ at p e. λ ms vars.
+    subst (λ ss. IsPut ms vars (steps_row ms vars c.args.scene.now c.args.around.now.value c.put_flush.new.tail.place ss) c.args.held (target_view c.args.ok.now) (target_view c.args.failed.now) c.args.tail.now c.put_flush.new.tail (target_view at)) (sym f)
+    (p ms vars c.args.held (target_view c.args.failed.now)))
+
+pub put_steps-returns-clause-sound : goal.put_steps-returns-clause-sound
+put_steps-returns-clause-sound t c =
+    let e : c.loop-index.index ≡ 0 = omega arith in
+    subst (λ i. StaySound c.args.scene.now.handlers.now (tasks_in (drop i c.args.steps.now)) c.args.tail.now c.loop-index.tail) e c.loop-index.invariant.sound

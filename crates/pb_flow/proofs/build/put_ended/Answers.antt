@@ -1,10 +1,11 @@
-use Rattle.std.proofs.Common.{◌≡◌, ◌+◌, None, [], length, sym, subst, arith}
+use Rattle.std.proofs.Common.{◌≡◌, ◌+◌, [], length, sym, subst, arith}
 use Rattle.pb_language.specs.Plays.{places_in, row_of}
 use Rattle.pb_language.specs.Task.{end, flush}
 use Rattle.pb_play.specs.Plays.{steps_view}
 use Rattle.pb_play.specs.Sound.{tasks_in}
 use Rattle.pb_flow.specs.Build.{IsPut, handlers_from}
-use Rattle.pb_flow.specs.Nodes.{around_view}
+use Rattle.pb_flow.specs.Nodes.{around_view, target_view}
+use Rattle.pb_machine.specs.Steps.{leaving}
 use Rattle.pb_flow.proofs.Blocks.{both-ok, on-ok}
 use Rattle.pb_flow.proofs.Joins.{row-joined}
 use Rattle.pb_flow.proofs.Puts.{put-joined}
@@ -23,9 +24,10 @@ returns-clause-put c =
     let s = around_view ms vars scene.around.value in
     let hs = handlers_from ms vars scene in
     let at_flush : mid.place ≡ places_in n ss + new.place = omega arith in
-    subst (λ r. IsPut ms vars r (record { ok = c.args.after; failed = None }) old new at) (sym (row-joined hs n s new.place ss (flush (hs (places_in n ss + new.place)) end)))
-    (put-joined ms vars (row_of hs n s new.place ss end) (flush (hs (places_in n ss + new.place)) end) (record { ok = c.args.after; failed = None }) old mid new c.in_ok-flush.flush at
-    (subst (λ k. IsPut ms vars (flush (hs k) end) (record { ok = c.args.after; failed = None }) old mid c.in_ok-flush.flush) at_flush (c.in_ok-flush.ensures.put ms vars)) (p ms vars)))
+    subst (λ r. IsPut ms vars r 0 (target_view c.args.after.now) leaving old new (target_view at)) (sym (row-joined hs n s new.place ss (flush (hs (places_in n ss + new.place)) end)))
+    (put-joined ms vars (row_of hs n s new.place ss end) (flush (hs (places_in n ss + new.place)) end) 0 (target_view c.args.after.now) leaving old mid new (target_view c.in_ok-flush.flush) (target_view at)
+    (subst (λ k. IsPut ms vars (flush (hs k) end) 0 (target_view c.args.after.now) leaving old mid (target_view c.in_ok-flush.flush)) at_flush (c.in_ok-flush.ensures.put ms vars 0 leaving))
+    (subst (λ t. IsPut ms vars (row_of hs n s new.place ss end) 0 (target_view c.in_ok-flush.flush) t mid new (target_view at)) c.leaving-leaving.ensures (p ms vars))))
 
 pub returns-clause-sound : goal.returns-clause-sound
 returns-clause-sound c =

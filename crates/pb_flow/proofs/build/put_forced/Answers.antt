@@ -1,10 +1,11 @@
-use Rattle.std.proofs.Common.{◌≡◌, ◌+◌, None, [], length, refl, subst, arith}
+use Rattle.std.proofs.Common.{◌≡◌, ◌+◌, [], length, refl, subst, arith}
 use Rattle.pb_language.specs.Plays.{places_in, row_of}
 use Rattle.pb_language.specs.Task.{end, flush}
 use Rattle.pb_play.specs.Plays.{steps_view}
 use Rattle.pb_play.specs.Sound.{tasks_in}
 use Rattle.pb_flow.specs.Build.{IsPut, handlers_from}
-use Rattle.pb_flow.specs.Nodes.{around_view}
+use Rattle.pb_flow.specs.Nodes.{around_view, target_view}
+use Rattle.pb_machine.specs.Steps.{leaving}
 use Rattle.pb_flow.specs.declared.build.Tail.{Tail}
 use Rattle.pb_flow.proofs.Blocks.{both-ok, on-ok}
 use Rattle.pb_flow.proofs.Puts.{put-section}
@@ -26,9 +27,10 @@ returns-clause-put c =
     let hs = handlers_from ms vars scene in
     let at_first : one.place ≡ places_in n ss + new.place = omega (arith, c.in_ok-failed.ensures.place, c.in_ok-ok.ensures.place) in
     let at_second : two.place ≡ places_in n ss + new.place = omega arith in
-    put-section ms vars (row_of hs n s new.place ss end) (hs (places_in n ss + new.place)) c.args.after old one again two new c.in_ok-failed.failed c.in_ok-ok.ok at refl refl refl
-    (subst (λ k. IsPut ms vars (flush (hs k) end) (record { ok = None; failed = None }) old one c.in_ok-failed.failed) at_first (c.in_ok-failed.ensures.put ms vars))
-    (subst (λ k. IsPut ms vars (flush (hs k) end) (record { ok = c.args.after; failed = None }) again two c.in_ok-ok.ok) at_second (c.in_ok-ok.ensures.put ms vars))
+    put-section ms vars (row_of hs n s new.place ss end) (hs (places_in n ss + new.place)) 0 (target_view c.args.after.now) old one again two new (target_view c.in_ok-failed.failed) (target_view c.in_ok-ok.ok) (target_view at) refl refl
+    (subst (λ k. IsPut ms vars (flush (hs k) end) 0 leaving leaving old one (target_view c.in_ok-failed.failed)) at_first
+    (subst (λ t. IsPut ms vars (flush (hs one.place) end) 0 t leaving old one (target_view c.in_ok-failed.failed)) c.leaving-leaving.ensures (c.in_ok-failed.ensures.put ms vars 0 leaving)))
+    (subst (λ k. IsPut ms vars (flush (hs k) end) 0 (target_view c.args.after.now) leaving again two (target_view c.in_ok-ok.ok)) at_second (c.in_ok-ok.ensures.put ms vars 0 leaving))
     (p ms vars))
 
 pub returns-clause-sound : goal.returns-clause-sound

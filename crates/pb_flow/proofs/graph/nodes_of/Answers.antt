@@ -1,4 +1,4 @@
-use Rattle.std.proofs.Common.{◌≡◌, ◌∙◌, suc, Some, None, length, map, subst, ap, sym, arith}
+use Rattle.std.proofs.Common.{◌≡◌, ◌∙◌, suc, length, map, subst, ap, sym, arith}
 use Rattle.std.proofs.lemmas.List.{length-map}
 use Rattle.std.proofs.lemmas.List.Elements.{All-nil}
 use Rattle.pb_language.specs.Sites.{gathering_steps, steps_of}
@@ -7,10 +7,11 @@ use Rattle.pb_play.specs.Sound.{AreSound, handler_tasks}
 use Rattle.pb_template.specs.Entries.{entries_view}
 use Rattle.pb_language.specs.Book.{Registry}
 use Rattle.pb_language.specs.Plays.{play_row}
-use Rattle.pb_flow.specs.Build.{IsPut}
-use Rattle.pb_flow.specs.Nodes.{AreVisitedSound, node_task, nodes_links}
+use Rattle.pb_flow.specs.Build.{IsPut, all_sections_row}
+use Rattle.pb_flow.specs.Nodes.{AreVisitedSound, node_step, node_task, nodes_links, target_view}
+use Rattle.pb_machine.specs.Steps.{leaving, to_node}
 use Rattle.pb_flow.specs.Places.{play_places, sections_places}
-use Rattle.pb_flow.proofs.Sections.{play-begins, play-links, play-put, play-tasks}
+use Rattle.pb_flow.proofs.Sections.{play-begins, play-has-steps, play-links, play-put, play-tasks}
 use Rattle.pb_flow.proofs.Sizes.{play-few}
 use Rattle.pb_flow.proofs.Sounds.{play-handlers, play-sections, sound-reverse}
 use Rattle.pb_flow.proofs.graph.nodes_of.Goals as goal
@@ -32,7 +33,7 @@ put_gathering-requires-clause-places c =
 
 -- the whole row was put in front of the end
 whole : (c : goal.After-drop-scene-2) (ms : Registry)
-    → IsPut ms (entries_view c.args.play.now.vars.items) (play_row ms (play_view c.args.play.now)) (record { ok = Some c.behind-tail.result.front; failed = None }) c.behind-tail.result c.put_gathering.new.tail c.in_ok-begin.begin
+    → IsPut ms (entries_view c.args.play.now.vars.items) (play_row ms (play_view c.args.play.now)) 0 (to_node c.behind-tail.result.front) leaving c.behind-tail.result c.put_gathering.new.tail (target_view c.in_ok-begin.begin)
 whole c ms =
     let p = play_view c.args.play.now in
     let scene = c.in_ok-scene.scene in
@@ -41,8 +42,10 @@ whole c ms =
     let sections = ap (λ n. sections_places n p) k in
     let mid : c.put_sections.new.tail.place ≡ gathering_steps p.gathering = omega (arith, few, sections, c.behind-tail.ensures.place, c.in_ok-first.ensures.place) in
     let first : c.put_gathering.new.tail.place ≡ 0 = omega (arith, mid, c.in_ok-begin.ensures.place) in
-    play-put ms (entries_view c.args.play.now.vars.items) scene c.args.play.now (Some c.behind-tail.result.front) c.behind-tail.result c.put_sections.new.tail c.put_gathering.new.tail c.in_ok-first.first c.in_ok-begin.begin
-    c.in_ok-scene.ensures.handlers (c.in_ok-scene.ensures.around ms) first mid (c.in_ok-first.ensures.put ms (entries_view c.args.play.now.vars.items)) (c.in_ok-begin.ensures.put ms (entries_view c.args.play.now.vars.items))
+    play-put ms (entries_view c.args.play.now.vars.items) scene c.args.play.now (to_node c.behind-tail.result.front) c.behind-tail.result c.put_sections.new.tail c.put_gathering.new.tail (target_view c.in_ok-first.first) (target_view c.in_ok-begin.begin)
+    c.in_ok-scene.ensures.handlers (c.in_ok-scene.ensures.around ms) first mid
+    (subst (λ t. IsPut ms (entries_view c.args.play.now.vars.items) (all_sections_row ms (entries_view c.args.play.now.vars.items) scene c.put_sections.new.tail.place p) 0 t leaving c.behind-tail.result c.put_sections.new.tail (target_view c.in_ok-first.first)) c.to_node-end.ensures (c.in_ok-first.ensures.put ms (entries_view c.args.play.now.vars.items)))
+    (c.in_ok-begin.ensures.put ms (entries_view c.args.play.now.vars.items))
 
 -- the end follows the nodes
 ended : (c : goal.After-drop-scene-2) → c.behind-tail.result.front ≡ suc (steps_of (play_view c.args.play.now))
@@ -50,17 +53,22 @@ ended c = omega (arith, c.requires.few, c.count_of.ensures.steps, c.behind-tail.
 
 pub returns-clause-begin : goal.returns-clause-begin
 returns-clause-begin c = λ ms.
-    play-begins ms (entries_view c.args.play.now.vars.items) (play_view c.args.play.now) c.behind-tail.result c.put_gathering.new.tail c.in_ok-begin.begin (ended c) (whole c ms)
+    play-begins ms (entries_view c.args.play.now.vars.items) (play_view c.args.play.now) c.behind-tail.result c.put_gathering.new.tail (target_view c.in_ok-begin.begin) (ended c) (whole c ms)
 
 pub returns-clause-tasks : goal.returns-clause-tasks
 returns-clause-tasks c = λ ms.
     ap (map (node_task ms (entries_view c.args.play.now.vars.items))) c.into_nodes.ensures
-    ∙ play-tasks ms (entries_view c.args.play.now.vars.items) (play_view c.args.play.now) c.behind-tail.result c.put_gathering.new.tail c.in_ok-begin.begin c.behind-tail.ensures.nodes (whole c ms)
+    ∙ play-tasks ms (entries_view c.args.play.now.vars.items) (play_view c.args.play.now) c.behind-tail.result c.put_gathering.new.tail (target_view c.in_ok-begin.begin) (ended c) c.behind-tail.ensures.nodes (whole c ms)
 
 pub returns-clause-links : goal.returns-clause-links
 returns-clause-links c = λ ms.
     ap (nodes_links ms (entries_view c.args.play.now.vars.items) 1) c.into_nodes.ensures
-    ∙ play-links ms (entries_view c.args.play.now.vars.items) (play_view c.args.play.now) c.behind-tail.result c.put_gathering.new.tail c.in_ok-begin.begin (ended c) c.behind-tail.ensures.nodes (whole c ms)
+    ∙ play-links ms (entries_view c.args.play.now.vars.items) (play_view c.args.play.now) c.behind-tail.result c.put_gathering.new.tail (target_view c.in_ok-begin.begin) (ended c) c.behind-tail.ensures.nodes (whole c ms)
+
+pub returns-clause-steps : goal.returns-clause-steps
+returns-clause-steps c = λ ms.
+    ap (map (node_step ms (entries_view c.args.play.now.vars.items))) c.into_nodes.ensures
+    ∙ play-has-steps ms (entries_view c.args.play.now.vars.items) (play_view c.args.play.now) c.behind-tail.result c.put_gathering.new.tail (target_view c.in_ok-begin.begin) (ended c) c.behind-tail.ensures.nodes (whole c ms)
 
 pub returns-clause-sound : goal.returns-clause-sound
 returns-clause-sound c = λ ms s.

@@ -1,0 +1,5 @@
+pub mod Stacks
+pub mod Marks
+pub mod Made
+pub mod Along
+pub mod Ends

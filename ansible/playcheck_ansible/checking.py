@@ -1,0 +1,115 @@
+# Checks one book: reads it, runs the passes, asks the program, and puts its answer into the words of the files.
+from dataclasses import dataclass, field
+
+from .books import Play, Raw
+from .codes import TITLES
+from .hints import hint
+from .inventory import LOCAL, read_inventories, with_localhost
+from .loading import load_book
+from .nodes import made, texts_of
+from .plays import run_book_passes
+from .problems import Place
+from .program import Asker
+from .unjudged import Settler
+
+
+@dataclass
+class Finding:
+    code: str
+    title: str
+    place: Place
+    host: str = ""
+    name: str = ""
+    play: str = ""
+    kind: str = ""
+    detail: str = ""
+    help: str = ""
+    number: int = 0
+
+
+@dataclass
+class Unjudged:
+    place: Place
+    name: str
+    reason: str
+
+
+@dataclass
+class Report:
+    book: str
+    findings: list = field(default_factory=list)
+    unjudged: list = field(default_factory=list)
+    notes: list = field(default_factory=list)  # words of plays and blocks that weren't asked
+    tasks: int = 0
+    judged: int = 0
+    budget: int = 0
+    is_complete: bool = True
+
+    @property
+    def is_accepted(self):
+        return not self.findings
+
+
+@dataclass
+class Options:
+    inventories: list
+    modules: object
+    extra: dict = field(default_factory=dict)
+    go_on: bool = False
+
+
+def prepared(path, options):
+    """The book with its passes run, and the inventory that it is judged with."""
+    book = load_book(path)
+    run_book_passes(book, options.modules, options.extra)
+    inventory = read_inventories(options.inventories, path)
+    plays = [play for play in book.plays if isinstance(play, Play)]
+    keep_localhost_apart(plays, with_localhost(inventory, plays))
+    return book, inventory
+
+
+def keep_localhost_apart(plays, added):
+    """The localhost that Ansible has of itself is in no group: where a play names all hosts it is left out."""
+    for play in plays if added else []:
+        hosts = play.words.get("hosts")
+        texts = [text.value for text in texts_of(hosts)] if hosts is not None else []
+        named = {name.strip() for text in texts for name in text.replace(",", ":").split(":")}
+        if hosts is not None and named & {"all", "*", "ungrouped"} and not named & set(LOCAL):
+            play.words.put("hosts", made(":".join([*texts, *(f"!{name}" for name in added)]), hosts.place))
+
+
+def check_book(path, options):
+    book, inventory = prepared(path, options)
+    with Asker(inventory.json(), options.modules.signatures()) as asker:
+        settler = Settler(book, options.modules, inventory, asker)
+        settler.settle(finding_of, options.go_on)
+    return report_of(path, settler)
+
+
+def report_of(path, settler):
+    tasks = settler.tasks
+    report = Report(path, tasks=len(tasks))
+    report.findings = sorted((found for _, found in settler.findings), key=lambda found: found.number)
+    refused = {id(line.step) for line, _ in settler.findings if line is not None and line.step is not None}
+    for task in tasks:
+        if task.reason and id(task) not in refused:
+            report.unjudged.append(Unjudged(task.reason_place or task.place, task.name, task.reason))
+    report.notes = [Unjudged(place, "", what) for place, what in settler.notes]
+    report.judged = len(tasks) - len(report.unjudged)
+    report.budget = settler.answer.budget
+    return report
+
+
+def finding_of(answer, line, settler):
+    found = hint(answer, line, settler)
+    source = line.source if line is not None else None
+    play = line.play.name if line is not None and line.play is not None else ""
+    kind = {"asked": "task", "facts": "play"}.get(line.kind, line.kind) if line is not None else ""
+    if isinstance(source, Play):
+        kind = "play"
+    name = source.name if source is not None and not isinstance(source, Raw) else ""
+    host = answer.host if answer.host != "-" else ""
+    return Finding(answer.code, TITLES.get(answer.code, "a refusal"), found.place, host, name, play, kind,
+                   found.detail, found.help, answer.line)
+
+

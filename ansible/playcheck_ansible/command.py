@@ -1,0 +1,153 @@
+# The command line: which words there are, and the status with which it ends.
+import argparse
+import os
+import sys
+
+from .checking import Options, check_book
+from .codes import section_of
+from .formats import FORMATS
+from .modules import read_signatures
+from .nodes import Mapping, is_nothing, made
+from .positions import node_of, read_file
+from .problems import Place, Problem
+from .values import arguments_of
+
+BAD_WORDS = 64
+SUFFIXES = (".yml", ".yaml", ".json")
+EPILOG = """status: 0 all books are accepted, 1 a refusal (or, with --strict, a task that isn't judged),
+3 want of memory, 64 a bad command line or a file that can't be read"""
+
+
+class Words(argparse.ArgumentParser):
+    def error(self, message):
+        self.print_usage(sys.stderr)
+        self.exit(BAD_WORDS, f"playcheck-ansible: {message}\n")
+
+
+def parser():
+    words = Words(prog="playcheck-ansible", description="Judges Ansible playbooks in YAML.", epilog=EPILOG,
+                  formatter_class=argparse.RawDescriptionHelpFormatter)
+    commands = words.add_subparsers(dest="command", required=True, metavar="COMMAND", parser_class=Words)
+    check = commands.add_parser("check", help="judges playbooks, or all of a folder")
+    check.add_argument("books", nargs="+", metavar="BOOK", help="a playbook, or a folder of playbooks")
+    add_inputs(check)
+    check.add_argument("--format", choices=sorted(FORMATS), default="text", help="how it is printed (text)")
+    check.add_argument("--color", choices=("auto", "always", "never"), default="auto")
+    check.add_argument("--strict", action="store_true", help="a task that isn't judged is refused")
+    check.add_argument("--all", action="store_true", dest="go_on", help="goes on after a refusal")
+    explain = commands.add_parser("explain", help="prints what a code means")
+    explain.add_argument("code", metavar="CODE")
+    return words
+
+
+def add_inputs(words):
+    words.add_argument("-i", "--inventory", action="append", default=[], nargs="+", metavar="INVENTORY",
+                       help="a file in YAML or JSON, what ansible-inventory reads, or a list of hosts with a comma")
+    words.add_argument("-s", "--signatures", action="append", default=[], metavar="FILE", help="declared modules")
+    words.add_argument("-e", "--extra-vars", action="append", default=[], metavar="VARS",
+                       help="variables: name=value, an object in braces, or @FILE")
+    words.add_argument("--vars", action="append", default=[], metavar="FILE", help="a file of variables")
+
+
+def main(arguments):
+    words = parser().parse_args(arguments)
+    try:
+        return COMMANDS[words.command](words)
+    except Problem as problem:
+        told(problem)
+        return problem.status
+    except RecursionError:
+        told("a file nests too deep")
+        return BAD_WORDS
+    except MemoryError:
+        told("there is no more memory")
+        return 3
+
+
+def told(what):
+    print(f"playcheck-ansible: {what}", file=sys.stderr)
+
+
+def explain(words):
+    sys.stdout.write(section_of(words.code.upper()))
+    return 0
+
+
+def options_of(words):
+    inventories = [path for group in words.inventory for path in group]
+    extra = {}
+    for text in words.extra_vars:
+        extra.update(variables_of(text))
+    for path in words.vars:
+        extra.update(variables_in(read_file(path), path))
+    return Options(inventories, read_signatures(words.signatures), extra, getattr(words, "go_on", False))
+
+
+def variables_of(text):
+    """The variables of one `-e`."""
+    if text.startswith("@"):
+        return variables_in(read_file(text[1:]), text[1:])
+    if text.lstrip().startswith(("{", "[")):
+        return variables_in(node_of(text, "-e"), "-e")
+    found = arguments_of(text)
+    if found is None:
+        raise Problem(None, f"-e takes name=value, an object in braces or @FILE, not {text!r}")
+    return made(found, Place("-e")).pairs
+
+
+def variables_in(node, path):
+    if is_nothing(node):
+        return {}
+    if not isinstance(node, Mapping):
+        raise Problem(Place(path), "a mapping of variables is wanted")
+    return node.pairs
+
+
+def check(words):
+    options = options_of(words)
+    reports, statuses = [], [0]
+    for path in books_of(words.books):
+        try:
+            report = check_book(path, options)
+        except Problem as problem:
+            told(problem)
+            statuses.append(problem.status)
+            continue
+        reports.append(report)
+        is_left = words.strict and (report.unjudged or report.notes)
+        statuses.append(1 if report.findings or is_left else 0)
+    sys.stdout.write(FORMATS[words.format](reports, has_colour(words.color)))
+    sys.stdout.flush()
+    return max(statuses)
+
+
+def books_of(paths):
+    """The books; of a folder all files that are lists of plays."""
+    for path in paths:
+        if not os.path.isdir(path):
+            yield path
+            continue
+        for folder, inner, files in os.walk(path):
+            inner[:] = sorted(name for name in inner if not name.startswith("."))
+            yield from (os.path.join(folder, name) for name in sorted(files) if is_book(os.path.join(folder, name)))
+
+
+def is_book(path):
+    """Whether a file of a folder is a playbook: a list with an item that has `hosts` or `import_playbook`."""
+    if not path.endswith(SUFFIXES):
+        return False
+    try:
+        node = read_file(path)
+    except Problem:
+        return False
+    return any(isinstance(item, Mapping) and ("hosts" in item or any(key.endswith("import_playbook")
+               for key in item.pairs)) for item in getattr(node, "items", []))
+
+
+def has_colour(choice):
+    if choice != "auto":
+        return choice == "always"
+    return sys.stdout.isatty() and not os.environ.get("NO_COLOR")
+
+
+COMMANDS = {"check": check, "explain": explain}

@@ -1,0 +1,262 @@
+# Reads a book and puts the files in place that it imports or includes by literal names.
+import os
+from dataclasses import dataclass, field, replace
+
+from .books import PARTS, SECTIONS, Block, Book, Play, Raw, Task, items_of, steps_below
+from .modules import INCLUDES, short_name
+from .names import expression_names, given_names
+from .nodes import Mapping, Scalar, Sequence, has_template, is_nothing, is_text, plain, texts_of
+from .positions import read_file
+from .problems import Place, Problem
+
+MOST_INCLUDES = 32
+# What may stand at an include whose tasks are put in place; the rest of its words become those of a block.
+OWN_WORDS = {"file", "apply", "name"}
+BARS_INCLUDE = ("loop", "until", "retries", "register", "loop_control", "async", "args", "notify", "changed_when",
+                "failed_when")
+
+
+@dataclass
+class Context:
+    """Where steps stand: the file, the play, and the files that are open."""
+
+    file: str
+    book_folder: str
+    play: str
+    is_handlers: bool = False
+    open: tuple = ()
+    unseen: list = field(default_factory=list)
+
+
+def load_book(path):
+    return Book(path, *plays_of(read_file(path), path, ()))
+
+
+def plays_of(node, path, open_files):
+    """The plays of a file, or none and the node itself where it is no list."""
+    if not isinstance(node, Sequence):
+        return [], node
+    plays = []
+    for item in node.items:
+        key = include_key(item, ("import_playbook",))
+        if key:
+            plays += imported_plays(item, key, path, open_files)
+        else:
+            plays.append(play_of(item, path) if isinstance(item, Mapping) else Raw(item))
+    return plays, None
+
+
+def include_key(item, names):
+    if not isinstance(item, Mapping):
+        return None
+    return next((key for key in item.pairs if short_name(key) in names), None)
+
+
+def imported_plays(item, key, path, open_files):
+    named = item.get(key)
+    if not is_text(named) or has_template(named.value):
+        raise Problem(named.place, "an imported playbook's name is a template or no text; it can't be read")
+    target = os.path.join(os.path.dirname(path), named.value.strip())
+    if target in open_files or len(open_files) >= MOST_INCLUDES:
+        raise Problem(named.place, f"{named.value} is imported in itself")
+    try:
+        node = read_file(target)
+    except Problem as problem:
+        raise Problem(named.place, f"what is imported can't be read: {problem}") from None
+    plays, other = plays_of(node, target, (*open_files, path, target))
+    if other is not None:
+        raise Problem(other.place, "an imported playbook has to be a list of plays")
+    for play in plays:
+        add_words(play, item, key)
+    return plays
+
+
+def add_words(play, item, key):
+    """Gives an imported play what stands beside its import."""
+    if isinstance(play, Raw):
+        return
+    for word, part in item.pairs.items():
+        if word == "vars" and isinstance(part, Mapping):
+            merged = play.words.get("vars").copy() if isinstance(play.words.get("vars"), Mapping) else part.copy()
+            for name, value in part.pairs.items():
+                merged.put(name, value)
+            play.words.put("vars", merged)
+        elif word == "when":
+            play.reason = play.reason or "it is imported under a condition"
+        elif word not in (key, "name"):
+            play.asked.append(part)
+
+
+def play_of(item, path):
+    words = item.copy()
+    name = item.get("name") or item.get("hosts")
+    context = Context(path, os.path.dirname(path), str(plain(name)) if isinstance(name, Scalar) else "")
+    sections = {}
+    for section in (*SECTIONS, "handlers"):
+        nodes = items_of(words.get(section))
+        if nodes is not None:
+            words.take(section)
+            sections[section] = steps_of(nodes, replace(context, is_handlers=section == "handlers"))
+    play = Play(words, item.place, sections)
+    play.written = item.copy()
+    put_roles(play, context)
+    put_vars_files(play, context)
+    return play
+
+
+def put_roles(play, context):
+    """Roles run before the tasks: each stands there as a task of its own."""
+    roles = items_of(play.words.get("roles"))
+    if roles is None:
+        return
+    play.words.take("roles")
+    found = []
+    for role in roles:
+        words = Mapping({"include_role": role}, role.place, {"include_role": role.place})
+        found.append(left_include(Task(words, role.place, context.play), "a role"))
+    if found:
+        play.sections["tasks"] = found + play.sections.get("tasks", [])
+
+
+def left_include(task, what):
+    task.leave(f"{what} isn't put in place")
+    task.sets_unseen = task.notifies_any = True
+    return task
+
+
+def put_vars_files(play, context):
+    files = items_of(play.words.get("vars_files"))
+    if files is None:
+        return
+    play.words.take("vars_files")
+    given = play.words.get("vars")
+    if given is not None and not isinstance(given, Mapping):
+        return
+    merged = given.copy() if given is not None else Mapping({}, play.place)
+    for node in files:
+        for name, value in variables_of(node, play, context).items():
+            merged.put(name, value)
+    if merged.pairs:
+        play.words.put("vars", merged)
+
+
+def variables_of(node, play, context):
+    """The variables of a file; what can't be read by its name is said, and names may come from it."""
+    choices = node.items if isinstance(node, Sequence) else [node]
+    for choice in choices:
+        if not is_text(choice) or has_template(choice.value):
+            play.unseen_files.append(f"the file of variables on line {node.place.line}, whose name is a template")
+            return {}
+        path = found_file(choice.value, context, "vars")
+        if path:
+            read = read_file(path)
+            if isinstance(read, Mapping):
+                return read.pairs
+            if not is_nothing(read):
+                play.unseen_files.append(f"{choice.value}, which is no mapping")
+            return {}
+    raise Problem(node.place, "the file of variables isn't there")
+
+
+def found_file(name, context, folder):
+    beside = os.path.dirname(context.file)
+    for start in (beside, os.path.join(beside, folder), context.book_folder,
+                  os.path.join(context.book_folder, folder)):
+        path = os.path.join(start, name)
+        if os.path.isfile(path):
+            return path
+    return None
+
+
+def steps_of(nodes, context):
+    steps = []
+    for node in nodes:
+        if not isinstance(node, Mapping):
+            steps.append(Raw(node))
+        elif "block" in node:
+            steps.append(block_of(node, context))
+        elif include_key(node, INCLUDES):
+            steps += included(node, include_key(node, INCLUDES), context)
+        else:
+            steps.append(Task(node.copy(), node.place, context.play, context.is_handlers))
+    return steps
+
+
+def block_of(node, context):
+    words, parts = node.copy(), {}
+    for part in PARTS:
+        nodes = items_of(node.get(part))
+        if nodes is not None and part in node:
+            words.take(part)
+            parts[part] = steps_of(nodes, context)
+    return Block(words, node.place, parts)
+
+
+def included(node, key, context):
+    """The steps of a file that is imported or included, in the place of the task that names it."""
+    task = Task(node.copy(), node.place, context.play, context.is_handlers)
+    kind = short_name(key)
+    if kind not in ("import_tasks", "include_tasks"):
+        return [left_include(task, f"`{kind}`")]
+    name = included_name(node.get(key))
+    if name is None:
+        return [left_include(task, f"`{kind}` with a name that is no literal text")]
+    path = found_file(name, context, "tasks")
+    if path is None:
+        if kind == "import_tasks":
+            raise Problem(node.get(key).place, f"{name} isn't there")
+        return [left_include(task, f"{name} isn't there, so `{kind}`")]
+    if path in context.open or len(context.open) >= MOST_INCLUDES:
+        return [left_include(task, f"{name} includes itself, so it")]
+    return put_in_place(task, kind, key, path, context)
+
+
+def included_name(node):
+    if isinstance(node, Mapping) and set(node.pairs) <= {"file"}:
+        node = node.get("file")
+    if not is_text(node) or has_template(node.value) or "=" in node.value:
+        return None
+    return node.value.strip()
+
+
+def put_in_place(task, kind, key, path, context):
+    nodes = items_of(read_file(path))
+    if nodes is None:
+        raise Problem(Place(path), "a list of tasks is wanted")
+    inside = replace(context, file=path, open=(*context.open, path))
+    steps = steps_of(nodes, inside)
+    words = task.words.copy()
+    words.take(key)
+    bars = [word for word in words.pairs if word in BARS_INCLUDE or word.startswith("with_")]
+    if context.is_handlers and (set(words.pairs) - {"name"} or kind == "include_tasks"):
+        bars.append("handlers")
+    names = set().union(set(), *(given_names(step) for step in tasks_below(steps)))
+    if kind == "include_tasks" and mentions_any(words.get("when"), names):
+        bars.append("when")
+    if bars:
+        return [left_whole(task, kind, bars[0], steps, names)]
+    if context.is_handlers or not set(words.pairs) - {"name"}:
+        return steps
+    block = Block(words, task.place, {"block": steps})
+    block.may_be_passed = kind == "include_tasks" and "when" in words
+    return [block]
+
+
+def mentions_any(node, names):
+    return node is not None and any(expression_names(text.value) & names for text in texts_of(node))
+
+
+def tasks_below(steps):
+    return [step for step in steps_below(steps) if isinstance(step, Task)]
+
+
+def left_whole(task, kind, bar, steps, names):
+    """An include that can't be put in place, though what it sets and notifies is known."""
+    task.leave(f"`{kind}` with `{bar}` isn't put in place")
+    task.gives |= names
+    for step in tasks_below(steps):
+        task.notifies += [text.value for text in texts_of(step.words.get("notify")) if not has_template(text.value)] \
+            if "notify" in step.words else []
+        task.notifies_any = task.notifies_any or step.notifies_any
+        task.sets_unseen = task.sets_unseen or step.sets_unseen
+    return task

@@ -1,0 +1,365 @@
+# Which tasks aren't judged, and why: what the passes left, what the program can't read, and what reads of these.
+from .books import Block, Play, Raw, Task, steps_below
+from .hints import culprit
+from .lines import Printer
+from .modules import PASSED_OVER, CHANGES_FLOW, PROFILE, SETS_UNSEEN
+from .names import FACTS, KNOWN, MAGIC, given_names, mentioned, names_of_vars
+from .nodes import Mapping, is_text, texts_of, has_template
+
+# Codes of a form that the profile lacks; the other P codes are mistakes in Ansible too.
+FORM_CODES = ("P03", "P04", "P06", "P07")
+FORM_REASONS = {
+    "P03": "a word that the profile lacks",
+    "P04": "a value that hasn't the form which the profile wants",
+    "P06": "a module that is neither built in nor declared",
+    "P07": "an expression that the profile lacks",
+}
+
+
+class Settler:
+    """Asks the program until it answers about the flow: each form outside the profile leaves its task."""
+
+    def __init__(self, book, modules, inventory, asker):
+        self.book, self.modules, self.asker = book, modules, asker
+        self.opaque = inventory.opaque_names()
+        self.outside = inventory.names()
+        self.plays = [play for play in book.plays if isinstance(play, Play)]
+        self.tasks = book.tasks()
+        self.reads = {id(task): mentioned(task.words, task.asked) for task in self.tasks}
+        self.findings = []
+        self.notes = []  # words of plays and blocks that aren't asked, with their places
+        self.static_marks()
+
+    def static_marks(self):
+        given_by_vars = set().union(*(names_of_vars(step.words) for play in self.plays
+                                      for step in [play, *play.steps()] if not isinstance(step, Raw)))
+        for task in self.tasks:
+            twice = (given_names(task) & given_by_vars) - KNOWN
+            if twice:
+                name = sorted(twice)[0]
+                task.leave(f"'{name}' is set here and given by `vars`; which of them counts isn't modelled")
+            module = task.module()
+            task.sets_unseen = task.sets_unseen or (bool(task.reason) and module in SETS_UNSEEN)
+        for play in self.plays:
+            leave_handlers(play)
+
+    def spread(self):
+        """Leaves each task that reads what a task which isn't judged gives, and so on."""
+        while True:
+            tainted = self.tainted()
+            marked = False
+            for task in self.tasks:
+                if not task.reason:
+                    marked = self.mark(task, tainted) or marked
+            if not marked:
+                self.drop_asked(tainted)
+                self.drop_conditions(tainted)
+                return
+
+    def mark(self, task, tainted):
+        for name in sorted(self.reads[id(task)]):
+            if name in tainted:
+                task.leave(f"it reads '{name}': {tainted[name]}")
+                return True
+            if self.is_outside_fact(name):
+                task.leave(f"it reads '{name}', which the profile lacks")
+                return True
+        return False
+
+    def is_outside_fact(self, name):
+        is_known = name in KNOWN or name in self.outside or name in self.given()
+        return not is_known and (name in MAGIC or name.startswith("ansible_"))
+
+    def given(self):
+        if not hasattr(self, "given_cache"):
+            self.given_cache = set().union(*(given_names(task) for task in self.tasks),
+                                           *(names_of_vars(step.words) for play in self.plays
+                                             for step in [play, *play.steps()] if not isinstance(step, Raw)))
+        return self.given_cache
+
+    def tainted(self):
+        """The names that may hold what isn't judged, each with the reason."""
+        tainted = dict(self.opaque)
+        for play in self.plays:
+            tainted.update(play.lost)
+            for step in play.steps():
+                if isinstance(step, Block):
+                    tainted.update(step.lost)
+                    self.taint_passed(step, tainted)
+        for task in self.tasks:
+            if task.reason:
+                for name in given_names(task):
+                    tainted.setdefault(name, f"it is set on line {task.place.line}, which isn't judged")
+        for play in self.plays:
+            self.taint_lost(play, tainted)
+        self.taint_vars(tainted)
+        return tainted
+
+    def taint_passed(self, block, tainted):
+        """An include under a condition sets nothing where that doesn't hold; a block's tasks are skipped instead."""
+        if block.may_be_passed:
+            inside = [step for step in steps_below([block]) if isinstance(step, Task)]
+            names = set().union(*(given_names(task) for task in inside))
+            outside = [task for task in self.tasks if not any(task is one for one in inside)]
+            for name in names & set().union(*(self.reads[id(task)] for task in outside)):
+                tainted.setdefault(name, f"it is set by an include on line {block.place.line} that may be passed")
+
+    def taint_lost(self, play, tainted):
+        """What a play sets behind the place at which a host may leave it, and what an unjudged play gathers."""
+        tasks = play.tasks()
+        ends = [index for index, task in enumerate(tasks) if task.ends_host]
+        if ends:
+            for task in tasks[ends[0]:]:
+                for name in given_names(task):
+                    tainted.setdefault(name, f"it is set behind line {tasks[ends[0]].place.line}, which ends the play")
+        if play.reason:
+            for name in (*FACTS, "ansible_facts"):
+                tainted.setdefault(name, f"the play on line {play.place.line} isn't judged")
+
+    def taint_vars(self, tainted):
+        """Names of `vars` whose values mention such a name hold it too."""
+        holders = [step for play in self.plays for step in [play, *play.steps()]
+                   if isinstance(step, (Play, Block, Task)) and isinstance(step.words.get("vars"), Mapping)]
+        values = [(name, mentioned(Mapping({"vars": node}, node.place)), node)
+                  for step in holders for name, node in step.words.get("vars").pairs.items()]
+        marked = True
+        while marked:
+            marked = False
+            for name, read, node in values:
+                bad = sorted(one for one in read if one in tainted or self.is_outside_fact(one))
+                if name not in tainted and bad:
+                    why = tainted.get(bad[0], "which the profile lacks")
+                    tainted[name] = f"its value reads '{bad[0]}': {why}"
+                    marked = True
+
+    def drop_conditions(self, tainted):
+        """A block whose condition can't be judged leaves all its tasks."""
+        for play in self.plays:
+            for step in play.steps():
+                if not isinstance(step, Block) or "when" not in step.words:
+                    continue
+                read = mentioned(Mapping({"when": step.words.get("when")}, step.place))
+                bad = sorted(name for name in read if name in tainted or self.is_outside_fact(name))
+                if bad:
+                    self.leave_block(step, f"its block's condition reads '{bad[0]}'")
+                    self.spread()
+                    return
+
+    def drop_asked(self, tainted):
+        """Words of plays and blocks that read what isn't judged aren't asked, and this is said."""
+        for play in self.plays:
+            for step in [play, *play.steps()]:
+                for node in list(step.asked) if isinstance(step, (Play, Block)) else ():
+                    read = mentioned(Mapping({"vars": node}, node.place))
+                    bad = sorted(name for name in read if name in tainted or self.is_outside_fact(name))
+                    if bad:
+                        step.asked.remove(node)
+                        self.notes.append((node.place, f"this word isn't asked: it reads '{bad[0]}'"))
+
+    def leave_block(self, block, reason):
+        block.words.take("when")
+        block.asked = []
+        for step in steps_below([block]):
+            if isinstance(step, Task):
+                step.leave(reason, block.place)
+
+    def ask(self):
+        self.spread()
+        self.numbered = Printer(self.modules.unjudged_name()).book(self.book)
+        self.answer = self.asker.ask(self.numbered.json)
+        return self.answer
+
+    def settle(self, finding, go_on=False):
+        """Asks until the answer is about the flow; `finding` makes one of a refusal, with `go_on` its task is left."""
+        for _ in range(2 * len(self.tasks) + 3 * len(self.plays) + 8):
+            answer = self.ask()
+            if not answer.code:
+                return
+            if self.is_left(answer):
+                continue
+            self.findings.append((self.line(answer), finding(answer, self.line(answer), self)))
+            if not go_on or not self.cut(answer):
+                return
+
+    def line(self, answer):
+        lines = self.numbered.lines
+        return lines[answer.line] if 0 < answer.line < len(lines) else None
+
+    def is_left(self, answer):
+        """Whether the refusal is of a form outside the profile, whose task isn't judged from now on."""
+        line = self.line(answer)
+        if line is None or line.play is None:
+            return False
+        step = line.step
+        reason = self.reason(answer, line)
+        if not reason:
+            return False
+        if line.kind == "asked" and not isinstance(step, Task):
+            holder = step or line.play
+            self.notes.append((holder.asked[0].place, f"words of the {holder_kind(holder)} aren't asked: {reason}"))
+            holder.asked = []
+            return True
+        if isinstance(step, Task) and not step.reason:
+            step.leave(reason)
+            step.sets_unseen = step.module() in SETS_UNSEEN
+            if step.module() == "meta":
+                leave_handlers(line.play, [step])
+            return True
+        if isinstance(step, Block) and ("when" in step.words or "vars" in step.words or step.asked):
+            return self.left_block(step, answer.code, reason)
+        if step is line.play or step is None:
+            return self.left_play(line.play, answer.code, reason)
+        return False
+
+    def left_block(self, block, code, reason):
+        for name in names_of_vars(block.words):
+            block.lost[name] = f"the `vars` of the block on line {block.place.line} aren't judged"
+        block.words.take("vars")
+        block.words.take("ignore_errors")
+        self.leave_block(block, reason)
+        return True
+
+    def left_play(self, play, code, reason):
+        if code in ("P07", "P04") and self.lost_by_probing(play):
+            return True
+        if play.reason:
+            return False
+        play.reason = reason
+        for name in names_of_vars(play.words):
+            play.lost[name] = f"the `vars` of the play on line {play.place.line} aren't judged"
+        for key in list(play.words.pairs):
+            if key not in ("hosts", "name"):
+                play.words.take(key)
+        play.asked = []
+        for task in play.tasks():
+            task.leave(reason)
+        return True
+
+    def lost_by_probing(self, play):
+        """Takes out the values of `vars` that the program can't read, each asked alone."""
+        found = False
+        for name, node in list((play.words.get("vars") or Mapping({}, play.place)).pairs.items()):
+            if not any(has_template(text.value) for text in texts_of(node)):
+                continue
+            probe = Play(Mapping({"hosts": play.words.get("hosts"), "vars": Mapping({name: node}, node.place)},
+                                 play.place), play.place, {})
+            if self.asker.ask([Printer("").play(probe)]).code in ("P07", "P04"):
+                play.words.get("vars").take(name)
+                play.lost[name] = f"its value on line {node.place.line} has a form that the profile lacks"
+                found = True
+        return found
+
+    def reason(self, answer, line):
+        """Why what the program refuses lies outside the profile; empty where it is a finding."""
+        if answer.code in FORM_CODES:
+            return FORM_REASONS[answer.code]
+        task = line.step
+        if not isinstance(task, Task):
+            return "the play names groups that the book makes" if answer.code == "V06" and self.makes_groups() else ""
+        if answer.code == "V07":
+            return outside_parameter(task)
+        if answer.code == "V01":
+            found = culprit(task, self.given() | set(self.outside) | KNOWN)
+            if found and self.has_unseen(line.play):
+                return f"it reads '{found.name}', which may come from what isn't judged"
+        if answer.code == "V05" and any(step.sets_unseen and step.reason for step in line.play.tasks()):
+            return "what it notifies may stand in what isn't judged"
+        if answer.code == "V06" and self.makes_groups():
+            return "it names a group or a host that the book may make"
+        return ""
+
+    def names_in_scope(self, task):
+        """All names that anything gives; `item` in a loop alone."""
+        names = self.given() | set(self.outside) | KNOWN
+        return names if "loop" in task.words else names - {"item"}
+
+    def giver(self, name):
+        """The first task that gives a name."""
+        return next((task for task in self.tasks if name in given_names(task)), None)
+
+    def line_of_name(self, name):
+        giver = self.giver(name)
+        if giver is not None:
+            return giver.place.line
+        for play in self.plays:
+            for step in [play, *play.steps()]:
+                given = step.words.get("vars") if not isinstance(step, Raw) else None
+                if isinstance(given, Mapping) and name in given:
+                    place = given.keys.get(name)
+                    return place.line if place else 0
+        return 0
+
+    def cycle(self):
+        """Names of `vars` that name each other in a circle, with their places, the first one again at the end."""
+        places, reads = {}, {}
+        for play in self.plays:
+            for step in [play, *play.steps()]:
+                given = step.words.get("vars") if not isinstance(step, Raw) else None
+                for name, node in given.pairs.items() if isinstance(given, Mapping) else ():
+                    places[name] = given.keys.get(name) or node.place
+                    reads[name] = sorted(mentioned(Mapping({"vars": node}, node.place)))
+        for start in reads:
+            path = path_back(start, reads)
+            if path:
+                return [(name, places[name]) for name in path]
+        return []
+
+    def makes_groups(self):
+        return any(task.module() in ("add_host", "group_by") for task in self.tasks)
+
+    def has_unseen(self, play):
+        return bool(play.unseen_files) or any(task.sets_unseen and task.reason for task in self.tasks)
+
+    def cut(self, answer):
+        """Leaves a refused task, so that the next finding is told; whether there was one to leave."""
+        line = self.line(answer)
+        if line is None or not isinstance(line.step, Task) or line.step.reason:
+            return False
+        line.step.leave(f"refused: {answer.code}")
+        if answer.code in ("V05", "V12"):
+            line.step.words.take("notify")
+        return True
+
+
+def holder_kind(holder):
+    return "play" if isinstance(holder, Play) else "block"
+
+
+def path_back(start, reads):
+    """The shortest way along names that are read from a name back to it."""
+    ways = [[start]]
+    seen = set()
+    while ways:
+        way = ways.pop(0)
+        for name in reads.get(way[-1], ()):
+            if name == start:
+                return [*way, start]
+            if name in reads and name not in seen:
+                seen.add(name)
+                ways.append([*way, name])
+    return []
+
+
+def outside_parameter(task):
+    """Of a refused parameter: whether Ansible's own module has it, and the profile's table not."""
+    module = task.module()
+    node = task.words.get(module) if module else None
+    if not isinstance(node, Mapping):
+        return ""
+    if module == "assert":
+        return "a condition that the profile lacks" if not set(node.pairs) - set(PROFILE[module]) else ""
+    further = set(PASSED_OVER.get(module, ())) | set(CHANGES_FLOW.get(module, ()))
+    names = [name for name in node.pairs if name in further]
+    if module in ("command", "shell") and "argv" in node:
+        names.append("argv")
+    return f"the parameter `{names[0]}` of {module}, which the profile lacks" if names else ""
+
+
+def leave_handlers(play, tasks=None):
+    """Where a flush isn't judged, neither is a handler that it may run."""
+    for task in tasks if tasks is not None else play.tasks():
+        node = task.words.get("meta")
+        if task.reason and is_text(node) and node.value.strip() == "flush_handlers":
+            for handler in play.tasks():
+                if handler.is_handler:
+                    handler.leave(f"the flush on line {task.place.line} isn't judged")

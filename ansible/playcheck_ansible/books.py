@@ -26,6 +26,7 @@ class Task:
     asked: list = field(default_factory=list)  # values of words that are passed over: their templates are asked
     reason: str = ""  # why it isn't judged
     reason_place: Optional[Place] = None
+    is_still_asked: bool = False  # its templates are asked all the same
     gives: set = field(default_factory=set)  # names that it sets beside those that it shows
     notifies: list = field(default_factory=list)  # handlers that it notifies beside those that it shows
     notifies_any: bool = False

@@ -4,13 +4,13 @@ from dataclasses import dataclass, field
 from .books import Play, Raw
 from .codes import TITLES
 from .hints import hint
-from .inventory import LOCAL, read_inventories, with_localhost
+from .hosts import host_patterns, with_localhost
+from .inventory import read_inventories
 from .loading import load_book
-from .nodes import made, texts_of
-from .plays import run_book_passes
+from .plays import leave_all, run_book_passes
 from .problems import Place
 from .program import Asker
-from .unjudged import Settler
+from .unjudged import CUT, Settler
 
 
 @dataclass
@@ -64,18 +64,12 @@ def prepared(path, options):
     run_book_passes(book, options.modules, options.extra)
     inventory = read_inventories(options.inventories, path)
     plays = [play for play in book.plays if isinstance(play, Play)]
-    keep_localhost_apart(plays, with_localhost(inventory, plays))
+    added = with_localhost(inventory, plays)
+    for play in plays:
+        host_patterns(play, inventory, added)
+        if play.reason:
+            leave_all(play.tasks(), play.reason)
     return book, inventory
-
-
-def keep_localhost_apart(plays, added):
-    """The localhost that Ansible has of itself is in no group: where a play names all hosts it is left out."""
-    for play in plays if added else []:
-        hosts = play.words.get("hosts")
-        texts = [text.value for text in texts_of(hosts)] if hosts is not None else []
-        named = {name.strip() for text in texts for name in text.replace(",", ":").split(":")}
-        if hosts is not None and named & {"all", "*", "ungrouped"} and not named & set(LOCAL):
-            play.words.put("hosts", made(":".join([*texts, *(f"!{name}" for name in added)]), hosts.place))
 
 
 def check_book(path, options):
@@ -95,7 +89,7 @@ def report_of(path, settler):
         if task.reason and id(task) not in refused:
             report.unjudged.append(Unjudged(task.reason_place or task.place, task.name, task.reason))
     report.notes = [Unjudged(place, "", what) for place, what in settler.notes]
-    report.judged = len(tasks) - len(report.unjudged)
+    report.judged = sum(not task.reason or task.reason.startswith(CUT) for task in tasks)
     report.budget = settler.answer.budget
     return report
 

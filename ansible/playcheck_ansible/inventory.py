@@ -5,14 +5,13 @@ import re
 import shutil
 import subprocess
 
-from .nodes import Mapping, Scalar, Sequence, has_template, is_nothing, is_text, plain, texts_of
+from .nodes import Mapping, Scalar, Sequence, has_template, is_nothing, is_text, plain
 from .positions import node_of, read_file, read_text
 from .problems import Place, Problem
 
 RANGE = re.compile(r"\[(\w+):(\w+)(?::(\d+))?\]")
 SUFFIXES = ("", ".yml", ".yaml", ".json")
 MOST_HOSTS = 1024
-LOCAL = ("localhost", "127.0.0.1", "::1")
 INVENTORY_SECONDS = 60
 
 
@@ -43,6 +42,22 @@ class Inventory:
             ungrouped = groups.setdefault("ungrouped", {"hosts": []})
             ungrouped["hosts"] = [*ungrouped.get("hosts", []), *alone]
         return {**groups, "_meta": {"hostvars": {host: given for host, given in self.hosts.items() if given}}}
+
+    def all_hosts(self):
+        """The hosts in the order in which the groups list them."""
+        listed = [host for name in sorted(self.groups) for host in self.groups[name]["hosts"]]
+        return list(dict.fromkeys([*listed, *self.hosts]))
+
+    def hosts_of(self, name, seen=()):
+        """The hosts of a group with those of its children, or of a host itself."""
+        if name == "all":
+            return self.all_hosts()
+        if name in self.groups and name not in seen:
+            group = self.groups[name]
+            found = [*group["hosts"], *(host for child in group["children"]
+                                        for host in self.hosts_of(child, (*seen, name)))]
+            return list(dict.fromkeys(found))
+        return [name] if name in self.hosts else []
 
     def variables(self):
         for group in self.groups.values():
@@ -240,14 +255,3 @@ def variables_in(path):
     if not isinstance(node, Mapping):
         raise Problem(node.place, "a mapping of variables is wanted")
     return plain(node)
-
-
-def with_localhost(inventory, book_plays):
-    """Ansible has a localhost where a play names it and the inventory doesn't: in no group, so not in `all` either."""
-    named = {name for play in book_plays for text in texts_of(play.words.get("hosts")) if is_text(text)
-             for name in re.split(r"[:,]", text.value) if name.strip() in LOCAL}
-    missing = sorted(name.strip() for name in named if name.strip() not in inventory.hosts
-                     and name.strip() not in inventory.groups)
-    for name in missing:
-        inventory.hosts[name] = {}
-    return missing

@@ -89,11 +89,11 @@ class Printer:
 
     def task(self, task, play):
         kind = "handler" if task.is_handler else "task"
+        scope = {key: plain(task.words.get(key)) for key in ("when", "loop", "vars") if key in task.words}
+        asked = [] if task.reason and not task.is_still_asked else self.asked(task, task.asked, scope, play)
         if task.reason:
             self.lines.append(Line(kind, play, task))
-            return [self.unjudged(task, play)]
-        scope = {key: plain(task.words.get(key)) for key in ("when", "loop", "vars") if key in task.words}
-        asked = self.asked(task, task.asked, scope, play)
+            return [*asked, self.unjudged(task, play)]
         self.lines.append(Line(kind, play, task))
         return [*asked, {key: plain(part) for key, part in task.words.pairs.items()}]
 

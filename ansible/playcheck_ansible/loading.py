@@ -145,7 +145,7 @@ def variables_of(node, play, context):
     choices = node.items if isinstance(node, Sequence) else [node]
     for choice in choices:
         if not is_text(choice) or has_template(choice.value):
-            play.unseen_files.append(f"the file of variables on line {node.place.line}, whose name is a template")
+            play.unseen_files.append((node.place, "a file of variables whose name is a template: its names aren't known"))
             return {}
         path = found_file(choice.value, context, "vars")
         if path:
@@ -153,9 +153,10 @@ def variables_of(node, play, context):
             if isinstance(read, Mapping):
                 return read.pairs
             if not is_nothing(read):
-                play.unseen_files.append(f"{choice.value}, which is no mapping")
+                play.unseen_files.append((node.place, f"{choice.value} is no mapping: its names aren't known"))
             return {}
-    raise Problem(node.place, "the file of variables isn't there")
+    play.unseen_files.append((node.place, "a file of variables isn't there: its names aren't known"))
+    return {}
 
 
 def found_file(name, context, folder):

@@ -3,8 +3,8 @@
 import re
 
 from .books import is_module
-from .modules import ALIASES, CHANGES_FLOW, FREE_FORM, PASSED_OVER, PREFIXES, short_name
-from .nodes import Mapping, Scalar, Sequence, has_template, is_literal, is_nothing, is_text, made, plain
+from .modules import ALIASES, CHANGES_FLOW, FREE_FORM, PASSED_OVER, PREFIXES, SETS_UNSEEN, short_name
+from .nodes import Mapping, Scalar, Sequence, has_template, is_literal, is_nothing, is_text, made, plain, texts_of
 from .values import WHOLE, arguments_of, as_bool, as_int, converted
 
 # Words that change neither the flow nor the variables.
@@ -195,13 +195,15 @@ def flat_items(node):
 
 
 def known_module(task, modules):
-    """A task with another module than those of the profile and of the signatures isn't judged."""
+    """A task with another module than those of the profile and of the signatures isn't judged; its texts are asked."""
     keys = [key for key in task.words.pairs if is_module(key)]
     if len(keys) != 1 or modules.has(keys[0]):
         return
     module, node = keys[0], task.words.get(keys[0])
-    what = "is neither built in nor declared"
-    task.leave(f"the module `{module}` {what}", task.words.keys.get(module) or node.place)
+    task.leave(f"the module `{module}` is neither built in nor declared", task.words.keys.get(module) or node.place)
+    if not task.is_handler and module not in SETS_UNSEEN:
+        task.is_still_asked = True
+        task.asked += [converted(text, "omitted") for text in texts_of(node)]
 
 
 def meta_actions(task, modules):
@@ -292,10 +294,8 @@ def pass_over_parameters(task, node, names):
         part = node.take(name)
         if task.is_handler and not is_literal(part):
             task.leave(f"the parameter `{name}` of a handler holds a template", part.place)
-        elif is_text(part) and "omit" in part.value:
-            task.asked.append(converted(part, "text"))
         else:
-            task.asked.append(part)
+            task.asked += [converted(text, "omitted") for text in texts_of(part)]
 
 
 def facts(node, task):

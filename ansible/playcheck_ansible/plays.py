@@ -46,6 +46,14 @@ def empty_sections(play, extra):
     for key in TRUTHS:
         if key in words:
             words.put(key, as_bool(words.get(key)))
+    given = words.get("vars")
+    if isinstance(given, Sequence) and all(isinstance(item, Mapping) for item in given.items):
+        merged = Mapping({}, given.place)
+        for item in given.items:
+            for name, node in item.pairs.items():
+                merged.put(name, node)
+                merged.keys[name] = item.keys.get(name, node.place)
+        words.put("vars", merged)
     strategy = words.get("strategy")
     if is_text(strategy) and strategy.value in STRATEGIES:
         words.put("strategy", made(STRATEGIES[strategy.value], strategy.place))

@@ -6,6 +6,7 @@ from .modules import PASSED_OVER, CHANGES_FLOW, PROFILE, SETS_UNSEEN
 from .names import FACTS, KNOWN, MAGIC, given_names, mentioned, names_of_vars
 from .nodes import Mapping, is_text, texts_of, has_template
 
+CUT = "refused: "
 # Codes of a form that the profile lacks; the other P codes are mistakes in Ansible too.
 FORM_CODES = ("P03", "P04", "P06", "P07")
 FORM_REASONS = {
@@ -27,7 +28,8 @@ class Settler:
         self.tasks = book.tasks()
         self.reads = {id(task): mentioned(task.words, task.asked) for task in self.tasks}
         self.findings = []
-        self.notes = []  # words of plays and blocks that aren't asked, with their places
+        # What isn't asked beside tasks: words of plays and blocks, and files of variables, with their places.
+        self.notes = [note for play in self.plays for note in play.unseen_files]
         self.static_marks()
 
     def static_marks(self):
@@ -49,7 +51,7 @@ class Settler:
             tainted = self.tainted()
             marked = False
             for task in self.tasks:
-                if not task.reason:
+                if not task.reason or task.is_still_asked:
                     marked = self.mark(task, tainted) or marked
             if not marked:
                 self.drop_asked(tainted)
@@ -58,11 +60,9 @@ class Settler:
 
     def mark(self, task, tainted):
         for name in sorted(self.reads[id(task)]):
-            if name in tainted:
-                task.leave(f"it reads '{name}': {tainted[name]}")
-                return True
-            if self.is_outside_fact(name):
-                task.leave(f"it reads '{name}', which the profile lacks")
+            if name in tainted or self.is_outside_fact(name):
+                task.leave(f"it reads '{name}': {tainted.get(name, 'a name that the profile lacks')}")
+                task.is_still_asked = False
                 return True
         return False
 
@@ -199,6 +199,9 @@ class Settler:
             self.notes.append((holder.asked[0].place, f"words of the {holder_kind(holder)} aren't asked: {reason}"))
             holder.asked = []
             return True
+        if isinstance(step, Task) and step.is_still_asked:
+            step.is_still_asked = False
+            return True
         if isinstance(step, Task) and not step.reason:
             step.leave(reason)
             step.sets_unseen = step.module() in SETS_UNSEEN
@@ -238,13 +241,14 @@ class Settler:
     def lost_by_probing(self, play):
         """Takes out the values of `vars` that the program can't read, each asked alone."""
         found = False
-        for name, node in list((play.words.get("vars") or Mapping({}, play.place)).pairs.items()):
+        given = play.words.get("vars")
+        for name, node in list(given.pairs.items()) if isinstance(given, Mapping) else ():
             if not any(has_template(text.value) for text in texts_of(node)):
                 continue
             probe = Play(Mapping({"hosts": play.words.get("hosts"), "vars": Mapping({name: node}, node.place)},
                                  play.place), play.place, {})
             if self.asker.ask([Printer("").play(probe)]).code in ("P07", "P04"):
-                play.words.get("vars").take(name)
+                given.take(name)
                 play.lost[name] = f"its value on line {node.place.line} has a form that the profile lacks"
                 found = True
         return found
@@ -313,9 +317,10 @@ class Settler:
     def cut(self, answer):
         """Leaves a refused task, so that the next finding is told; whether there was one to leave."""
         line = self.line(answer)
-        if line is None or not isinstance(line.step, Task) or line.step.reason:
+        if line is None or not isinstance(line.step, Task) or line.step.reason and not line.step.is_still_asked:
             return False
-        line.step.leave(f"refused: {answer.code}")
+        line.step.is_still_asked = False
+        line.step.leave(f"{CUT}{answer.code}")
         if answer.code in ("V05", "V12"):
             line.step.words.take("notify")
         return True

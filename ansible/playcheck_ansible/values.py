@@ -9,7 +9,7 @@ FALSE_WORDS = ("no", "off", "0", "false", "f", "n")
 WHOLE = re.compile(r"\s*\{\{(?:(?!\}\}).)*\}\}\s*", re.S)
 OMITTED = re.compile(r"(\|\s*default\()\s*omit\s*(?:,\s*[Tt]rue\s*)?\)(\s*\}\})")
 # What stands for a parameter that `default(omit)` leaves out.
-INSTEAD = {"text": "''", "bool": "false", "list": "[]", "int": "0"}
+INSTEAD = {"omitted": "''", "text": "''", "bool": "false", "list": "[]", "int": "0"}
 OPENING = {"{{": "}}", "{%": "%}", "{#": "#}"}
 
 

@@ -4,12 +4,15 @@ from dataclasses import dataclass
 
 from .books import TASK_WORDS, Block, Play, Task, is_module
 from .modules import PROFILE
-from .names import CONDITIONS, GRAMMAR, expression_names, given_names, names_of_vars, read_places, without_texts
+from .names import (CONDITIONS, FACTS, GRAMMAR, expression_names, given_names, names_of_vars, read_places,
+                    without_texts)
 from .nodes import Mapping, texts_of
 from .problems import Place
 
 GUARD = r"\s*(?:is\s+(?:not\s+)?(?:defined|undefined)|\|\s*default)"
 MOST_NAMES = 12
+# Those facts that an answer of `setup` needn't have.
+PERHAPS_FACTS = FACTS[2:]
 
 
 @dataclass
@@ -138,6 +141,9 @@ def reading_hint(task, line, settler):
     """A name that is set on some ways alone."""
     for expression, node in read_places(task.words, task.asked):
         for name in ordered_names(expression):
+            if name in PERHAPS_FACTS:
+                return Hint(node.place, f"'{name}' is a fact that is perhaps missing",
+                            f"Guard: when: {name} is defined, or {name} | default('')")
             giver = settler.giver(name)
             if giver is not None and giver is not task:
                 what = f"'{name}' is set by '{giver.name or giver.module()}' (line {giver.place.line}), which some way"

@@ -96,12 +96,9 @@ class Settler:
         return tainted
 
     def taint_passed(self, block, tainted):
-        """An include under a condition sets nothing where that doesn't hold; a block's tasks are skipped instead."""
-        if block.may_be_passed:
-            inside = [step for step in steps_below([block]) if isinstance(step, Task)]
-            names = set().union(*(given_names(task) for task in inside))
-            outside = [task for task in self.tasks if not any(task is one for one in inside)]
-            for name in names & set().union(*(self.reads[id(task)] for task in outside)):
+        """An include under a condition runs whole or sets nothing; the tasks of a block are skipped one by one."""
+        for step in steps_below([block]) if block.may_be_passed else ():
+            for name in given_names(step) if isinstance(step, Task) else ():
                 tainted.setdefault(name, f"it is set by an include on line {block.place.line} that may be passed")
 
     def taint_lost(self, play, tainted):

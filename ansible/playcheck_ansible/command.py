@@ -20,8 +20,7 @@ EPILOG = """status: 0 all books are accepted, 1 a refusal (or, with --strict, a 
 
 class Words(argparse.ArgumentParser):
     def error(self, message):
-        self.print_usage(sys.stderr)
-        self.exit(BAD_WORDS, f"playcheck-ansible: {message}\n")
+        self.exit(BAD_WORDS, f"playcheck-ansible: {message}; --help tells more\n")
 
 
 def parser():

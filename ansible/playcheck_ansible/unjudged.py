@@ -1,5 +1,5 @@
 # Which tasks aren't judged, and why: what the passes left, what the program can't read, and what reads of these.
-from .books import Block, Play, Raw, Task, steps_below
+from .books import Block, Play, Raw, Task, is_module, steps_below
 from .hints import culprit
 from .lines import Printer
 from .modules import PASSED_OVER, CHANGES_FLOW, PROFILE, SETS_UNSEEN
@@ -26,7 +26,7 @@ class Settler:
         self.outside = inventory.names()
         self.plays = [play for play in book.plays if isinstance(play, Play)]
         self.tasks = book.tasks()
-        self.reads = {id(task): mentioned(task.words, task.asked) for task in self.tasks}
+        self.reads = {id(task): names_read(task) for task in self.tasks}
         self.findings = []
         # What isn't asked beside tasks: words of plays and blocks, and files of variables, with their places.
         self.notes = [note for play in self.plays for note in play.unseen_files]
@@ -325,6 +325,14 @@ class Settler:
 
 def holder_kind(holder):
     return "play" if isinstance(holder, Play) else "block"
+
+
+def names_read(task):
+    """The names that a task reads; of an unknown module those of the texts that are asked."""
+    words = task.words
+    if task.is_still_asked:
+        words = Mapping({key: part for key, part in words.pairs.items() if not is_module(key)}, words.place)
+    return mentioned(words, task.asked)
 
 
 def path_back(start, reads):

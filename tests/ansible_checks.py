@@ -1,8 +1,10 @@
 # Tries playcheck-ansible on the books of tests/ansible and on hostile YAML: python3 tests/ansible_checks.py PROGRAM.
+import json
 import os
 import re
 import subprocess
 import sys
+import tempfile
 from pathlib import Path
 
 from check import Check, outcome_of
@@ -74,6 +76,26 @@ def wrong_hostile(name, data, wanted, status):
     return f"{name}: wanted status {status} and {wanted!r}, found {outcome}"
 
 
+def wrong_conversion():
+    """What `convert` writes is what the program is asked, and the map of its lines."""
+    folder = CASES / "converted"
+    wanted = json.loads((folder / "wanted.json").read_text(encoding="utf-8"))
+    with tempfile.TemporaryDirectory() as made:
+        words = [TOOL, "convert", "book.yml", "-i", "../inventory.yml", "-o", made]
+        done = subprocess.run(words, cwd=folder, capture_output=True, check=False, timeout=SECONDS)
+        found = {path.stem: json.loads(path.read_text(encoding="utf-8")) for path in Path(made).glob("*.json")}
+    if done.returncode or found != wanted:
+        yield f"convert: status {done.returncode}, wanted {json.dumps(wanted)}, found {json.dumps(found)}"
+
+
+def lost_hook():
+    """The hook of pre-commit calls the launcher."""
+    import yaml
+
+    hooks = yaml.safe_load((TOP / ".pre-commit-hooks.yaml").read_text(encoding="utf-8"))
+    return [str(hook) for hook in hooks if not os.access(TOP / hook["entry"], os.X_OK) or hook["args"] != ["check"]]
+
+
 def lost_titles():
     """The titles of the codes are those of docs/REFUSALS.md."""
     sys.path.insert(0, str(TOP / "ansible"))
@@ -103,7 +125,7 @@ def main():
         print("0 passed, 0 failed")
         return 0
     os.environ["PLAYCHECK"] = str(Path(sys.argv[1]).resolve())
-    results = ["\n".join(lost_titles()), "\n".join(lost_passes())]
+    results = ["\n".join(search()) for search in (lost_titles, lost_passes, lost_hook, wrong_conversion)]
     results += [wrong_transcript(*one) for one in transcripts()]
     results += [wrong_hostile(*one) for one in hostile()]
     for wrong in results:

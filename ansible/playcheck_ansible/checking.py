@@ -72,12 +72,17 @@ def prepared(path, options):
     return book, inventory
 
 
-def check_book(path, options):
+def settled(path, options):
+    """The book as it was judged last, with the inventory that it was judged with."""
     book, inventory = prepared(path, options)
     with Asker(inventory.json(), options.modules.signatures()) as asker:
         settler = Settler(book, options.modules, inventory, asker)
         settler.settle(finding_of, options.go_on)
-    return report_of(path, settler)
+    return settler, inventory
+
+
+def check_book(path, options):
+    return report_of(path, settled(path, options)[0])
 
 
 def report_of(path, settler):

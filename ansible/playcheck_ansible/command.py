@@ -3,8 +3,9 @@ import argparse
 import os
 import sys
 
-from .checking import Options, check_book
+from .checking import Options, check_book, settled
 from .codes import section_of
+from .converting import write_converted
 from .formats import FORMATS
 from .modules import read_signatures
 from .nodes import Mapping, is_nothing, made
@@ -34,6 +35,10 @@ def parser():
     check.add_argument("--color", choices=("auto", "always", "never"), default="auto")
     check.add_argument("--strict", action="store_true", help="a task that isn't judged is refused")
     check.add_argument("--all", action="store_true", dest="go_on", help="goes on after a refusal")
+    convert = commands.add_parser("convert", help="writes the JSON that is judged, and what each counted line is")
+    convert.add_argument("book", metavar="BOOK")
+    convert.add_argument("-o", "--output", required=True, metavar="DIR", help="the folder, made where it isn't there")
+    add_inputs(convert)
     explain = commands.add_parser("explain", help="prints what a code means")
     explain.add_argument("code", metavar="CODE")
     return words
@@ -69,6 +74,12 @@ def told(what):
 
 def explain(words):
     sys.stdout.write(section_of(words.code.upper()))
+    return 0
+
+
+def convert(words):
+    settler, inventory = settled(words.book, options_of(words))
+    write_converted(words.output, settler, inventory)
     return 0
 
 
@@ -149,4 +160,4 @@ def has_colour(choice):
     return sys.stdout.isatty() and not os.environ.get("NO_COLOR")
 
 
-COMMANDS = {"check": check, "explain": explain}
+COMMANDS = {"check": check, "convert": convert, "explain": explain}

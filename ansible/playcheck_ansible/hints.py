@@ -112,6 +112,8 @@ DEFAULT_KEYS = {"V09": ("changed_when", "failed_when", "until"), "V12": ("notify
 
 def of_holder(answer, line, step):
     holder = step or line.play
+    if answer.code == "V10":
+        return chain(step, line, settler) or Hint(holder.place)
     if answer.code == "V06" and isinstance(holder, Play) and holder.words.get("hosts") is not None:
         node = holder.words.get("hosts")
         return Hint(node.place, f"hosts: {shown(node)}")
@@ -157,15 +159,15 @@ def missing(task, line, settler):
         for path in re.findall(r"(?<![\w.])([A-Za-z_]\w*)\.([A-Za-z_]\w*)", without_texts(expression)):
             giver = settler.giver(path[0])
             if giver is not None:
-                return missing_of(path, node, giver)
+                return missing_of(path, node, giver, settler)
     node = first_text(task)
     return Hint(node.place) if node is not None else None
 
 
-def missing_of(path, node, giver):
+def missing_of(path, node, giver, settler):
     text = ".".join(path)
     where = f"'{giver.name or giver.module()}' (line {giver.place.line})"
-    when = giver.words.get("when")
+    when = settler.condition(giver)
     if when is None:
         return Hint(node.place, f"'{text}' isn't always in the answer of {where}",
                     f"Guard: when: {text} is defined, or {text} | default('')")
@@ -226,8 +228,9 @@ def chain(task, line, settler):
     found = settler.cycle()
     if not found:
         return None
-    lines = ", ".join(str(place.line) for _, place in found[:-1])
-    return Hint(found[0][1], f"vars go round: {' -> '.join(name for name, _ in found)} (lines {lines})")
+    lines = [str(place.line) for _, place in found[:-1]]
+    where = f"line{'s' if len(lines) > 1 else ''} {', '.join(lines)}"
+    return Hint(found[0][1], f"vars go round: {' -> '.join(name for name, _ in found)} ({where})")
 
 
 def other_host(task, line, settler):

@@ -109,10 +109,11 @@ class Printer:
         """A call that may change or fail, in the place of a task that isn't judged."""
         printed = {self.unjudged_module: None}
         name = task.words.get("name")
-        if is_text(name):
+        if is_text(name) and not (task.is_handler and has_template(name.value)):
             printed["name"] = name.value
-        if task.is_handler and "listen" in task.words:
-            printed["listen"] = plain(task.words.get("listen"))
+        topics = [text.value for text in texts_of(task.words.get("listen")) if not has_template(text.value)]
+        if task.is_handler and topics:
+            printed["listen"] = topics
         ignores = task.words.get("ignore_errors")
         if ignores is not None and not is_nothing(ignores) and ignores.value is True:
             printed["ignore_errors"] = True

@@ -6,6 +6,7 @@ from .nodes import Mapping, is_text, texts_of
 NAME = re.compile(r"[A-Za-z_][A-Za-z0-9_]*")
 READ = re.compile(r"(?<![A-Za-z0-9_.])(?<!\.\s)[A-Za-z_][A-Za-z0-9_]*")
 TEMPLATE = re.compile(r"\{\{(.*?)\}\}|\{%(.*?)%\}", re.S)
+FACT = re.compile(r"\bansible_facts\s*(?:\.\s*|\[\s*['\"])([A-Za-z_]\w*)")
 CONDITIONS = ("when", "changed_when", "failed_when", "until")
 FACTS = ("ansible_hostname", "ansible_system", "ansible_os_family", "ansible_distribution", "ansible_processor_vcpus",
          "ansible_memtotal_mb")
@@ -58,9 +59,11 @@ def templates_in(text):
 
 
 def mentioned(words, asked=()):
+    """All names that a task's texts mention; a field of `ansible_facts` is named as the fact itself."""
     names = set()
     for expression, _ in read_places(words, asked):
         names |= expression_names(expression)
+        names |= {f"ansible_{name.removeprefix('ansible_')}" for name in FACT.findall(expression)}
     return names
 
 

@@ -59,9 +59,16 @@ def empty_sections(play, extra):
         words.put("strategy", made(STRATEGIES[strategy.value], strategy.place))
     if "serial" in words:
         words.put("serial", counts(words.get("serial")))
+    plain_name(words)
+
+
+def plain_name(words):
+    """A number as a name is a text; what is no single value is none."""
     name = words.get("name")
     if isinstance(name, Scalar) and not isinstance(name.value, str):
         words.put("name", made(name.text, name.place))
+    elif name is not None and not isinstance(name, Scalar):
+        words.take("name")
 
 
 def counts(node):
@@ -212,9 +219,7 @@ def block_words(block, extra):
         words.put("ignore_errors", as_bool(words.get("ignore_errors")))
     if "when" in words:
         words.put("when", without_braces(words.get("when")))
-    name = words.get("name")
-    if isinstance(name, Scalar) and not isinstance(name.value, str):
-        words.put("name", made(name.text, name.place))
+    plain_name(words)
     below = [step for step in steps_below([block]) if isinstance(step, Task)]
     for word in FLOW:
         node = words.take(word)

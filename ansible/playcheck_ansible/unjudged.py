@@ -278,6 +278,15 @@ class Settler:
         """The first task that gives a name."""
         return next((task for task in self.tasks if name in given_names(task)), None)
 
+    def condition(self, task):
+        """The condition of a task, or of the innermost block round it that has one."""
+        found = task.words.get("when")
+        blocks = [step for play in self.plays for step in play.steps() if isinstance(step, Block)]
+        for block in reversed(blocks):
+            if found is None and any(step is task for step in steps_below([block])):
+                found = block.words.get("when")
+        return found
+
     def line_of_name(self, name):
         giver = self.giver(name)
         if giver is not None:

@@ -58,6 +58,7 @@ class Block:
     place: Place
     parts: dict  # block, rescue, always to their steps
     asked: list = field(default_factory=list)
+    defaults: dict = field(default_factory=dict)  # what a role gives where nothing else does
     may_be_passed: bool = False  # an include that sets nothing where its condition doesn't hold
     lost: dict = field(default_factory=dict)  # names of `vars` that the profile can't have, with the reason
 
@@ -89,6 +90,7 @@ class Play:
     sections: dict  # pre_tasks, tasks, post_tasks, handlers to their steps
     asked: list = field(default_factory=list)
     reason: str = ""  # why none of its tasks is judged
+    defaults: dict = field(default_factory=dict)  # what roles give where nothing else does
     unseen_files: list = field(default_factory=list)  # files of variables that couldn't be read
     lost: dict = field(default_factory=dict)  # names of `vars` that the profile can't have, with the reason
 

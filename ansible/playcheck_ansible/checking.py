@@ -1,7 +1,7 @@
 # Checks one book: reads it, runs the passes, asks the program, and puts its answer into the words of the files.
 from dataclasses import dataclass, field
 
-from .books import Play, Raw
+from .books import Block, Play, Raw
 from .codes import TITLES
 from .hints import hint
 from .hosts import host_patterns, with_localhost
@@ -10,6 +10,7 @@ from .loading import load_book
 from .plays import leave_all, run_book_passes
 from .problems import Place
 from .program import Asker
+from .roles import put_defaults
 from .unjudged import CUT, Settler
 
 
@@ -61,9 +62,12 @@ class Options:
 def prepared(path, options):
     """The book with its passes run, and the inventory that it is judged with."""
     book = load_book(path)
-    run_book_passes(book, options.modules, options.extra)
     inventory = read_inventories(options.inventories, path)
     plays = [play for play in book.plays if isinstance(play, Play)]
+    for play in plays:
+        for holder in [play, *(step for step in play.steps() if isinstance(step, Block))]:
+            put_defaults(holder, play, inventory)
+    run_book_passes(book, options.modules, options.extra)
     added = with_localhost(inventory, plays)
     for play in plays:
         host_patterns(play, inventory, added)

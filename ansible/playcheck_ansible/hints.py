@@ -126,6 +126,13 @@ def shown(node):
     return ", ".join(str(text.value) for text in texts_of(node))
 
 
+def where(place, beside):
+    """In brackets the line of a place, with its file where that is another one than the finding's."""
+    if place is None or not place.line:
+        return ""
+    return f" (line {place.line})" if place.file == beside.file else f" ({place.file}:{place.line})"
+
+
 def unset(task, line, settler):
     names = settler.names_in_scope(task)
     found = culprit(task, names)
@@ -133,9 +140,11 @@ def unset(task, line, settler):
         return reading_hint(task, line, settler)
     if found.name == "item":
         return Hint(found.place, "'item' is set in a loop only; this task has none")
+    if found.name in settler.given():
+        place = where(settler.place_of_name(found.name), found.place)
+        return Hint(found.place, f"'{found.name}' isn't set here: `vars` give it elsewhere{place}")
     near = nearest(found.name, names - GRAMMAR)
-    where = settler.line_of_name(near)
-    meant = f". Did you mean '{near}'{f' (line {where})' if where else ''}?" if near else ""
+    meant = f". Did you mean '{near}'{where(settler.place_of_name(near), found.place)}?" if near else ""
     return Hint(found.place, f"'{found.name}' is set nowhere: not in this book, not in the inventory{meant}")
 
 
@@ -148,8 +157,9 @@ def reading_hint(task, line, settler):
                             f"Guard: when: {name} is defined, or {name} | default('')")
             giver = settler.giver(name)
             if giver is not None and giver is not task:
-                what = f"'{name}' is set by '{giver.name or giver.module()}' (line {giver.place.line}), which some way"
-                return Hint(node.place, f"{what} to here passes by", f"Guard: when: {name} is defined")
+                by = f"'{giver.name or giver.module()}'{where(giver.place, node.place)}"
+                return Hint(node.place, f"'{name}' is set by {by}, which some way to here passes by",
+                            f"Guard: when: {name} is defined")
     node = first_text(task)
     return Hint(node.place) if node is not None else None
 
@@ -166,12 +176,12 @@ def missing(task, line, settler):
 
 def missing_of(path, node, giver, settler):
     text = ".".join(path)
-    where = f"'{giver.name or giver.module()}' (line {giver.place.line})"
+    by = f"'{giver.name or giver.module()}'{where(giver.place, node.place)}"
     when = settler.condition(giver)
     if when is None:
-        return Hint(node.place, f"'{text}' isn't always in the answer of {where}",
+        return Hint(node.place, f"'{text}' isn't always in the answer of {by}",
                     f"Guard: when: {text} is defined, or {text} | default('')")
-    return Hint(node.place, f"'{text}' is missing where {where} was skipped (its when: {shown(when)})",
+    return Hint(node.place, f"'{text}' is missing where {by} was skipped (its when: {shown(when)})",
                 f"Guard: when: {path[0]} is not skipped, or {text} | default('')")
 
 
@@ -195,7 +205,7 @@ def unheard(task, line, settler):
     for text in texts_of(task.words.get("notify")):
         if text.value not in known:
             near = nearest(text.value, known)
-            meant = f". Did you mean '{near}' (line {known[near].place.line})?" if near else ""
+            meant = f". Did you mean '{near}'{where(known[near].place, text.place)}?" if near else ""
             return Hint(text.place, f"no handler of the name '{text.value}'{meant}")
     return None
 
@@ -229,8 +239,8 @@ def chain(task, line, settler):
     if not found:
         return None
     lines = [str(place.line) for _, place in found[:-1]]
-    where = f"line{'s' if len(lines) > 1 else ''} {', '.join(lines)}"
-    return Hint(found[0][1], f"vars go round: {' -> '.join(name for name, _ in found)} ({where})")
+    told = f"line{'s' if len(lines) > 1 else ''} {', '.join(lines)}"
+    return Hint(found[0][1], f"vars go round: {' -> '.join(name for name, _ in found)} ({told})")
 
 
 def other_host(task, line, settler):

@@ -68,6 +68,12 @@ class Inventory:
     def names(self):
         return {name for name, _ in self.variables()}
 
+    def all_have(self, name):
+        """Whether each host has a variable, by itself or by a group."""
+        having = {host for group, parts in self.groups.items() if name in parts["vars"]
+                  for host in self.hosts_of(group)}
+        return all(host in having or name in given for host, given in self.hosts.items())
+
     def opaque_names(self):
         """Variables that the program may not read, with the reason."""
         return {name: f"the inventory's '{name}' holds a template or a decimal number"

@@ -8,6 +8,7 @@ from .names import expression_names, given_names
 from .nodes import Mapping, Scalar, Sequence, has_template, is_nothing, is_text, plain, texts_of
 from .positions import read_file
 from .problems import Place, Problem
+from .roles import block_words, put_handlers, put_play_variables, role_of
 
 MOST_INCLUDES = 32
 # What may stand at an include whose tasks are put in place; the rest of its words become those of a block.
@@ -25,7 +26,7 @@ class Context:
     play: str
     is_handlers: bool = False
     open: tuple = ()
-    unseen: list = field(default_factory=list)
+    roles: list = field(default_factory=list)  # those of the play that were put in place, with whether all see them
 
 
 def load_book(path):
@@ -101,21 +102,75 @@ def play_of(item, path):
     play.written = item.copy()
     put_roles(play, context)
     put_vars_files(play, context)
+    put_role_parts(play, context)
     return play
 
 
 def put_roles(play, context):
-    """Roles run before the tasks: each stands there as a task of its own."""
+    """Roles run before the tasks: each stands there as a block of its own."""
     roles = items_of(play.words.get("roles"))
     if roles is None:
         return
     play.words.take("roles")
     found = []
-    for role in roles:
-        words = Mapping({"include_role": role}, role.place, {"include_role": role.place})
-        found.append(left_include(Task(words, role.place, context.play), "a role"))
+    for node in roles:
+        role = role_of(node, context)
+        words = Mapping({"include_role": node}, node.place, {"include_role": node.place})
+        task = Task(words, node.place, context.play)
+        if role is None or role.tasks_file in context.open:
+            found.append(left_include(task, "a role"))
+        else:
+            found.append(role_block(role, node.place, context, True))
     if found:
         play.sections["tasks"] = found + play.sections.get("tasks", [])
+
+
+def role_block(role, place, context, is_seen_by_all):
+    """A role as a block: the roles that it needs, then its tasks, under what stands beside its name."""
+    inside = replace(context, file=role.tasks_file or context.file, open=(*context.open, role.tasks_file),
+                     is_handlers=False)
+    steps = []
+    for node in role.needs:
+        needed = role_of(node, inside) if len(inside.open) < MOST_INCLUDES else None
+        if needed is None or needed.tasks_file in inside.open:
+            words = Mapping({"include_role": node}, node.place, {"include_role": node.place})
+            steps.append(left_include(Task(words, node.place, context.play), "a role"))
+        else:
+            steps.append(role_block(needed, node.place, inside, is_seen_by_all))
+    steps += steps_of(role.tasks, inside)
+    context.roles.append((role, is_seen_by_all))
+    block = Block(block_words(role, place), place, {"block": steps})
+    block.defaults = {} if is_seen_by_all else dict(role.defaults)
+    return block
+
+
+def put_role_parts(play, context):
+    """The handlers of the roles of a play, and the variables that all of it sees."""
+    for role, _ in context.roles:
+        inside = replace(context, file=role.handlers_file, is_handlers=True, roles=[])
+        handlers = [step for step in steps_of(role.handlers, inside) if isinstance(step, Task)]
+        put_handlers(play, role, handlers)
+    put_play_variables(play, [role for role, is_seen in context.roles if is_seen])
+
+
+def included_role(task, kind, key, context):
+    """A role that a task includes, as a block."""
+    node = task.words.get(key)
+    role = role_of(node, context, True) if isinstance(node, Mapping) and not context.is_handlers else None
+    if role is None or role.tasks_file in context.open or len(context.open) >= MOST_INCLUDES:
+        return [left_include(task, f"`{kind}`")]
+    block = role_block(role, task.place, context, kind == "import_role")
+    names = set().union(set(), *(given_names(step) for step in tasks_below([block])))
+    words = task.words.copy()
+    words.take(key)
+    bars = [word for word in words.pairs if word in BARS_INCLUDE or word.startswith("with_")]
+    if kind == "include_role" and mentions_any(words.get("when"), names):
+        bars.append("when")
+    if bars:
+        return [left_whole(task, kind, bars[0], [block], names)]
+    outer = Block(words, task.place, {"block": [block]})
+    outer.may_be_passed = kind == "include_role" and "when" in words
+    return [outer]
 
 
 def left_include(task, what):
@@ -197,6 +252,8 @@ def included(node, key, context):
     """The steps of a file that is imported or included, in the place of the task that names it."""
     task = Task(node.copy(), node.place, context.play, context.is_handlers)
     kind = short_name(key)
+    if kind in ("import_role", "include_role"):
+        return included_role(task, kind, key, context)
     if kind not in ("import_tasks", "include_tasks"):
         return [left_include(task, f"`{kind}`")]
     name = included_name(node.get(key))

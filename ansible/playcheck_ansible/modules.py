@@ -47,8 +47,7 @@ CHANGES_FLOW = {"setup": {"filter", "fact_path", "gather_timeout"}, "debug": {"v
 FREE_FORM = ("command", "shell")
 INCLUDES = ("include", "include_tasks", "import_tasks", "include_role", "import_role", "import_playbook")
 # Modules that may set names or groups which the book doesn't show.
-SETS_UNSEEN = ("include", "include_tasks", "import_tasks", "include_role", "import_role", "include_vars",
-               "package_facts", "service_facts", "set_stats", "gather_facts", "add_host", "group_by")
+SETS_UNSEEN = ("include_vars", "package_facts", "service_facts", "set_stats", "gather_facts", "add_host", "group_by")
 BOOL_FIELD = {"kind": "bool", "always": True}
 
 
@@ -75,7 +74,7 @@ class Modules:
         return name
 
     def signatures(self):
-        """The signatures that the program is given."""
+        """The signatures that the program is given: those of the files, and that of the module in a task's place."""
         failure = {"changed": BOOL_FIELD, "msg": {"kind": "text", "always": True}}
         unjudged = {"name": self.unjudged_name(), "params": {}, "ok": {"changed": BOOL_FIELD}, "failure": failure}
         return [*self.declared, unjudged]

@@ -1,6 +1,6 @@
 # Which tasks aren't judged, and why: what the passes left, what the program can't read, and what reads of these.
 from .books import Block, Play, Raw, Task, is_module, steps_below
-from .hints import culprit
+from .hints import culprit, nearest
 from .lines import Printer
 from .modules import PASSED_OVER, CHANGES_FLOW, PROFILE, SETS_UNSEEN
 from .names import FACTS, KNOWN, MAGIC, given_names, mentioned, names_of_vars
@@ -27,10 +27,22 @@ class Settler:
         self.plays = [play for play in book.plays if isinstance(play, Play)]
         self.tasks = book.tasks()
         self.reads = {id(task): names_read(task) for task in self.tasks}
+        self.holders = {}  # a task to the blocks round it, the innermost first, and its play
+        for play in self.plays:
+            for section in play.sections.values():
+                self.hold(section, [play])
         self.findings = []
         # What isn't asked beside tasks: words of plays and blocks, and files of variables, with their places.
         self.notes = [note for play in self.plays for note in play.unseen_files]
         self.static_marks()
+
+    def hold(self, steps, holders):
+        for step in steps:
+            if isinstance(step, Block):
+                for part in step.parts.values():
+                    self.hold(part, [step, *holders])
+            else:
+                self.holders[id(step)] = holders
 
     def static_marks(self):
         given_by_vars = set().union(*(names_of_vars(step.words) for play in self.plays
@@ -260,9 +272,12 @@ class Settler:
         if answer.code == "V07":
             return outside_parameter(task)
         if answer.code == "V01":
-            found = culprit(task, self.given() | set(self.outside) | KNOWN)
-            if found and self.has_unseen(line.play):
-                return f"it reads '{found.name}', which may come from what isn't judged"
+            known = self.names_in_scope(task)
+            found = culprit(task, known)
+            if found and found.name != "item" and self.has_unseen(line.play):
+                near = nearest(found.name, known)
+                meant = f". Did you mean '{near}'?" if near else ""
+                return f"it reads '{found.name}', which may come from what isn't judged{meant}"
         if answer.code == "V05" and any(step.sets_unseen and step.reason for step in line.play.tasks()):
             return "what it notifies may stand in what isn't judged"
         if answer.code == "V06" and self.makes_groups():
@@ -271,7 +286,8 @@ class Settler:
 
     def names_in_scope(self, task):
         """All names that anything gives; `item` in a loop alone."""
-        names = self.given() | set(self.outside) | KNOWN
+        names = set().union(self.outside, KNOWN, *(given_names(one) for one in self.tasks),
+                            *(names_of_vars(holder.words) for holder in [task, *self.holders.get(id(task), [])]))
         return names if "loop" in task.words else names - {"item"}
 
     def giver(self, name):
@@ -280,24 +296,20 @@ class Settler:
 
     def condition(self, task):
         """The condition of a task, or of the innermost block round it that has one."""
-        found = task.words.get("when")
-        blocks = [step for play in self.plays for step in play.steps() if isinstance(step, Block)]
-        for block in reversed(blocks):
-            if found is None and any(step is task for step in steps_below([block])):
-                found = block.words.get("when")
-        return found
+        found = [one.words.get("when") for one in [task, *self.holders.get(id(task), [])] if "when" in one.words]
+        return found[0] if found else None
 
-    def line_of_name(self, name):
+    def place_of_name(self, name):
+        """Where a name is given first: by a task, else by `vars`."""
         giver = self.giver(name)
         if giver is not None:
-            return giver.place.line
+            return giver.place
         for play in self.plays:
             for step in [play, *play.steps()]:
                 given = step.words.get("vars") if not isinstance(step, Raw) else None
                 if isinstance(given, Mapping) and name in given:
-                    place = given.keys.get(name)
-                    return place.line if place else 0
-        return 0
+                    return given.keys.get(name) or given.get(name).place
+        return None
 
     def cycle(self):
         """Names of `vars` that name each other in a circle, with their places, the first one again at the end."""

@@ -28,8 +28,10 @@ def transcripts():
 
 
 def wrong_transcript(folder, words, said, told, status):
+    # In `bin` stand programs in the place of those of ansible-core.
+    environment = {**os.environ, "PATH": f"{folder / 'bin'}:{os.environ['PATH']}"}
     done = subprocess.run([TOOL, *words], cwd=folder, capture_output=True, text=True, check=False, timeout=SECONDS,
-                          stdin=subprocess.DEVNULL)
+                          stdin=subprocess.DEVNULL, env=environment)
     found = (done.stdout.splitlines(), done.stderr.splitlines(), done.returncode)
     if found == (said, told, status):
         return ""
@@ -88,6 +90,19 @@ def wrong_conversion():
         yield f"convert: status {done.returncode}, wanted {json.dumps(wanted)}, found {json.dumps(found)}"
 
 
+def wrong_signatures():
+    """What `signatures` writes out of the documentation, and what it says of the modules that can't be declared."""
+    folder = CASES / "documented"
+    environment = {**os.environ, "PATH": f"{folder / 'bin'}:{os.environ['PATH']}"}
+    done = subprocess.run([TOOL, "signatures", "book.yml", "gone"], cwd=folder, env=environment, capture_output=True,
+                          text=True, check=False, timeout=SECONDS)
+    told = ["playcheck-ansible: the module gone isn't declared: ansible-doc does not know it",
+            "playcheck-ansible: the module package_facts isn't declared: it sets facts"]
+    wanted = json.loads((folder / "signatures.json").read_text(encoding="utf-8"))
+    if done.returncode or done.stderr.splitlines() != told or json.loads(done.stdout) != wanted:
+        yield f"signatures: status {done.returncode}, {done.stderr}, {done.stdout}"
+
+
 def lost_hook():
     """The hook of pre-commit calls the launcher."""
     import yaml
@@ -125,7 +140,8 @@ def main():
         print("0 passed, 0 failed")
         return 0
     os.environ["PLAYCHECK"] = str(Path(sys.argv[1]).resolve())
-    results = ["\n".join(search()) for search in (lost_titles, lost_passes, lost_hook, wrong_conversion)]
+    results = ["\n".join(search()) for search in (lost_titles, lost_passes, lost_hook, wrong_conversion,
+                                                      wrong_signatures)]
     results += [wrong_transcript(*one) for one in transcripts()]
     results += [wrong_hostile(*one) for one in hostile()]
     for wrong in results:

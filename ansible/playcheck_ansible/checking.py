@@ -79,7 +79,7 @@ def prepared(path, options):
 def settled(path, options):
     """The book as it was judged last, with the inventory that it was judged with."""
     book, inventory = prepared(path, options)
-    with Asker(inventory.json(), options.modules.signatures()) as asker:
+    with Asker(inventory.json(), options.modules.signatures(book)) as asker:
         settler = Settler(book, options.modules, inventory, asker)
         settler.settle(finding_of, options.go_on)
     return settler, inventory

@@ -1,14 +1,19 @@
 # The command line: which words there are, and the status with which it ends.
 import argparse
+import json
 import os
 import sys
 
+from .books import is_module
 from .checking import Options, check_book, settled
 from .codes import section_of
 from .converting import write_converted
 from .formats import FORMATS
-from .modules import read_signatures
+from .documented import documentation, signatures_of
+from .loading import load_book
+from .modules import INCLUDES, PROFILE, Modules, read_signatures, short_name
 from .nodes import Mapping, is_nothing, made
+from .passes import action_words, plain_module_names
 from .positions import node_of, read_file
 from .problems import Place, Problem
 from .values import arguments_of
@@ -39,6 +44,9 @@ def parser():
     convert.add_argument("book", metavar="BOOK")
     convert.add_argument("-o", "--output", required=True, metavar="DIR", help="the folder, made where it isn't there")
     add_inputs(convert)
+    signatures = commands.add_parser("signatures", help="writes signatures out of Ansible's documentation")
+    signatures.add_argument("names", nargs="+", metavar="MODULE",
+                            help="a module, or a playbook whose modules are meant")
     explain = commands.add_parser("explain", help="prints what a code means")
     explain.add_argument("code", metavar="CODE")
     return words
@@ -81,6 +89,32 @@ def convert(words):
     settler, inventory = settled(words.book, options_of(words))
     write_converted(words.output, settler, inventory)
     return 0
+
+
+def signatures(words):
+    """Prints the signatures of modules, and says on standard error which of them can't be declared."""
+    names = []
+    for name in words.names:
+        names += used_modules(load_book(name)) if name.endswith(SUFFIXES) else [short_name(name)]
+    names = sorted(set(names) - set(PROFILE))
+    declared, left = signatures_of(documentation(names)) if names else ([], {})
+    found = {module["ansible"]["name"] for module in declared}
+    for name in names:
+        if name not in found:
+            told(f"the module {name} isn't declared: {left.get(name, 'ansible-doc does not know it')}")
+    json.dump(declared, sys.stdout, indent=1)
+    sys.stdout.write("\n")
+    return 0 if declared or not names else BAD_WORDS
+
+
+def used_modules(book):
+    """The keys of a book's tasks that are modules, those of `action` too."""
+    found = []
+    for task in book.tasks():
+        plain_module_names(task, Modules())
+        action_words(task, Modules())
+        found += [short_name(key) for key in task.words.pairs if is_module(key) and key not in INCLUDES]
+    return found
 
 
 def options_of(words):
@@ -160,4 +194,4 @@ def has_colour(choice):
     return sys.stdout.isatty() and not os.environ.get("NO_COLOR")
 
 
-COMMANDS = {"check": check, "convert": convert, "explain": explain}
+COMMANDS = {"check": check, "convert": convert, "explain": explain, "signatures": signatures}

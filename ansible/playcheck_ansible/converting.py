@@ -10,7 +10,7 @@ def write_converted(folder, settler, inventory):
         os.makedirs(folder, exist_ok=True)
         write(folder, "book.json", settler.numbered.json)
         write(folder, "inventory.json", inventory.json())
-        write(folder, "signatures.json", settler.modules.signatures())
+        write(folder, "signatures.json", settler.modules.signatures(settler.book))
         write(folder, "lines.json", [line_json(number, line) for number, line in enumerate(settler.numbered.lines)
                                      if line is not None])
     except OSError as error:

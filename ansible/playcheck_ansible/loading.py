@@ -200,7 +200,7 @@ def variables_of(node, play, context):
     choices = node.items if isinstance(node, Sequence) else [node]
     for choice in choices:
         if not is_text(choice) or has_template(choice.value):
-            play.unseen_files.append((node.place, "a file of variables whose name is a template: its names aren't known"))
+            play.unseen_files.append((node.place, "a file of variables named by a template: its names aren't known"))
             return {}
         path = found_file(choice.value, context, "vars")
         if path:

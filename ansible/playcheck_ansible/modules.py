@@ -49,6 +49,8 @@ INCLUDES = ("include", "include_tasks", "import_tasks", "include_role", "import_
 # Modules that may set names or groups which the book doesn't show.
 SETS_UNSEEN = ("include_vars", "package_facts", "service_facts", "set_stats", "gather_facts", "add_host", "group_by")
 BOOL_FIELD = {"kind": "bool", "always": True}
+FAILURE = {"changed": BOOL_FIELD, "msg": {"kind": "text", "always": True}}
+MOST_DECLARED = 256
 
 
 @dataclass
@@ -59,9 +61,23 @@ class Modules:
 
     def __post_init__(self):
         self.parameters = dict(PROFILE)
+        self.aliases = {name: dict(given) for name, given in ALIASES.items()}
+        self.asked = {name: set(given) for name, given in PASSED_OVER.items()}
+        self.written = {}  # Ansible's name of a module to the one that it is declared under
+        self.documented = {}  # the fields of a module whose signature comes of its documentation
         for module in self.declared:
             params = module.get("params", {})
             self.parameters[module["name"]] = {name: kind_of(param) for name, param in params.items()}
+            self.take_documented(module)
+
+    def take_documented(self, module):
+        further = module.get("ansible")
+        if isinstance(further, dict):
+            name = module["name"]
+            self.written[further.get("name", name)] = name
+            self.aliases[name] = dict(further.get("aliases") or {})
+            self.asked[name] = set(further.get("asked") or [])
+            self.documented[name] = set(module.get("ok") or {})
 
     def has(self, name):
         return name in self.parameters
@@ -73,11 +89,14 @@ class Modules:
             name += "_"
         return name
 
-    def signatures(self):
-        """The signatures that the program is given: those of the files, and that of the module in a task's place."""
-        failure = {"changed": BOOL_FIELD, "msg": {"kind": "text", "always": True}}
-        unjudged = {"name": self.unjudged_name(), "params": {}, "ok": {"changed": BOOL_FIELD}, "failure": failure}
-        return [*self.declared, unjudged]
+    def signatures(self, book):
+        """The signatures that the program is given, and that of the module in a task's place."""
+        declared = [{key: part for key, part in module.items() if key != "ansible"} for module in self.declared]
+        if len(declared) >= MOST_DECLARED:
+            used = {key for task in book.tasks() for key in task.words.pairs}
+            declared = [module for module in declared if module["name"] in used]
+        return [*declared, {"name": self.unjudged_name(), "params": {}, "ok": {"changed": BOOL_FIELD},
+                            "failure": FAILURE}]
 
 
 def kind_of(param):

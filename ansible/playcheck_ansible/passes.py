@@ -3,7 +3,7 @@
 import re
 
 from .books import is_module
-from .modules import ALIASES, CHANGES_FLOW, FREE_FORM, PASSED_OVER, PREFIXES, SETS_UNSEEN, short_name
+from .modules import CHANGES_FLOW, FREE_FORM, PREFIXES, SETS_UNSEEN, short_name
 from .nodes import Mapping, Scalar, Sequence, has_template, is_literal, is_nothing, is_text, made, plain, texts_of
 from .values import WHOLE, arguments_of, as_bool, as_int, converted
 
@@ -87,10 +87,12 @@ def action_words(task, modules):
 def plain_module_names(task, modules):
     """A built-in module with its collection's name is the same module."""
     for key in list(task.words.pairs):
-        if key.startswith(PREFIXES) and is_module(key):
+        name = short_name(key)
+        name = modules.written.get(name, name)
+        if name != key and is_module(key):
             node, place = task.words.take(key), task.words.keys.get(key)
-            task.words.put(short_name(key), node)
-            task.words.keys[short_name(key)] = place or node.place
+            task.words.put(name, node)
+            task.words.keys[name] = place or node.place
 
 
 def name_value_texts(task, modules):
@@ -272,8 +274,8 @@ def parameters(task, modules):
     if module in FREE_FORM and isinstance(node.get("argv"), Sequence):
         words = [str(plain(item)) for item in node.take("argv").items]
         node.put("cmd", made(" ".join(words), node.place))
-    rename(node, ALIASES.get(module, {}))
-    pass_over_parameters(task, node, PASSED_OVER.get(module, ()))
+    rename(node, modules.aliases.get(module, {}))
+    pass_over_parameters(task, node, modules.asked.get(module, ()))
     for name, kind in modules.parameters.get(module, {}).items():
         if name in node:
             node.put(name, converted(node.get(name), kind, name))

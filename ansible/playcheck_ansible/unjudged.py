@@ -1,12 +1,16 @@
 # Which tasks aren't judged, and why: what the passes left, what the program can't read, and what reads of these.
+import re
+
 from .books import Block, Play, Raw, Task, is_module, steps_below
 from .hints import culprit, nearest
 from .lines import Printer
-from .modules import PASSED_OVER, CHANGES_FLOW, PROFILE, SETS_UNSEEN
-from .names import FACTS, KNOWN, MAGIC, given_names, mentioned, names_of_vars
-from .nodes import Mapping, is_text, texts_of, has_template
+from .modules import CHANGES_FLOW, PROFILE, SETS_UNSEEN
+from .names import FACTS, KNOWN, MAGIC, given_names, mentioned, names_of_vars, read_places, without_texts
+from .nodes import Mapping, has_template, is_text, texts_of
+from .scope import Scope
 
 CUT = "refused: "
+RESULT_FIELDS = {"changed", "failed", "skipped", "skip_reason", "msg", "results"}
 # Codes of a form that the profile lacks; the other P codes are mistakes in Ansible too.
 FORM_CODES = ("P03", "P04", "P06", "P07")
 FORM_REASONS = {
@@ -17,32 +21,18 @@ FORM_REASONS = {
 }
 
 
-class Settler:
+class Settler(Scope):
     """Asks the program until it answers about the flow: each form outside the profile leaves its task."""
 
     def __init__(self, book, modules, inventory, asker):
-        self.book, self.modules, self.asker = book, modules, asker
+        super().__init__(book, inventory)
+        self.modules, self.asker = modules, asker
         self.opaque = inventory.opaque_names()
-        self.outside = inventory.names()
-        self.plays = [play for play in book.plays if isinstance(play, Play)]
-        self.tasks = book.tasks()
         self.reads = {id(task): names_read(task) for task in self.tasks}
-        self.holders = {}  # a task to the blocks round it, the innermost first, and its play
-        for play in self.plays:
-            for section in play.sections.values():
-                self.hold(section, [play])
         self.findings = []
         # What isn't asked beside tasks: words of plays and blocks, and files of variables, with their places.
         self.notes = [note for play in self.plays for note in play.unseen_files]
         self.static_marks()
-
-    def hold(self, steps, holders):
-        for step in steps:
-            if isinstance(step, Block):
-                for part in step.parts.values():
-                    self.hold(part, [step, *holders])
-            else:
-                self.holders[id(step)] = holders
 
     def static_marks(self):
         given_by_vars = set().union(*(names_of_vars(step.words) for play in self.plays
@@ -81,13 +71,6 @@ class Settler:
     def is_outside_fact(self, name):
         is_known = name in KNOWN or name in self.outside or name in self.given()
         return not is_known and (name in MAGIC or name.startswith("ansible_"))
-
-    def given(self):
-        if not hasattr(self, "given_cache"):
-            self.given_cache = set().union(*(given_names(task) for task in self.tasks),
-                                           *(names_of_vars(step.words) for play in self.plays
-                                             for step in [play, *play.steps()] if not isinstance(step, Raw)))
-        return self.given_cache
 
     def tainted(self):
         """The names that may hold what isn't judged, each with the reason."""
@@ -270,11 +253,13 @@ class Settler:
         if not isinstance(task, Task):
             return "the play names groups that the book makes" if answer.code == "V06" and self.makes_groups() else ""
         if answer.code == "V07":
-            return outside_parameter(task)
+            return outside_parameter(task, self.modules)
+        if answer.code == "V03":
+            return self.undocumented_field(task)
         if answer.code == "V01":
             known = self.names_in_scope(task)
             found = culprit(task, known)
-            if found and found.name != "item" and self.has_unseen(line.play):
+            if found and found.name != "item" and self.has_unseen(task, line.play):
                 near = nearest(found.name, known)
                 meant = f". Did you mean '{near}'?" if near else ""
                 return f"it reads '{found.name}', which may come from what isn't judged{meant}"
@@ -284,53 +269,28 @@ class Settler:
             return "it names a group or a host that the book may make"
         return ""
 
-    def names_in_scope(self, task):
-        """All names that anything gives; `item` in a loop alone."""
-        names = set().union(self.outside, KNOWN, *(given_names(one) for one in self.tasks),
-                            *(names_of_vars(holder.words) for holder in [task, *self.holders.get(id(task), [])]))
-        return names if "loop" in task.words else names - {"item"}
-
-    def giver(self, name):
-        """The first task that gives a name."""
-        return next((task for task in self.tasks if name in given_names(task)), None)
-
-    def condition(self, task):
-        """The condition of a task, or of the innermost block round it that has one."""
-        found = [one.words.get("when") for one in [task, *self.holders.get(id(task), [])] if "when" in one.words]
-        return found[0] if found else None
-
-    def place_of_name(self, name):
-        """Where a name is given first: by a task, else by `vars`."""
-        giver = self.giver(name)
-        if giver is not None:
-            return giver.place
-        for play in self.plays:
-            for step in [play, *play.steps()]:
-                given = step.words.get("vars") if not isinstance(step, Raw) else None
-                if isinstance(given, Mapping) and name in given:
-                    return given.keys.get(name) or given.get(name).place
-        return None
-
-    def cycle(self):
-        """Names of `vars` that name each other in a circle, with their places, the first one again at the end."""
-        places, reads = {}, {}
-        for play in self.plays:
-            for step in [play, *play.steps()]:
-                given = step.words.get("vars") if not isinstance(step, Raw) else None
-                for name, node in given.pairs.items() if isinstance(given, Mapping) else ():
-                    places[name] = given.keys.get(name) or node.place
-                    reads[name] = sorted(mentioned(Mapping({"vars": node}, node.place)))
-        for start in reads:
-            path = path_back(start, reads)
-            if path:
-                return [(name, places[name]) for name in path]
-        return []
+    def undocumented_field(self, task):
+        """Whether a task reads a field that its module's documentation gives no kind."""
+        for expression, _ in read_places(task.words, task.asked):
+            for name, field in re.findall(r"(?<![\w.])([A-Za-z_]\w*)\.([A-Za-z_]\w*)", without_texts(expression)):
+                giver = self.giver(name)
+                known = self.modules.documented.get(giver.module()) if giver is not None else None
+                if known is not None and field not in known | RESULT_FIELDS:
+                    return f"it reads '{name}.{field}', of which the module's documentation gives no kind"
+        return ""
 
     def makes_groups(self):
         return any(task.module() in ("add_host", "group_by") for task in self.tasks)
 
-    def has_unseen(self, play):
-        return bool(play.unseen_files) or any(task.sets_unseen and task.reason for task in self.tasks)
+    def has_unseen(self, task, play):
+        """Whether something that isn't judged may set names that a task reads: before it, or for its whole play."""
+        behind = False
+        for one in self.tasks:
+            behind = behind or one is task
+            is_wide = one.is_handler or self.holders[id(one)][-1] is play and "include_role" in one.words
+            if one.reason and one.sets_unseen and (not behind or is_wide):
+                return True
+        return bool(play.unseen_files)
 
     def cut(self, answer):
         """Leaves a refused task, so that the next finding is told; whether there was one to leave."""
@@ -356,22 +316,7 @@ def names_read(task):
     return mentioned(words, task.asked)
 
 
-def path_back(start, reads):
-    """The shortest way along names that are read from a name back to it."""
-    ways = [[start]]
-    seen = set()
-    while ways:
-        way = ways.pop(0)
-        for name in reads.get(way[-1], ()):
-            if name == start:
-                return [*way, start]
-            if name in reads and name not in seen:
-                seen.add(name)
-                ways.append([*way, name])
-    return []
-
-
-def outside_parameter(task):
+def outside_parameter(task, modules):
     """Of a refused parameter: whether Ansible's own module has it, and the profile's table not."""
     module = task.module()
     node = task.words.get(module) if module else None
@@ -379,7 +324,7 @@ def outside_parameter(task):
         return ""
     if module == "assert":
         return "a condition that the profile lacks" if not set(node.pairs) - set(PROFILE[module]) else ""
-    further = set(PASSED_OVER.get(module, ())) | set(CHANGES_FLOW.get(module, ()))
+    further = modules.asked.get(module, set()) | set(CHANGES_FLOW.get(module, ()))
     names = [name for name in node.pairs if name in further]
     if module in ("command", "shell") and "argv" in node:
         names.append("argv")

@@ -19,6 +19,7 @@ from .problems import Place, Problem
 from .values import arguments_of
 
 BAD_WORDS = 64
+NO_MEMORY = 3
 SUFFIXES = (".yml", ".yaml", ".json")
 EPILOG = """status: 0 all books are accepted, 1 a refusal (or, with --strict, a task that isn't judged),
 3 want of memory, 64 a bad command line or a file that can't be read"""
@@ -73,7 +74,9 @@ def main(arguments):
         return BAD_WORDS
     except MemoryError:
         told("there is no more memory")
-        return 3
+        return NO_MEMORY
+    except BrokenPipeError:
+        return BAD_WORDS
 
 
 def told(what):

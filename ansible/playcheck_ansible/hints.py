@@ -100,7 +100,7 @@ def hint(answer, line, settler):
         return Hint(Place(settler.book.file))
     step = line.step
     if not isinstance(step, Task):
-        return of_holder(answer, line, step)
+        return of_holder(answer, line, settler)
     maker = {"V01": unset, "V03": missing, "V04": wrong_kind, "V05": unheard, "V07": parameter, "V08": reserved,
              "V10": chain, "V02": other_host, "P05": several}.get(answer.code)
     found = maker(step, line, settler) if maker else None
@@ -110,10 +110,10 @@ def hint(answer, line, settler):
 DEFAULT_KEYS = {"V09": ("changed_when", "failed_when", "until"), "V12": ("notify",), "P09": ("name",)}
 
 
-def of_holder(answer, line, step):
-    holder = step or line.play
+def of_holder(answer, line, settler):
+    holder = line.step or line.play
     if answer.code == "V10":
-        return chain(step, line, settler) or Hint(holder.place)
+        return chain(line.step, line, settler) or Hint(holder.place)
     if answer.code == "V06" and isinstance(holder, Play) and holder.words.get("hosts") is not None:
         node = holder.words.get("hosts")
         return Hint(node.place, f"hosts: {shown(node)}")

@@ -159,19 +159,34 @@ def listed_by_ansible(path, what):
 
 
 def take_listed(inventory, value):
-    meta = value.get("_meta")
     for name, group in value.items():
         if name == "_meta":
             continue
         group = {"hosts": group} if isinstance(group, list) else group
         if not isinstance(group, dict):
-            raise Problem(None, f"the group '{name}' is neither a list nor a mapping")
-        inventory.add_hosts(name, group.get("hosts") or [])
-        inventory.group(name)["vars"].update(group.get("vars") or {})
+            raise Problem(None, f"the group '{name}' of the inventory is neither a list nor a mapping")
+        inventory.add_hosts(name, names_in(group, "hosts", name))
+        inventory.group(name)["vars"].update(mapping_in(group, "vars", name))
         children = inventory.group(name)["children"]
-        children += [child for child in group.get("children") or [] if child not in children]
-    for host, given in ((meta or {}).get("hostvars") or {}).items():
-        inventory.hosts.setdefault(host, {}).update(given or {})
+        children += [child for child in names_in(group, "children", name) if child not in children]
+    hosts = mapping_in(mapping_in(value, "_meta", "_meta"), "hostvars", "_meta")
+    for host in hosts:
+        inventory.hosts.setdefault(host, {}).update(mapping_in(hosts, host, "hostvars"))
+
+
+def names_in(group, key, name):
+    """The texts of a list, of nothing none."""
+    found = group.get(key) or []
+    if not isinstance(found, list) or not all(isinstance(one, str) for one in found):
+        raise Problem(None, f"`{key}` of '{name}' in the inventory is no list of names")
+    return found
+
+
+def mapping_in(group, key, name):
+    found = group.get(key) or {}
+    if not isinstance(found, dict):
+        raise Problem(None, f"`{key}` of '{name}' in the inventory is no mapping")
+    return found
 
 
 def take_groups(inventory, node):

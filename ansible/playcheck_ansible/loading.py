@@ -24,6 +24,7 @@ class Context:
     file: str
     book_folder: str
     play: str
+    role_folder: str = ""
     is_handlers: bool = False
     open: tuple = ()
     roles: list = field(default_factory=list)  # those of the play that were put in place, with whether all see them
@@ -128,7 +129,7 @@ def put_roles(play, context):
 def role_block(role, place, context, is_seen_by_all):
     """A role as a block: the roles that it needs, then its tasks, under what stands beside its name."""
     inside = replace(context, file=role.tasks_file or context.file, open=(*context.open, role.tasks_file),
-                     is_handlers=False)
+                     is_handlers=False, role_folder=role.folder)
     steps = []
     for node in role.needs:
         needed = role_of(node, inside) if len(inside.open) < MOST_INCLUDES else None
@@ -216,7 +217,8 @@ def variables_of(node, play, context):
 
 def found_file(name, context, folder):
     beside = os.path.dirname(context.file)
-    for start in (beside, os.path.join(beside, folder), context.book_folder,
+    in_role = [os.path.join(context.role_folder, folder)] if context.role_folder else []
+    for start in (beside, os.path.join(beside, folder), *in_role, context.book_folder,
                   os.path.join(context.book_folder, folder)):
         path = os.path.join(start, name)
         if os.path.isfile(path):

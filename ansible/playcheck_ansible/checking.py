@@ -3,6 +3,7 @@ from dataclasses import dataclass, field
 
 from .books import Block, Play, Raw
 from .codes import TITLES
+from .facts import trust_facts
 from .hints import hint
 from .hosts import host_patterns, with_localhost
 from .inventory import read_inventories
@@ -57,6 +58,7 @@ class Options:
     modules: object
     extra: dict = field(default_factory=dict)
     go_on: bool = False
+    trusts_facts: bool = False
 
 
 def prepared(path, options):
@@ -68,6 +70,8 @@ def prepared(path, options):
         for holder in [play, *(step for step in play.steps() if isinstance(step, Block))]:
             put_defaults(holder, play, inventory)
     run_book_passes(book, options.modules, options.extra)
+    if options.trusts_facts:
+        trust_facts(book)
     added = with_localhost(inventory, plays)
     for play in plays:
         host_patterns(play, inventory, added)

@@ -59,6 +59,7 @@ def add_inputs(words):
     words.add_argument("-s", "--signatures", action="append", default=[], metavar="FILE", help="declared modules")
     words.add_argument("-e", "--extra-vars", action="append", default=[], metavar="VARS",
                        help="variables: name=value, an object in braces, or @FILE")
+    words.add_argument("--trust-facts", action="store_true", help="all six facts are there where facts are gathered")
     words.add_argument("--vars", action="append", default=[], metavar="FILE", help="a file of variables")
 
 
@@ -127,7 +128,8 @@ def options_of(words):
         extra.update(variables_of(text))
     for path in words.vars:
         extra.update(variables_in(read_file(path), path))
-    return Options(inventories, read_signatures(words.signatures), extra, getattr(words, "go_on", False))
+    modules = read_signatures(words.signatures)
+    return Options(inventories, modules, extra, getattr(words, "go_on", False), words.trust_facts)
 
 
 def variables_of(text):

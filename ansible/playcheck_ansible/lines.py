@@ -3,7 +3,7 @@ from dataclasses import dataclass, field
 from typing import Optional
 
 from .books import PARTS, SECTIONS, Block, Play, Raw, Task
-from .nodes import is_nothing, is_text, plain, texts_of, has_template
+from .nodes import Scalar, has_template, is_text, plain, texts_of
 
 
 @dataclass
@@ -115,7 +115,7 @@ class Printer:
         if task.is_handler and topics:
             printed["listen"] = topics
         ignores = task.words.get("ignore_errors")
-        if ignores is not None and not is_nothing(ignores) and ignores.value is True:
+        if isinstance(ignores, Scalar) and ignores.value is True:
             printed["ignore_errors"] = True
         notified = self.notified(task, play)
         if notified:

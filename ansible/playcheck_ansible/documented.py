@@ -15,6 +15,8 @@ VARIABLE = re.compile(r"[A-Za-z_][A-Za-z0-9_]{0,127}")
 NAME = re.compile(r"[a-z][a-z0-9_.]{0,63}")
 # When the documentation promises a field in each answer that isn't failed.
 ALWAYS = re.compile(r"(always|success|on success|when successful|changed or success|success or changed)\.?", re.I)
+# What the documentation calls required, and the module that is called in the end has a default for.
+NOT_REQUIRED = {("package", "state")}
 NOT_FIELDS = ("failed", "skipped", "skip_reason", "results", "unreachable", "changed")
 
 
@@ -78,7 +80,8 @@ def signature_of(name, document):
         if kind is None or not VARIABLE.fullmatch(option) or len(params) >= MOST_PARAMETERS:
             unkinded.append(option)
         else:
-            params[option] = {"kind": kind, "required": given.get("required") is True}
+            is_required = given.get("required") is True and (name, option) not in NOT_REQUIRED
+            params[option] = {"kind": kind, "required": is_required}
     ok = {"changed": BOOL_FIELD}
     for option, given in sorted((document.get("return") or {}).items()):
         kind = kind_of(given) if isinstance(given, dict) else None

@@ -16,6 +16,7 @@ FLOW = ("run_once", "any_errors_fatal", "ignore_unreachable", "delegate_facts", 
         "module_defaults", "max_fail_percentage")
 TRUTHS = ("ignore_errors", "run_once", "any_errors_fatal", "ignore_unreachable", "delegate_facts", "check_mode",
           "gather_facts", "force_handlers")
+EMPTY = {"text": "", "bool": False, "int": 0, "list": []}
 PATH = re.compile(r"[A-Za-z_][\w.'\"\[\]]*")
 ENDS = ("end_host", "end_play", "end_batch", "end_role")
 NO_FLOW = ("noop", "reset_connection")
@@ -58,7 +59,7 @@ def plain_conditions(task, modules):
 def without_braces(node):
     if isinstance(node, Sequence):
         return Sequence([without_braces(item) for item in node.items], node.place)
-    if is_text(node) and WHOLE.fullmatch(node.value):
+    if is_whole(node):
         return Scalar(node.value.strip()[2:-2].strip(), node.place, node.text, True)
     return node
 
@@ -189,7 +190,7 @@ def flat_items(node):
     for item in node.items:
         if isinstance(item, Sequence):
             items += item.items
-        elif is_text(item) and WHOLE.fullmatch(item.value):
+        elif is_whole(item):
             return None
         else:
             items.append(item)
@@ -277,8 +278,18 @@ def parameters(task, modules):
     rename(node, modules.aliases.get(module, {}))
     pass_over_parameters(task, node, modules.asked.get(module, ()))
     for name, kind in modules.parameters.get(module, {}).items():
-        if name in node:
+        if name not in node:
+            continue
+        if module in modules.documented and not task.is_handler and is_whole(node.get(name)):
+            # Ansible converts whatever the template gives: what is asked is that it gives anything.
+            task.asked.append(converted(node.get(name), "omitted"))
+            node.put(name, made(EMPTY.get(kind, ""), node.get(name).place))
+        else:
             node.put(name, converted(node.get(name), kind, name))
+
+
+def is_whole(node):
+    return is_text(node) and WHOLE.fullmatch(node.value) is not None
 
 
 def rename(node, names):

@@ -1,4 +1,4 @@
-# With `--trust-facts`: the facts that the profile counts as perhaps there are taken as there wherever facts are gathered.
+# With `--trust-facts`: facts that are perhaps there are taken as there wherever facts are gathered.
 import re
 
 from .books import Block, Raw, Task

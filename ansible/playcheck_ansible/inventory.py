@@ -256,17 +256,19 @@ def add_variable_files(inventory, folder):
 
 
 def variable_files(folder, kind, name):
+    """The variables of a group or a host: of a file of its name, or of all files of such a folder."""
     if "/" in name or name in ("", ".", ".."):
-        return
+        return []
     start = os.path.join(folder, kind, name)
-    for suffix in SUFFIXES:
-        path = start + suffix
-        if os.path.isfile(path):
-            yield variables_in(path)
-        elif os.path.isdir(path) and not suffix:
-            for inner in sorted(os.listdir(path)):
-                if inner.endswith((".yml", ".yaml", ".json")) or "." not in inner:
-                    yield variables_in(os.path.join(path, inner))
+    files = [start + suffix for suffix in SUFFIXES]
+    if os.path.isdir(start):
+        files = [*(os.path.join(start, inner) for inner in sorted(os.listdir(start)) if is_of_variables(inner)),
+                 *files[1:]]
+    return [variables_in(path) for path in files if os.path.isfile(path)]
+
+
+def is_of_variables(name):
+    return name.endswith(SUFFIXES[1:]) or "." not in name
 
 
 def variables_in(path):

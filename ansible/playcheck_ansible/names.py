@@ -40,18 +40,18 @@ def without_texts(text):
 def read_places(words, asked=()):
     """Each expression of a task's words, with the node in which it stands."""
     for key, node in words.pairs.items():
-        if key in CONDITIONS:
-            yield from ((text.value, text) for text in texts_of(node))
-        elif key == "assert" and isinstance(node, Mapping):
+        if key == "assert" and isinstance(node, Mapping):
             for name, part in node.pairs.items():
-                for text in texts_of(part):
-                    yield from ([(text.value, text)] if name == "that" else templates_in(text))
+                yield from expressions_of(part, name == "that")
         elif key not in ("name", "notify", "listen", "register"):
-            for text in texts_of(node):
-                yield from templates_in(text)
+            yield from expressions_of(node, key in CONDITIONS)
     for node in asked:
-        for text in texts_of(node):
-            yield from templates_in(text)
+        yield from expressions_of(node, False)
+
+
+def expressions_of(node, is_condition):
+    for text in texts_of(node):
+        yield from [(text.value, text)] if is_condition else templates_in(text)
 
 
 def templates_in(text):

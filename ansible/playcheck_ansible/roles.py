@@ -142,12 +142,12 @@ def give_variables(task, given):
 def put_play_variables(play, roles):
     """What the roles of a play give, all of the play sees; a name that two of them give otherwise isn't judged."""
     given, defaults = {}, {}
-    for role in roles:
-        for known, more in ((given, role.variables), (defaults, role.defaults)):
-            for name, node in more.items():
-                if name in known and known[name].place != node.place:
-                    play.lost[name] = f"two roles give '{name}'"
-                known[name] = node
+    pairs = [(known, name, node) for role in roles
+             for known, more in ((given, role.variables), (defaults, role.defaults)) for name, node in more.items()]
+    for known, name, node in pairs:
+        if name in known and known[name].place != node.place:
+            play.lost[name] = f"two roles give '{name}'"
+        known[name] = node
     own = play.words.get("vars")
     if given and (own is None or isinstance(own, Mapping)):
         play.words.put("vars", Mapping({**(own.pairs if own is not None else {}), **given}, play.place))

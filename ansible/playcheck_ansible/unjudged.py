@@ -32,6 +32,9 @@ class Settler(Scope):
         self.findings = []
         # What isn't asked beside tasks: words of plays and blocks, and files of variables, with their places.
         self.notes = [note for play in self.plays for note in play.unseen_files]
+        for play in self.plays:
+            if play.reason:
+                self.strip(play)
         self.static_marks()
 
     def static_marks(self):
@@ -139,14 +142,13 @@ class Settler(Scope):
 
     def drop_asked(self, tainted):
         """Words of plays and blocks that read what isn't judged aren't asked, and this is said."""
-        for play in self.plays:
-            for step in [play, *play.steps()]:
-                for node in list(step.asked) if isinstance(step, (Play, Block)) else ():
-                    read = mentioned(Mapping({"vars": node}, node.place))
-                    bad = sorted(name for name in read if name in tainted or self.is_outside_fact(name))
-                    if bad:
-                        step.asked.remove(node)
-                        self.notes.append((node.place, f"this word isn't asked: it reads '{bad[0]}'"))
+        holders = [step for play in self.plays for step in [play, *play.steps()] if isinstance(step, (Play, Block))]
+        for holder, node in [(holder, node) for holder in holders for node in holder.asked]:
+            read = mentioned(Mapping({"vars": node}, node.place))
+            bad = sorted(name for name in read if name in tainted or self.is_outside_fact(name))
+            if bad:
+                holder.asked = [other for other in holder.asked if other is not node]
+                self.notes.append((node.place, f"this word isn't asked: it reads '{bad[0]}'"))
 
     def leave_block(self, block, reason):
         block.words.take("when")
@@ -220,15 +222,21 @@ class Settler(Scope):
         if play.reason:
             return False
         play.reason = reason
-        for name in names_of_vars(play.words):
-            play.lost[name] = f"the `vars` of the play on line {play.place.line} aren't judged"
-        for key in list(play.words.pairs):
-            if key not in ("hosts", "name"):
-                play.words.take(key)
-        play.asked = []
-        for task in play.tasks():
-            task.leave(reason)
+        self.strip(play)
         return True
+
+    def strip(self, play):
+        """Leaves all tasks of a play, and of its words and those of its blocks what they need to stand."""
+        for step in [play, *(step for step in play.steps() if isinstance(step, Block))]:
+            for name in names_of_vars(step.words):
+                step.lost[name] = f"the play on line {play.place.line} isn't judged"
+            for key in list(step.words.pairs):
+                if key not in ("hosts", "name"):
+                    step.words.take(key)
+            step.asked = []
+        for task in play.tasks():
+            task.leave(play.reason)
+            task.is_still_asked = False
 
     def lost_by_probing(self, play):
         """Takes out the values of `vars` that the program can't read, each asked alone."""
@@ -333,9 +341,12 @@ def outside_parameter(task, modules):
 
 def leave_handlers(play, tasks=None):
     """Where a flush isn't judged, neither is a handler that it may run."""
-    for task in tasks if tasks is not None else play.tasks():
-        node = task.words.get("meta")
-        if task.reason and is_text(node) and node.value.strip() == "flush_handlers":
-            for handler in play.tasks():
-                if handler.is_handler:
-                    handler.leave(f"the flush on line {task.place.line} isn't judged")
+    flushes = [task for task in (tasks if tasks is not None else play.tasks()) if task.reason and is_flush(task)]
+    for handler in play.tasks() if flushes else []:
+        if handler.is_handler:
+            handler.leave(f"the flush on line {flushes[0].place.line} isn't judged")
+
+
+def is_flush(task):
+    node = task.words.get("meta")
+    return is_text(node) and node.value.strip() == "flush_handlers"

@@ -58,6 +58,38 @@ def templates_in(text):
     return ((expression, text) for expression in expressions_in(text.value))
 
 
+# Forms that no expression of the profile has, with what they are called; the program is asked about all others.
+FILTER = re.compile(r"\|\s*(?!(?:default|length|join)\b)([A-Za-z_]\w*)")
+TEST = re.compile(r"\bis\s+(?:not\s+)?(?!(?:not|defined|undefined|failed|succeeded|changed|skipped)\b)([A-Za-z_]\w*)")
+CALL = re.compile(r"(?<![\w.|])(?!(?:and|or|not|in|is)\b)([A-Za-z_]\w*)\(")
+METHOD = re.compile(r"\.([A-Za-z_]\w*)\(")
+FORMS = ((FILTER, "the filter `{}`"), (TEST, "the test `{}`"), (METHOD, "the call `.{}()`"),
+         (re.compile(r"[^\w.]if\s+(?=[\w(])"), "an inline `if`"), (re.compile(r"[\w)\]]\s*([+*/%~])"), "arithmetic (`{}`)"))
+
+
+def outside_form(expression):
+    """What an expression has that the profile lacks, where that shows at once; else nothing."""
+    bare = without_texts(expression)
+    for pattern, what in FORMS:
+        found = pattern.search(bare)
+        if found:
+            return what.format(*found.groups())
+    called = CALL.search(re.sub(r"\|\s*\w+\(", " ", bare))
+    return f"the call `{called[1]}()`" if called else ""
+
+
+def outside_node(node, is_condition=False):
+    """The first such form in a node's expressions, and the text in which it stands."""
+    for text in texts_of(node):
+        if not is_condition and "{%" in text.value:
+            return "`{% .. %}`", text
+        for expression in [text.value] if is_condition else expressions_in(text.value):
+            what = outside_form(expression)
+            if what:
+                return what, text
+    return "", None
+
+
 def mentioned(words, asked=()):
     """All names that a task's texts mention; a field of `ansible_facts` is named as the fact itself."""
     names = set()

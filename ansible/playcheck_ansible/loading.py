@@ -11,10 +11,23 @@ from .problems import Place, Problem
 from .roles import block_words, put_handlers, put_play_variables, role_of
 
 MOST_INCLUDES = 32
+MOST_FILES = 1000
 # What may stand at an include whose tasks are put in place; the rest of its words become those of a block.
 OWN_WORDS = {"file", "apply", "name"}
 BARS_INCLUDE = ("loop", "until", "retries", "register", "loop_control", "async", "args", "notify", "changed_when",
                 "failed_when")
+
+
+@dataclass
+class Count:
+    """How many files were put in place: where each names the next one twice they would double each time."""
+
+    files: int = 0
+
+    def add(self, place):
+        self.files += 1
+        if self.files > MOST_FILES:
+            raise Problem(place, f"more than {MOST_FILES:,} files are put in place")
 
 
 @dataclass
@@ -24,6 +37,7 @@ class Context:
     file: str
     book_folder: str
     play: str
+    count: Count
     role_folder: str = ""
     is_handlers: bool = False
     open: tuple = ()
@@ -31,10 +45,10 @@ class Context:
 
 
 def load_book(path):
-    return Book(path, *plays_of(read_file(path), path, ()))
+    return Book(path, *plays_of(read_file(path), path, (), Count()))
 
 
-def plays_of(node, path, open_files):
+def plays_of(node, path, open_files, count):
     """The plays of a file, or none and the node itself where it is no list."""
     if not isinstance(node, Sequence):
         return [], node
@@ -42,9 +56,9 @@ def plays_of(node, path, open_files):
     for item in node.items:
         key = include_key(item, ("import_playbook",))
         if key:
-            plays += imported_plays(item, key, path, open_files)
+            plays += imported_plays(item, key, path, open_files, count)
         else:
-            plays.append(play_of(item, path) if isinstance(item, Mapping) else Raw(item))
+            plays.append(play_of(item, path, count) if isinstance(item, Mapping) else Raw(item))
     return plays, None
 
 
@@ -54,18 +68,19 @@ def include_key(item, names):
     return next((key for key in item.pairs if short_name(key) in names), None)
 
 
-def imported_plays(item, key, path, open_files):
+def imported_plays(item, key, path, open_files, count):
     named = item.get(key)
     if not is_text(named) or has_template(named.value):
         raise Problem(named.place, "an imported playbook's name is a template or no text; it can't be read")
     target = os.path.join(os.path.dirname(path), named.value.strip())
     if target in open_files or len(open_files) >= MOST_INCLUDES:
         raise Problem(named.place, f"{named.value} is imported in itself")
+    count.add(named.place)
     try:
         node = read_file(target)
     except Problem as problem:
         raise Problem(named.place, f"what is imported can't be read: {problem}") from None
-    plays, other = plays_of(node, target, (*open_files, path, target))
+    plays, other = plays_of(node, target, (*open_files, path, target), count)
     if other is not None:
         raise Problem(other.place, "an imported playbook has to be a list of plays")
     for play in plays:
@@ -89,10 +104,10 @@ def add_words(play, item, key):
             play.asked.append(part)
 
 
-def play_of(item, path):
+def play_of(item, path, count):
     words = item.copy()
     name = item.get("name") or item.get("hosts")
-    context = Context(path, os.path.dirname(path), str(plain(name)) if isinstance(name, Scalar) else "")
+    context = Context(path, os.path.dirname(path), str(plain(name)) if isinstance(name, Scalar) else "", count)
     sections = {}
     for section in (*SECTIONS, "handlers"):
         nodes = items_of(words.get(section))
@@ -128,6 +143,7 @@ def put_roles(play, context):
 
 def role_block(role, place, context, is_seen_by_all):
     """A role as a block: the roles that it needs, then its tasks, under what stands beside its name."""
+    context.count.add(place)
     inside = replace(context, file=role.tasks_file or context.file, open=(*context.open, role.tasks_file),
                      is_handlers=False, role_folder=role.folder)
     steps = []
@@ -280,6 +296,7 @@ def included_name(node):
 
 
 def put_in_place(task, kind, key, path, context):
+    context.count.add(task.place)
     nodes = items_of(read_file(path))
     if nodes is None:
         raise Problem(Place(path), "a list of tasks is wanted")

@@ -66,6 +66,8 @@ def hostile():
     yield "many values", "[" + "x," * 500_000 + "]", "more than 400,000 values", 64
     yield "no file inside", "- import_playbook: gone.yml\n", "book.yml:1:20: what is imported can't be read: gone", 64
     yield "files that double", hostile_files(), "more than 1,000 files are put in place", 64
+    many = "- hosts: all\n  pre_tasks: &t\n" + "    - command: x\n" * 3900 + "- hosts: all\n  tasks:\n"
+    yield "tasks that double", many + "    - block: *t\n" * 30, "book.yml: more than 4,096 tasks and blocks", 64
     yield "itself imported", "- import_playbook: book.yml\n", "book.yml:1:20: book.yml is imported in itself", 64
 
 

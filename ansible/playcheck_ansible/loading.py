@@ -12,6 +12,8 @@ from .roles import block_words, put_handlers, put_play_variables, role_of
 
 MOST_INCLUDES = 32
 MOST_FILES = 1000
+# The profile has so many lines at most.
+MOST_STEPS = 4096
 # What may stand at an include whose tasks are put in place; the rest of its words become those of a block.
 OWN_WORDS = {"file", "apply", "name"}
 BARS_INCLUDE = ("loop", "until", "retries", "register", "loop_control", "async", "args", "notify", "changed_when",
@@ -45,7 +47,11 @@ class Context:
 
 
 def load_book(path):
-    return Book(path, *plays_of(read_file(path), path, (), Count()))
+    book = Book(path, *plays_of(read_file(path), path, (), Count()))
+    steps = sum(1 for play in book.plays if isinstance(play, Play) for _ in play.steps())
+    if steps > MOST_STEPS:
+        raise Problem(Place(path), f"more than {MOST_STEPS:,} tasks and blocks, with what its aliases stand for")
+    return book
 
 
 def plays_of(node, path, open_files, count):

@@ -63,7 +63,10 @@ FILTER = re.compile(r"\|\s*(?!(?:default|length|join)\b)([A-Za-z_]\w*)")
 TEST = re.compile(r"\bis\s+(?:not\s+)?(?!(?:not|defined|undefined|failed|succeeded|changed|skipped)\b)([A-Za-z_]\w*)")
 CALL = re.compile(r"(?<![\w.|])(?!(?:and|or|not|in|is)\b)([A-Za-z_]\w*)\(")
 METHOD = re.compile(r"\.([A-Za-z_]\w*)\(")
+# An index that is no text, but for hosts and groups.
+INDEX = re.compile(r"(?<![\w.\]])(?!(?:hostvars|groups)\b)[A-Za-z_]\w*(?:\.\w+|\[\s*\])*\[\s*(-?\d+|[A-Za-z_]\w*)\s*\]")
 FORMS = ((FILTER, "the filter `{}`"), (TEST, "the test `{}`"), (METHOD, "the call `.{}()`"),
+         (INDEX, "the index `[{}]`"),
          (re.compile(r"[^\w.]if\s+(?=[\w(])"), "an inline `if`"), (re.compile(r"[\w)\]]\s*([+*/%~])"), "arithmetic (`{}`)"))
 
 

@@ -31,6 +31,7 @@ class Task:
     notifies: list = field(default_factory=list)  # handlers that it notifies beside those that it shows
     notifies_any: bool = False
     sets_unseen: bool = False  # it may set names that the book doesn't show
+    forgets: bool = False  # it may bring hosts back that failed, or take variables away
     ends_host: bool = False  # it may end the play for a host that goes on with the next one
 
     def __post_init__(self):

@@ -34,6 +34,7 @@ class Unjudged:
     place: Place
     name: str
     reason: str
+    kind: str = "task"
 
 
 @dataclass
@@ -100,7 +101,8 @@ def report_of(path, settler):
     refused = {id(line.step) for line, _ in settler.findings if line is not None and line.step is not None}
     for task in tasks:
         if task.reason and id(task) not in refused:
-            report.unjudged.append(Unjudged(task.reason_place or task.place, task.name, task.reason))
+            kind = "handler" if task.is_handler else "task"
+            report.unjudged.append(Unjudged(task.reason_place or task.place, task.name, task.reason, kind))
     report.notes = [Unjudged(place, "", what) for place, what in settler.notes]
     report.judged = sum(not task.reason or task.reason.startswith(CUT) for task in tasks)
     report.budget = settler.answer.budget

@@ -66,7 +66,7 @@ def text_format(reports, has_colour):
             if finding.help:
                 printed.append(f"      help: {finding.help}")
         for one in report.unjudged:
-            name = f" task '{one.name}':" if one.name else ""
+            name = f" {one.kind} '{one.name}':" if one.name else ""
             printed.append(f"{one.place}: not judged:{name} {one.reason}")
         printed += [f"{one.place}: not asked: {one.reason}" for one in report.notes]
         printed.append(verdict_of(report))

@@ -221,6 +221,7 @@ def meta_actions(task, modules):
     elif word != "flush_handlers":
         task.ends_host = word in ENDS
         task.sets_unseen = not task.ends_host
+        task.forgets = word in ("clear_facts", "clear_host_errors")
         task.leave(f"`meta: {word}`", node.place)
     elif "when" in task.words:
         task.leave("`meta: flush_handlers` with a condition", node.place)

@@ -167,6 +167,8 @@ def play_words(play, extra):
         node = play.words.take(word)
         if word == "module_defaults" and node is not None and not is_nothing(node):
             play.reason = play.reason or "`module_defaults` give parameters"
+        elif word == "order" and node is not None and "serial" in play.words:
+            play.reason = play.reason or "`order` decides which hosts are in a batch"
         elif word == "tags" and node is not None and "never" in str(plain(node)):
             play.reason = play.reason or "with the tag `never` it is run only where it is asked for"
         elif node is not None:

@@ -92,10 +92,17 @@ class Settler(Scope):
             if task.reason:
                 for name in given_names(task):
                     tainted.setdefault(name, f"it is set on line {task.place.line}, which isn't judged")
+        self.taint_forgotten(tainted)
         for play in self.plays:
             self.taint_lost(play, tainted)
         self.taint_vars(tainted)
         return tainted
+
+    def taint_forgotten(self, tainted):
+        """What tasks set may be gone where hosts that failed come back, or facts are cleared."""
+        for task in [task for task in self.tasks if task.forgets]:
+            for name in {*FACTS, "ansible_facts"}.union(*(given_names(one) for one in self.tasks)):
+                tainted.setdefault(name, f"it may be gone behind line {task.place.line}")
 
     def taint_passed(self, block, tainted):
         """An include under a condition runs whole or sets nothing; the tasks of a block are skipped one by one."""

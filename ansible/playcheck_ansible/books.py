@@ -2,7 +2,7 @@
 from dataclasses import dataclass, field
 from typing import Optional, Union
 
-from .nodes import Mapping, Scalar, Sequence, is_nothing, is_text
+from .nodes import Mapping, Scalar, Sequence, is_nothing
 from .problems import Place
 
 SECTIONS = ("pre_tasks", "tasks", "post_tasks")
@@ -139,12 +139,3 @@ def items_of(node):
     if node is None or is_nothing(node):
         return []
     return node.items if isinstance(node, Sequence) else None
-
-
-def words_of(node):
-    """The texts of a text or of a list of texts, with commas taken apart where it is one text."""
-    if is_text(node):
-        return [word.strip() for word in node.value.split(",")]
-    if isinstance(node, Sequence):
-        return [item.value for item in node.items if is_text(item)]
-    return []

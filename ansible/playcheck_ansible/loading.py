@@ -14,8 +14,7 @@ MOST_INCLUDES = 32
 MOST_FILES = 1000
 # The profile has so many lines at most.
 MOST_STEPS = 4096
-# What may stand at an include whose tasks are put in place; the rest of its words become those of a block.
-OWN_WORDS = {"file", "apply", "name"}
+# What bars an include from being put in place; the rest of its words become those of a block.
 BARS_INCLUDE = ("loop", "until", "retries", "register", "loop_control", "async", "args", "notify", "changed_when",
                 "failed_when")
 

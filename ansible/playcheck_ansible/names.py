@@ -16,8 +16,7 @@ GRAMMAR = {"and", "or", "not", "in", "is", "true", "false", "True", "False", "no
            "length", "join", "defined", "undefined", "failed", "succeeded", "changed", "skipped"}
 # Names that Ansible itself gives and the profile lacks, beside all that begin with `ansible_`.
 MAGIC = {"playbook_dir", "role_path", "role_name", "inventory_dir", "inventory_file", "play_hosts", "omit", "vars",
-         "environment", "inventory_hostname_short", "role_names", "lookup", "query", "q", "now", "range",
-         "undef", "groups_names"}
+         "environment", "inventory_hostname_short", "lookup", "query", "q", "now", "range", "undef"}
 
 
 def expressions_in(text):

@@ -3,7 +3,7 @@
 import re
 
 from .books import is_module
-from .modules import CHANGES_FLOW, FREE_FORM, PREFIXES, SETS_UNSEEN, short_name
+from .modules import CHANGES_FLOW, FREE_FORM, SETS_UNSEEN, short_name
 from .nodes import Mapping, Scalar, Sequence, has_template, is_literal, is_nothing, is_text, made, plain, texts_of
 from .values import WHOLE, arguments_of, as_bool, as_int, converted
 

@@ -1,7 +1,7 @@
 # The passes over plays and blocks: as those over tasks, see passes.py.
 import re
 
-from .books import SECTIONS, Block, Play, Raw, Task, steps_below
+from .books import SECTIONS, Block, Raw, Task, steps_below
 from .nodes import Mapping, Scalar, Sequence, has_template, is_nothing, is_text, made, plain
 from .passes import FLOW, PASSED, TRUTHS, run_passes, without_braces
 from .values import as_bool, as_int

@@ -214,12 +214,12 @@ class Settler(Scope):
                 leave_handlers(line.play, [step])
             return True
         if isinstance(step, Block) and ("when" in step.words or "vars" in step.words or step.asked):
-            return self.left_block(step, answer.code, reason)
+            return self.left_block(step, reason)
         if step is line.play or step is None:
             return self.left_play(line.play, answer.code, reason)
         return False
 
-    def left_block(self, block, code, reason):
+    def left_block(self, block, reason):
         for name in names_of_vars(block.words):
             block.lost[name] = f"the `vars` of the block on line {block.place.line} aren't judged"
         block.words.take("vars")

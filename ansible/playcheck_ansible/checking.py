@@ -46,11 +46,15 @@ class Report:
     tasks: int = 0
     judged: int = 0
     budget: int = 0
-    is_complete: bool = True
+    is_strict: bool = False  # what isn't judged is refused
+
+    @property
+    def is_whole(self):
+        return self.judged == self.tasks and not self.notes
 
     @property
     def is_accepted(self):
-        return not self.findings
+        return not self.findings and (self.is_whole or not self.is_strict)
 
 
 @dataclass

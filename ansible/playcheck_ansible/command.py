@@ -162,9 +162,9 @@ def check(words):
             told(problem)
             statuses.append(problem.status)
             continue
+        report.is_strict = words.strict
         reports.append(report)
-        is_left = words.strict and (report.unjudged or report.notes)
-        statuses.append(1 if report.findings or is_left else 0)
+        statuses.append(0 if report.is_accepted else 1)
     sys.stdout.write(FORMATS[words.format](reports, has_colour(words.color)))
     sys.stdout.flush()
     return max(statuses)

@@ -24,8 +24,9 @@ def verdict_of(report):
     if report.findings:
         found = "1 finding" if len(report.findings) == 1 else f"{len(report.findings)} findings"
         return f"{report.book}: refused, {found}, {count_of(report)}"
-    whole = report.judged == report.tasks and not report.notes
-    budget = f", at most {report.budget} module calls" if whole else ""
+    if not report.is_accepted:
+        return f"{report.book}: refused by --strict, {count_of(report)}"
+    budget = f", at most {report.budget} module calls" if report.is_whole else ""
     return f"{report.book}: accepted, {count_of(report)}{budget}"
 
 
@@ -83,7 +84,7 @@ def json_of(report):
         "verdict": "accepted" if report.is_accepted else "refused",
         "tasks": report.tasks,
         "judged": report.judged,
-        "budget": report.budget if report.is_accepted and report.judged == report.tasks else None,
+        "budget": report.budget if report.is_accepted and report.is_whole else None,
         "findings": [{
             "code": one.code, "title": one.title, "file": one.place.file, "line": one.place.line,
             "column": one.place.column, "kind": one.kind, "name": one.name, "play": one.play, "host": one.host or None,

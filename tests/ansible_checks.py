@@ -48,7 +48,7 @@ def hostile():
     yield "aliases that explode", bomb, "book.yml:6:18: more than 400,000 values, with what its aliases", 64
     yield "a cycle", "- &a\n  hosts: all\n  vars: {x: *a}\n", "book.yml:3:13: the alias *a stands in what it names", 64
     yield "10 MB", "# " + "x" * 10_000_000, "book.yml: the file has more than 4,194,304 bytes", 64
-    yield "an object's tag", "- !!python/object/apply:os.system [ls]\n", "book.yml:1:3: the tag !!python/object/apply", 64
+    yield "an object's tag", "- !!python/object/apply:os.system [ls]\n", "book.yml:1:3: the tag !!python/object", 64
     yield "an unknown tag", "- hosts: !mine all\n", "book.yml:1:10: the tag !mine isn't read", 64
     yield "no UTF-8", b"- hosts: all\n  name: \xff\n", "book.yml:2:9: byte 21 isn't UTF-8", 64
     yield "UTF-16", "- hosts: all\n".encode("utf-16"), "book.yml:1:1: byte 0 isn't UTF-8", 64

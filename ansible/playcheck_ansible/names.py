@@ -66,7 +66,8 @@ METHOD = re.compile(r"\.([A-Za-z_]\w*)\(")
 INDEX = re.compile(r"(?<![\w.\]])(?!(?:hostvars|groups)\b)[A-Za-z_]\w*(?:\.\w+|\[\s*\])*\[\s*(-?\d+|[A-Za-z_]\w*)\s*\]")
 FORMS = ((FILTER, "the filter `{}`"), (TEST, "the test `{}`"), (METHOD, "the call `.{}()`"),
          (INDEX, "the index `[{}]`"),
-         (re.compile(r"[^\w.]if\s+(?=[\w(])"), "an inline `if`"), (re.compile(r"[\w)\]]\s*([+*/%~])"), "arithmetic (`{}`)"))
+         (re.compile(r"[^\w.]if\s+(?=[\w(])"), "an inline `if`"),
+         (re.compile(r"[\w)\]]\s*([+*/%~])"), "arithmetic (`{}`)"))
 
 
 def outside_form(expression):

@@ -1,0 +1,141 @@
+# A book as plays, blocks and tasks: what its nodes are, whatever file they stand in.
+from dataclasses import dataclass, field
+from typing import Optional, Union
+
+from .nodes import Mapping, Scalar, Sequence, is_nothing
+from .problems import Place
+
+SECTIONS = ("pre_tasks", "tasks", "post_tasks")
+PARTS = ("block", "rescue", "always")
+# Words of a task, of the profile and left out: any other key is a module.
+TASK_WORDS = {
+    "name", "when", "changed_when", "failed_when", "until", "loop", "register", "vars", "notify", "retries",
+    "ignore_errors", "listen", "action", "any_errors_fatal", "args", "async", "become", "become_exe", "become_flags",
+    "become_method", "become_user", "check_mode", "collections", "connection", "debugger", "delay", "delegate_facts",
+    "delegate_to", "diff", "environment", "ignore_unreachable", "local_action", "loop_control", "module_defaults",
+    "no_log", "poll", "port", "remote_user", "run_once", "tags", "throttle", "timeout",
+}
+
+
+@dataclass
+class Task:
+    words: Mapping
+    place: Place
+    play: str = ""
+    is_handler: bool = False
+    asked: list = field(default_factory=list)  # values of words that are passed over: their templates are asked
+    reason: str = ""  # why it isn't judged
+    reason_place: Optional[Place] = None
+    is_still_asked: bool = False  # its templates are asked all the same
+    gives: set = field(default_factory=set)  # names that it sets beside those that it shows
+    notifies: list = field(default_factory=list)  # handlers that it notifies beside those that it shows
+    notifies_any: bool = False
+    sets_unseen: bool = False  # it may set names that the book doesn't show
+    forgets: bool = False  # it may bring hosts back that failed, or take variables away
+    ends_host: bool = False  # it may end the play for a host that goes on with the next one
+
+    def __post_init__(self):
+        self.written = self.words.copy()
+
+    @property
+    def name(self):
+        node = self.written.get("name")
+        return str(node.value) if isinstance(node, Scalar) and node.value is not None else ""
+
+    def leave(self, reason, place=None):
+        """Says that it isn't judged; the first reason counts."""
+        if not self.reason:
+            self.reason, self.reason_place = reason, place or self.place
+
+    def module(self):
+        """The key that is its module, or None where there is none or several."""
+        found = [key for key in self.words.pairs if is_module(key)]
+        return found[0] if len(found) == 1 else None
+
+
+@dataclass
+class Block:
+    words: Mapping
+    place: Place
+    parts: dict  # block, rescue, always to their steps
+    asked: list = field(default_factory=list)
+    defaults: dict = field(default_factory=dict)  # what a role gives where nothing else does
+    may_be_passed: bool = False  # an include that sets nothing where its condition doesn't hold
+    lost: dict = field(default_factory=dict)  # names of `vars` that the profile can't have, with the reason
+
+    def __post_init__(self):
+        self.written = self.words.copy()
+
+    @property
+    def name(self):
+        node = self.written.get("name")
+        return str(node.value) if isinstance(node, Scalar) and node.value is not None else ""
+
+
+@dataclass
+class Raw:
+    """What isn't a task or a block: printed as it is, for the program to refuse."""
+
+    node: Union[Mapping, Sequence, Scalar]
+    name = ""
+
+    @property
+    def place(self):
+        return self.node.place
+
+
+@dataclass
+class Play:
+    words: Mapping
+    place: Place
+    sections: dict  # pre_tasks, tasks, post_tasks, handlers to their steps
+    asked: list = field(default_factory=list)
+    reason: str = ""  # why none of its tasks is judged
+    defaults: dict = field(default_factory=dict)  # what roles give where nothing else does
+    unseen_files: list = field(default_factory=list)  # files of variables that couldn't be read
+    lost: dict = field(default_factory=dict)  # names of `vars` that the profile can't have, with the reason
+
+    def __post_init__(self):
+        self.written = self.words.copy()
+
+    @property
+    def name(self):
+        node = self.written.get("name") or self.written.get("hosts")
+        return str(node.value) if isinstance(node, Scalar) and node.value is not None else ""
+
+    def steps(self):
+        """All steps, in the order in which they are counted."""
+        for section in (*SECTIONS, "handlers"):
+            yield from steps_below(self.sections.get(section, []))
+
+    def tasks(self):
+        return [step for step in self.steps() if isinstance(step, Task)]
+
+
+@dataclass
+class Book:
+    file: str
+    plays: list
+    node: Optional[object] = None  # the book itself, where it is no list
+
+    def tasks(self):
+        return [task for play in self.plays if isinstance(play, Play) for task in play.tasks()]
+
+
+def steps_below(steps):
+    for step in steps:
+        yield step
+        if isinstance(step, Block):
+            for part in PARTS:
+                yield from steps_below(step.parts.get(part, []))
+
+
+def is_module(key):
+    return key not in TASK_WORDS and not key.startswith("with_")
+
+
+def items_of(node):
+    """The items of a list; of nothing none; None where it is something else."""
+    if node is None or is_nothing(node):
+        return []
+    return node.items if isinstance(node, Sequence) else None

@@ -1,0 +1,128 @@
+# Checks one book: reads it, runs the passes, asks the program, and puts its answer into the words of the files.
+from dataclasses import dataclass, field
+
+from .books import Block, Play, Raw
+from .codes import TITLES
+from .facts import trust_facts
+from .hints import hint
+from .hosts import host_patterns, with_localhost
+from .inventory import read_inventories
+from .loading import load_book
+from .plays import leave_all, run_book_passes
+from .problems import Place
+from .program import Asker
+from .roles import put_defaults
+from .unjudged import CUT, Settler
+
+
+@dataclass
+class Finding:
+    code: str
+    title: str
+    place: Place
+    host: str = ""
+    name: str = ""
+    play: str = ""
+    kind: str = ""
+    detail: str = ""
+    help: str = ""
+    number: int = 0
+
+
+@dataclass
+class Unjudged:
+    place: Place
+    name: str
+    reason: str
+    kind: str = "task"
+
+
+@dataclass
+class Report:
+    book: str
+    findings: list = field(default_factory=list)
+    unjudged: list = field(default_factory=list)
+    notes: list = field(default_factory=list)  # words of plays and blocks that weren't asked
+    tasks: int = 0
+    judged: int = 0
+    budget: int = 0
+    is_strict: bool = False  # what isn't judged is refused
+
+    @property
+    def is_whole(self):
+        return self.judged == self.tasks and not self.notes
+
+    @property
+    def is_accepted(self):
+        return not self.findings and (self.is_whole or not self.is_strict)
+
+
+@dataclass
+class Options:
+    inventories: list
+    modules: object
+    extra: dict = field(default_factory=dict)
+    go_on: bool = False
+    trusts_facts: bool = False
+
+
+def prepared(path, options):
+    """The book with its passes run, and the inventory that it is judged with."""
+    book = load_book(path)
+    inventory = read_inventories(options.inventories, path)
+    plays = [play for play in book.plays if isinstance(play, Play)]
+    for play in plays:
+        for holder in [play, *(step for step in play.steps() if isinstance(step, Block))]:
+            put_defaults(holder, play, inventory)
+    run_book_passes(book, options.modules, options.extra)
+    if options.trusts_facts:
+        trust_facts(book)
+    added = with_localhost(inventory, plays)
+    for play in plays:
+        host_patterns(play, inventory, added)
+        if play.reason:
+            leave_all(play.tasks(), play.reason)
+    return book, inventory
+
+
+def settled(path, options):
+    """The book as it was judged last, with the inventory that it was judged with."""
+    book, inventory = prepared(path, options)
+    with Asker(inventory.json(), options.modules.signatures(book)) as asker:
+        settler = Settler(book, options.modules, inventory, asker)
+        settler.settle(finding_of, options.go_on)
+    return settler, inventory
+
+
+def check_book(path, options):
+    return report_of(path, settled(path, options)[0])
+
+
+def report_of(path, settler):
+    tasks = settler.tasks
+    report = Report(path, tasks=len(tasks))
+    report.findings = sorted((found for _, found in settler.findings), key=lambda found: found.number)
+    refused = {id(line.step) for line, _ in settler.findings if line is not None and line.step is not None}
+    for task in tasks:
+        if task.reason and id(task) not in refused:
+            kind = "handler" if task.is_handler else "task"
+            report.unjudged.append(Unjudged(task.reason_place or task.place, task.name, task.reason, kind))
+    report.notes = [Unjudged(place, "", what) for place, what in settler.notes]
+    report.judged = sum(not task.reason or task.reason.startswith(CUT) for task in tasks)
+    report.budget = settler.answer.budget
+    return report
+
+
+def finding_of(answer, line, settler):
+    found = hint(answer, line, settler)
+    source = line.source if line is not None else None
+    play = line.play.name if line is not None and line.play is not None else ""
+    kind = {"asked": "task", "facts": "play"}.get(line.kind, line.kind) if line is not None else ""
+    if isinstance(source, Play):
+        kind = "play"
+    name = source.name if source is not None and not isinstance(source, Raw) else ""
+    host = answer.host if answer.host != "-" else ""
+    return Finding(answer.code, TITLES.get(answer.code, "a refusal"), found.place, host, name, play, kind,
+                   found.detail, found.help, answer.line)
+
+

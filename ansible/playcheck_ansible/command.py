@@ -1,0 +1,202 @@
+# The command line: which words there are, and the status with which it ends.
+import argparse
+import json
+import os
+import sys
+
+from .books import is_module
+from .checking import Options, check_book, settled
+from .codes import section_of
+from .converting import write_converted
+from .formats import FORMATS
+from .documented import documentation, signatures_of
+from .loading import load_book
+from .modules import INCLUDES, PROFILE, Modules, read_signatures, short_name
+from .nodes import Mapping, is_nothing, made
+from .passes import action_words, plain_module_names
+from .positions import node_of, read_file
+from .problems import Place, Problem
+from .values import arguments_of
+
+BAD_WORDS = 64
+NO_MEMORY = 3
+SUFFIXES = (".yml", ".yaml", ".json")
+EPILOG = """status: 0 all books are accepted, 1 a refusal (or, with --strict, a task that isn't judged),
+3 want of memory, 64 a bad command line or a file that can't be read"""
+
+
+class Words(argparse.ArgumentParser):
+    def error(self, message):
+        self.exit(BAD_WORDS, f"playcheck-ansible: {message}; --help tells more\n")
+
+
+def parser():
+    words = Words(prog="playcheck-ansible", description="Judges Ansible playbooks in YAML.", epilog=EPILOG,
+                  formatter_class=argparse.RawDescriptionHelpFormatter)
+    commands = words.add_subparsers(dest="command", required=True, metavar="COMMAND", parser_class=Words)
+    check = commands.add_parser("check", help="judges playbooks, or all of a folder")
+    check.add_argument("books", nargs="+", metavar="BOOK", help="a playbook, or a folder of playbooks")
+    add_inputs(check)
+    check.add_argument("--format", choices=sorted(FORMATS), default="text", help="how it is printed (text)")
+    check.add_argument("--color", choices=("auto", "always", "never"), default="auto")
+    check.add_argument("--strict", action="store_true", help="a task that isn't judged is refused")
+    check.add_argument("--all", action="store_true", dest="go_on", help="goes on after a refusal")
+    convert = commands.add_parser("convert", help="writes the JSON that is judged, and what each counted line is")
+    convert.add_argument("book", metavar="BOOK")
+    convert.add_argument("-o", "--output", required=True, metavar="DIR", help="the folder, made where it isn't there")
+    add_inputs(convert)
+    signatures = commands.add_parser("signatures", help="writes signatures out of Ansible's documentation")
+    signatures.add_argument("names", nargs="+", metavar="MODULE",
+                            help="a module, or a playbook whose modules are meant")
+    explain = commands.add_parser("explain", help="prints what a code means")
+    explain.add_argument("code", metavar="CODE")
+    return words
+
+
+def add_inputs(words):
+    words.add_argument("-i", "--inventory", action="append", default=[], nargs="+", metavar="INVENTORY",
+                       help="a file in YAML or JSON, what ansible-inventory reads, or a list of hosts with a comma")
+    words.add_argument("-s", "--signatures", action="append", default=[], metavar="FILE", help="declared modules")
+    words.add_argument("-e", "--extra-vars", action="append", default=[], metavar="VARS",
+                       help="variables: name=value, an object in braces, or @FILE")
+    words.add_argument("--trust-facts", action="store_true", help="all six facts are there where facts are gathered")
+    words.add_argument("--vars", action="append", default=[], metavar="FILE", help="a file of variables")
+
+
+def main(arguments):
+    words = parser().parse_args(arguments)
+    try:
+        return COMMANDS[words.command](words)
+    except Problem as problem:
+        told(problem)
+        return problem.status
+    except RecursionError:
+        told("a file nests too deep")
+        return BAD_WORDS
+    except MemoryError:
+        told("there is no more memory")
+        return NO_MEMORY
+    except BrokenPipeError:
+        return BAD_WORDS
+
+
+def told(what):
+    print(f"playcheck-ansible: {what}", file=sys.stderr)
+
+
+def explain(words):
+    sys.stdout.write(section_of(words.code.upper()))
+    return 0
+
+
+def convert(words):
+    settler, inventory = settled(words.book, options_of(words))
+    write_converted(words.output, settler, inventory)
+    return 0
+
+
+def signatures(words):
+    """Prints the signatures of modules, and says on standard error which of them can't be declared."""
+    names = []
+    for name in words.names:
+        names += used_modules(load_book(name)) if name.endswith(SUFFIXES) else [short_name(name)]
+    names = sorted(set(names) - set(PROFILE))
+    declared, left = signatures_of(documentation(names)) if names else ([], {})
+    found = {module["ansible"]["name"] for module in declared}
+    for name in names:
+        if name not in found:
+            told(f"the module {name} isn't declared: {left.get(name, 'ansible-doc does not know it')}")
+    json.dump(declared, sys.stdout, indent=1)
+    sys.stdout.write("\n")
+    return 0 if declared or not names else BAD_WORDS
+
+
+def used_modules(book):
+    """The keys of a book's tasks that are modules, those of `action` too."""
+    found = []
+    for task in book.tasks():
+        plain_module_names(task, Modules())
+        action_words(task, Modules())
+        found += [short_name(key) for key in task.words.pairs if is_module(key) and key not in INCLUDES]
+    return found
+
+
+def options_of(words):
+    inventories = [path for group in words.inventory for path in group]
+    extra = {}
+    for text in words.extra_vars:
+        extra.update(variables_of(text))
+    for path in words.vars:
+        extra.update(variables_in(read_file(path), path))
+    modules = read_signatures(words.signatures)
+    return Options(inventories, modules, extra, getattr(words, "go_on", False), words.trust_facts)
+
+
+def variables_of(text):
+    """The variables of one `-e`."""
+    if text.startswith("@"):
+        return variables_in(read_file(text[1:]), text[1:])
+    if text.lstrip().startswith(("{", "[")):
+        return variables_in(node_of(text, "-e"), "-e")
+    found = arguments_of(text)
+    if found is None:
+        raise Problem(None, f"-e takes name=value, an object in braces or @FILE, not {text!r}")
+    return made(found, Place("-e")).pairs
+
+
+def variables_in(node, path):
+    if is_nothing(node):
+        return {}
+    if not isinstance(node, Mapping):
+        raise Problem(Place(path), "a mapping of variables is wanted")
+    return node.pairs
+
+
+def check(words):
+    options = options_of(words)
+    reports, statuses = [], [0]
+    for path in books_of(words.books):
+        try:
+            report = check_book(path, options)
+        except Problem as problem:
+            told(problem)
+            statuses.append(problem.status)
+            continue
+        report.is_strict = words.strict
+        reports.append(report)
+        statuses.append(0 if report.is_accepted else 1)
+    sys.stdout.write(FORMATS[words.format](reports, has_colour(words.color)))
+    sys.stdout.flush()
+    return max(statuses)
+
+
+def books_of(paths):
+    """The books; of a folder all files that are lists of plays."""
+    for path in paths:
+        if not os.path.isdir(path):
+            yield path
+            continue
+        for folder, inner, files in os.walk(path):
+            inner[:] = sorted(name for name in inner if not name.startswith("."))
+            yield from (os.path.join(folder, name) for name in sorted(files) if is_book(os.path.join(folder, name)))
+
+
+def is_book(path):
+    """Whether a file of a folder is a playbook: a list with an item that has `hosts` or `import_playbook`."""
+    if not path.endswith(SUFFIXES):
+        return False
+    try:
+        node = read_file(path)
+    except Problem:
+        return False
+    return any(isinstance(item, Mapping) and ("hosts" in item or any(key.endswith("import_playbook")
+               for key in item.pairs)) for item in getattr(node, "items", []))
+
+
+def has_colour(choice):
+    if choice != "auto":
+        return choice == "always"
+    return sys.stdout.isatty() and not os.environ.get("NO_COLOR")
+
+
+COMMANDS = {"check": check, "convert": convert, "explain": explain, "signatures": signatures}

@@ -1,0 +1,32 @@
+# Writes what the program is asked: the book, the inventory and the signatures in JSON, and what each line is.
+import json
+import os
+
+from .problems import Place, Problem
+
+
+def write_converted(folder, settler, inventory):
+    try:
+        os.makedirs(folder, exist_ok=True)
+        write(folder, "book.json", settler.numbered.json)
+        write(folder, "inventory.json", inventory.json())
+        write(folder, "signatures.json", settler.modules.signatures(settler.book))
+        write(folder, "lines.json", [line_json(number, line) for number, line in enumerate(settler.numbered.lines)
+                                     if line is not None])
+    except OSError as error:
+        raise Problem(Place(folder), error.strerror or str(error)) from None
+
+
+def write(folder, name, value):
+    with open(os.path.join(folder, name), "w", encoding="utf-8") as file:
+        json.dump(value, file, indent=2)
+        file.write("\n")
+
+
+def line_json(number, line):
+    """A counted line: what it is, where it stands, and whether it is judged."""
+    place = line.place
+    reason = getattr(line.step, "reason", "") if line.step is not None else ""
+    return {"counted_line": number, "kind": line.kind, "file": place.file, "line": place.line, "column": place.column,
+            "name": line.name, "play": line.play.name if line.play is not None else "",
+            "not_judged": reason or None}

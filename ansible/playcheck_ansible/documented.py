@@ -1,0 +1,104 @@
+# Signatures of modules out of Ansible's own documentation, which `ansible-doc` prints where ansible-core is installed.
+import json
+import re
+import shutil
+import subprocess
+
+from .modules import BOOL_FIELD, FAILURE, PROFILE
+from .problems import Problem
+
+SECONDS = 300
+MOST_PARAMETERS = 64
+MOST_ITEMS = 65536
+TEXTS = ("str", "path", "sid", "bytes", "bits", "float", "json", "jsonarg")
+VARIABLE = re.compile(r"[A-Za-z_][A-Za-z0-9_]{0,127}")
+NAME = re.compile(r"[a-z][a-z0-9_.]{0,63}")
+# When the documentation promises a field in each answer that isn't failed.
+ALWAYS = re.compile(r"(always|success|on success|when successful|changed or success|success or changed)\.?", re.I)
+# What the documentation calls required, and the module that is called in the end has a default for.
+NOT_REQUIRED = {("package", "state")}
+NOT_FIELDS = ("failed", "skipped", "skip_reason", "results", "unreachable", "changed")
+
+
+def documentation(names):
+    """What ansible-doc has on these modules; those that it doesn't know are left out."""
+    found = shutil.which("ansible-doc")
+    if not found:
+        raise Problem(None, "`ansible-doc` isn't installed; it comes with ansible-core")
+    read = {}
+    for start in range(0, len(names), 200):
+        read.update(asked(found, names[start:start + 200]))
+    return read
+
+
+def asked(command, names):
+    try:
+        done = subprocess.run([command, "-t", "module", "--json", *names], capture_output=True, text=True, check=False,
+                              stdin=subprocess.DEVNULL, timeout=SECONDS)
+        return json.loads(done.stdout) if done.stdout.strip() else {}
+    except (OSError, subprocess.TimeoutExpired) as error:
+        raise Problem(None, f"ansible-doc couldn't be run: {error}") from None
+    except ValueError as error:
+        raise Problem(None, f"ansible-doc printed no JSON: {error}") from None
+
+
+def signatures_of(documents):
+    """The signatures of the modules that can be declared, and the others with the reason."""
+    signatures, left = [], {}
+    for name, document in sorted(documents.items()):
+        reason = why_left(name, document)
+        if reason:
+            left[name] = reason
+        else:
+            signatures.append(signature_of(name, document))
+    return signatures, left
+
+
+def why_left(name, document):
+    returned = document.get("return") or {}
+    facts = (document.get("doc", {}).get("attributes") or {}).get("facts") or {}
+    if name in PROFILE:
+        return "it is built in"
+    if "doc" not in document:
+        return "it has no documentation"
+    if "ansible_facts" in returned or facts.get("support") == "full":
+        return "it sets facts"
+    return "" if NAME.fullmatch(declared_name(name)) else "its name can't be declared"
+
+
+def declared_name(name):
+    """The name in the signatures: those that begin with `ansible.` are taken."""
+    return "ansible_" + name[len("ansible."):] if name.startswith("ansible.") else name
+
+
+def signature_of(name, document):
+    params, unkinded, aliases = {}, [], {}
+    for option, given in sorted((document["doc"].get("options") or {}).items()):
+        kind = kind_of(given)
+        for alias in given.get("aliases") or []:
+            aliases[alias] = option
+        if kind is None or not VARIABLE.fullmatch(option) or len(params) >= MOST_PARAMETERS:
+            unkinded.append(option)
+        else:
+            is_required = given.get("required") is True and (name, option) not in NOT_REQUIRED
+            params[option] = {"kind": kind, "required": is_required}
+    ok = {"changed": BOOL_FIELD}
+    for option, given in sorted((document.get("return") or {}).items()):
+        kind = kind_of(given) if isinstance(given, dict) else None
+        if kind is not None and VARIABLE.fullmatch(option) and option not in NOT_FIELDS and len(ok) < MOST_PARAMETERS:
+            ok[option] = {"kind": kind, "always": bool(ALWAYS.fullmatch(str(given.get("returned", "")).strip()))}
+    return {"name": declared_name(name), "params": params, "ok": ok, "failure": FAILURE,
+            "ansible": {"name": name, "aliases": aliases, "asked": unkinded}}
+
+
+def kind_of(given):
+    """The kind of a documented type, or None where the format has none for it."""
+    kind = given.get("type", "str")
+    if kind in TEXTS:
+        return "text"
+    if kind in ("int", "bool"):
+        return kind
+    if kind == "list":
+        element = kind_of({"type": given.get("elements", "raw")})
+        return {"list": element, "max": MOST_ITEMS} if element in ("text", "int", "bool") else None
+    return None

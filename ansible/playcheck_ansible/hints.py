@@ -1,0 +1,261 @@
+# Where in a task a refusal points to, what it is about, and what may have been meant: by the texts, after the answer.
+import re
+from dataclasses import dataclass
+
+from .books import TASK_WORDS, Block, Play, Task, is_module
+from .modules import PROFILE
+from .names import (CONDITIONS, FACTS, GRAMMAR, expression_names, given_names, names_of_vars, read_places,
+                    without_texts)
+from .nodes import Mapping, texts_of
+from .problems import Place
+
+GUARD = r"\s*(?:is\s+(?:not\s+)?(?:defined|undefined)|\|\s*default)"
+MOST_NAMES = 12
+# Those facts that an answer of `setup` needn't have.
+PERHAPS_FACTS = FACTS[2:]
+
+
+@dataclass
+class Culprit:
+    name: str
+    place: Place
+
+
+@dataclass
+class Hint:
+    place: Place
+    detail: str = ""
+    help: str = ""
+
+
+def distance(one, other, most):
+    """The edit distance of two words, swapped neighbours counted as one edit; `most + 1` where it is more."""
+    if abs(len(one) - len(other)) > most:
+        return most + 1
+    before, row = [], list(range(len(other) + 1))
+    for i, letter in enumerate(one, 1):
+        new = [i]
+        for j, against in enumerate(other, 1):
+            cost = min(row[j] + 1, new[j - 1] + 1, row[j - 1] + (letter != against))
+            if i > 1 and j > 1 and letter == other[j - 2] and one[i - 2] == against:
+                cost = min(cost, before[j - 2] + 1)
+            new.append(cost)
+        before, row = row, new
+    return min(row[-1], most + 1)
+
+
+def nearest(word, names):
+    """The name that is nearest to a word, where one is near."""
+    most = 1 if len(word) < 5 else 2
+    scored = sorted((distance(word.lower(), name.lower(), most), name) for name in names if name != word)
+    return scored[0][1] if scored and scored[0][0] <= most else ""
+
+
+def culprit(task, known):
+    """The first name that a task reads without a guard and that is set nowhere."""
+    for expression, node in read_places(task.words, task.asked):
+        for name in ordered_names(expression):
+            if name not in known and name not in GRAMMAR and not is_guarded(name, task):
+                return Culprit(name, node.place)
+    return None
+
+
+def ordered_names(expression):
+    bare = without_texts(expression)
+    found = [match[0] for match in re.finditer(r"(?<![\w.])[A-Za-z_]\w*", bare)]
+    return [name for name in found if name in expression_names(expression)]
+
+
+def is_guarded(name, task):
+    guard = re.compile(rf"\b{re.escape(name)}{GUARD}")
+    return any(guard.search(expression) for expression, _ in read_places(task.words, task.asked))
+
+
+def first_text(task):
+    """The first text that holds an expression."""
+    for _, node in read_places(task.words, task.asked):
+        if node.place.line:
+            return node
+    return None
+
+
+def key_place(task, keys):
+    for key in keys:
+        node = task.written.get(key)
+        if node is not None:
+            return node.place
+    return None
+
+
+def module_place(task):
+    """Where the arguments of a task's module stand."""
+    keys = [key for key in task.written.pairs if key.split(".")[-1] == (task.module() or "").split(".")[-1]]
+    node = task.written.get(keys[0]) if keys else None
+    return node.place if node is not None else task.place
+
+
+def hint(answer, line, settler):
+    """The place, the detail and the help of a refusal."""
+    if line is None:
+        return Hint(Place(settler.book.file))
+    step = line.step
+    if not isinstance(step, Task):
+        return of_holder(answer, line, settler)
+    maker = {"V01": unset, "V03": missing, "V04": wrong_kind, "V05": unheard, "V07": parameter, "V08": reserved,
+             "V10": chain, "V02": other_host, "P05": several}.get(answer.code)
+    found = maker(step, line, settler) if maker else None
+    return found or Hint(key_place(step, DEFAULT_KEYS.get(answer.code, ())) or module_place(step))
+
+
+DEFAULT_KEYS = {"V09": ("changed_when", "failed_when", "until"), "V12": ("notify",), "P09": ("name",)}
+
+
+def of_holder(answer, line, settler):
+    holder = line.step or line.play
+    if answer.code == "V10":
+        return chain(line.step, line, settler) or Hint(holder.place)
+    if answer.code == "V06" and isinstance(holder, Play) and holder.words.get("hosts") is not None:
+        node = holder.words.get("hosts")
+        return Hint(node.place, f"hosts: {shown(node)}")
+    if line.kind == "asked" and isinstance(holder, (Play, Block)) and holder.asked:
+        return Hint(holder.asked[0].place)
+    return Hint(holder.place)
+
+
+def shown(node):
+    return ", ".join(str(text.value) for text in texts_of(node))
+
+
+def where(place, beside):
+    """In brackets the line of a place, with its file where that is another one than the finding's."""
+    if place is None or not place.line:
+        return ""
+    return f" (line {place.line})" if place.file == beside.file else f" ({place.file}:{place.line})"
+
+
+def unset(task, line, settler):
+    names = settler.names_in_scope(task)
+    found = culprit(task, names)
+    if not found:
+        return reading_hint(task, line, settler)
+    if found.name == "item":
+        return Hint(found.place, "'item' is set in a loop only; this task has none")
+    if found.name in settler.given():
+        place = where(settler.place_of_name(found.name), found.place)
+        return Hint(found.place, f"'{found.name}' isn't set here: `vars` give it elsewhere{place}")
+    near = nearest(found.name, names - GRAMMAR)
+    meant = f". Did you mean '{near}'{where(settler.place_of_name(near), found.place)}?" if near else ""
+    return Hint(found.place, f"'{found.name}' is set nowhere: not in this book, not in the inventory{meant}")
+
+
+def reading_hint(task, line, settler):
+    """A name that is set on some ways alone."""
+    for expression, node in read_places(task.words, task.asked):
+        for name in ordered_names(expression):
+            if name in PERHAPS_FACTS:
+                return Hint(node.place, f"'{name}' is a fact that is perhaps missing",
+                            f"Guard: when: {name} is defined, or {name} | default('')")
+            giver = settler.giver(name)
+            if giver is not None and giver is not task:
+                by = f"'{giver.name or giver.module()}'{where(giver.place, node.place)}"
+                return Hint(node.place, f"'{name}' is set by {by}, which some way to here passes by",
+                            f"Guard: when: {name} is defined")
+    node = first_text(task)
+    return Hint(node.place) if node is not None else None
+
+
+def missing(task, line, settler):
+    for expression, node in read_places(task.words, task.asked):
+        for path in re.findall(r"(?<![\w.])([A-Za-z_]\w*)\.([A-Za-z_]\w*)", without_texts(expression)):
+            giver = settler.giver(path[0])
+            if giver is not None:
+                return missing_of(path, node, giver, settler)
+    node = first_text(task)
+    return Hint(node.place) if node is not None else None
+
+
+def missing_of(path, node, giver, settler):
+    text = ".".join(path)
+    by = f"'{giver.name or giver.module()}'{where(giver.place, node.place)}"
+    when = settler.condition(giver)
+    if when is None:
+        return Hint(node.place, f"'{text}' isn't always in the answer of {by}",
+                    f"Guard: when: {text} is defined, or {text} | default('')")
+    return Hint(node.place, f"'{text}' is missing where {by} was skipped (its when: {shown(when)})",
+                f"Guard: when: {path[0]} is not skipped, or {text} | default('')")
+
+
+def wrong_kind(task, line, settler):
+    for key in CONDITIONS:
+        node = task.words.get(key)
+        if node is not None and all(re.fullmatch(r"[\w.]+", text.value) for text in texts_of(node)):
+            name = shown(node)
+            return Hint(key_place(task, (key,)) or node.place, f"{key}: '{name}' may be no truth value",
+                        f"Write a comparison, as {name} == '..' or {name} | length > 0")
+    node = first_text(task)
+    return Hint(node.place) if node is not None else None
+
+
+def unheard(task, line, settler):
+    handlers = [one for one in line.play.sections.get("handlers", []) if isinstance(one, Task)]
+    known = {one.name: one for one in handlers}
+    for one in handlers:
+        if "listen" in one.words:
+            known.update({text.value: one for text in texts_of(one.words.get("listen"))})
+    for text in texts_of(task.words.get("notify")):
+        if text.value not in known:
+            near = nearest(text.value, known)
+            meant = f". Did you mean '{near}'{where(known[near].place, text.place)}?" if near else ""
+            return Hint(text.place, f"no handler of the name '{text.value}'{meant}")
+    return None
+
+
+def parameter(task, line, settler):
+    module = task.module()
+    node = task.words.get(module) if module else None
+    known = set(settler.modules.parameters.get(module, {}))
+    if not isinstance(node, Mapping) or not known:
+        return None
+    for name in node.pairs:
+        if name not in known:
+            near = nearest(name, known)
+            meant = f" Did you mean '{near}'?" if near else ""
+            listed = " ".join(sorted(known)[:MOST_NAMES])
+            place = node.keys.get(name) or node.place
+            return Hint(place, f"{module} has no parameter '{name}'.{meant} Known: {listed}")
+    listed = " ".join(sorted(known)[:MOST_NAMES])
+    return Hint(node.place, f"a parameter of {module} that has to be there is missing. Known: {listed}")
+
+
+def reserved(task, line, settler):
+    node = task.written.get("register") or task.written.get("vars") or task.written.get(task.module() or "")
+    names = given_names(task) | names_of_vars(task.words)
+    detail = f"'{sorted(names)[0]}'" if len(names) == 1 else ""
+    return Hint(node.place, detail) if node is not None else None
+
+
+def chain(task, line, settler):
+    found = settler.cycle()
+    if not found:
+        return None
+    lines = [str(place.line) for _, place in found[:-1]]
+    told = f"line{'s' if len(lines) > 1 else ''} {', '.join(lines)}"
+    return Hint(found[0][1], f"vars go round: {' -> '.join(name for name, _ in found)} ({told})")
+
+
+def other_host(task, line, settler):
+    for expression, node in read_places(task.words, task.asked):
+        path = re.search(r"hostvars(?:\[[^\]]*\]|\.\w+)\.\w+", expression)
+        if path:
+            return Hint(node.place, f"'{path[0]}': that host may not have come so far, or may have left the run",
+                        f"Guard: when: {path[0]} is defined")
+    return None
+
+
+def several(task, line, settler):
+    found = [key for key in task.words.pairs if is_module(key)]
+    for key in found:
+        near = nearest(key, TASK_WORDS)
+        if near and key not in PROFILE:
+            return Hint(task.words.keys.get(key) or task.place, f"'{key}' is no keyword. Did you mean '{near}'?")
+    return Hint(task.place, f"modules: {', '.join(found) or 'none'}")

@@ -1,0 +1,100 @@
+# Patterns of hosts that the profile lacks are put in as the hosts that they name; and Ansible's own localhost.
+import fnmatch
+import re
+
+from .nodes import has_template, is_text, made, texts_of
+
+LOCAL = ("localhost", "127.0.0.1", "::1")
+NO_MATCH = "no host of the inventory is of the play's `hosts`, so Ansible passes it over"
+
+
+def host_patterns(play, inventory, added):
+    """Names the hosts of a pattern with `!`, `&`, `*`, `~` or a range, and of `all` where a localhost was added."""
+    node = play.words.get("hosts")
+    texts = [text.value for text in texts_of(node) if is_text(text)] if node is not None else []
+    if not texts or any(has_template(text) for text in texts):
+        return
+    words = [word for text in texts for word in divided(text)]
+    hides_local = added and not set(words) & set(LOCAL) and set(words) & {"all", "ungrouped"}
+    if not hides_local and not any(re.search(r"[!&*~\[?]", word) for word in words):
+        return
+    found = matched(words, inventory, added)
+    if found is None:
+        return
+    if not found:
+        play.reason = play.reason or NO_MATCH
+        return
+    play.words.put("hosts", made(found, node.place))
+
+
+def divided(text):
+    """The words of a pattern: a colon in brackets is that of a range."""
+    return [word.strip() for word in re.split(r"[,:](?![^\[\]]*\])", text) if word.strip()]
+
+
+def matched(words, inventory, added):
+    """The hosts of a pattern by Ansible's rules, or None where a word of it names nothing."""
+    hosts = []
+    first = [word for word in words if word[0] not in "!&"] or ["all"]
+    for word in first:
+        some = of_word(word, inventory, added)
+        if some is None:
+            return None
+        hosts += [host for host in some if host not in hosts]
+    for sign in "&!":
+        for word in (word[1:].strip() for word in words if word[0] == sign):
+            some = of_word(word, inventory, added)
+            if some is None:
+                return None
+            hosts = [host for host in hosts if (host in some) == (sign == "&")]
+    return hosts
+
+
+def of_word(word, inventory, added):
+    match = re.fullmatch(r"(.+)\[(-?\d+)(?:(:)(-?\d*))?\]", word)
+    if match:
+        some = of_word(match[1], inventory, added)
+        return None if some is None else ranged(some, match)
+    if word in ("all", "*"):
+        return [host for host in inventory.all_hosts() if host not in added]
+    if word == "ungrouped":
+        grouped = {host for name in inventory.groups if name not in ("all", "ungrouped")
+                   for host in inventory.groups[name]["hosts"]}
+        return [host for host in inventory.all_hosts() if host not in added and host not in grouped]
+    if word.startswith("~") or re.search(r"[*?\[]", word):
+        return of_glob(word, inventory, added)
+    if word in inventory.hosts or word in inventory.groups:
+        return inventory.hosts_of(word)
+    return None
+
+
+def of_glob(word, inventory, added):
+    try:
+        pattern = re.compile(word[1:] if word.startswith("~") else fnmatch.translate(word))
+    except re.error:
+        return None
+    found = []
+    for name in [*inventory.groups, *inventory.hosts]:
+        if pattern.match(name) and name not in added:
+            found += [host for host in inventory.hosts_of(name) if host not in found]
+    return found
+
+
+def ranged(hosts, match):
+    """The part of a list that `[1]`, `[0:3]` or `[1:]` names; its end is of it."""
+    first = int(match[2])
+    if not match[3]:
+        return hosts[first:first + 1] if first >= 0 else hosts[first:][:1]
+    last = int(match[4]) if match[4] else -1
+    return hosts[first:last + 1 if last != -1 else None]
+
+
+def with_localhost(inventory, plays):
+    """Adds the localhost that Ansible has of itself, where a play names it and the inventory lacks it."""
+    named = {word for play in plays if play.words.get("hosts") is not None
+             for text in texts_of(play.words.get("hosts")) if is_text(text) for word in divided(text.value)}
+    missing = [name for name in LOCAL if name in named and name not in inventory.hosts
+               and name not in inventory.groups]
+    for name in missing:
+        inventory.hosts[name] = {}
+    return missing

@@ -1,0 +1,138 @@
+# Counts the lines of a book as docs/REFUSALS.md says, prints its JSON, and keeps what each line is.
+from dataclasses import dataclass, field
+from typing import Optional
+
+from .books import PARTS, SECTIONS, Block, Play, Raw, Task
+from .nodes import Scalar, has_template, is_text, plain, texts_of
+
+
+@dataclass
+class Line:
+    kind: str  # play, facts, block, task, handler, asked (what a task's words ask)
+    play: Optional[Play]
+    step: Optional[object] = None
+
+    @property
+    def source(self):
+        return self.step or self.play
+
+    @property
+    def place(self):
+        return self.source.place
+
+    @property
+    def name(self):
+        return self.source.name if self.source else ""
+
+
+@dataclass
+class Numbered:
+    """A book as the program reads it, and its lines: number n stands at lines[n]."""
+
+    json: object
+    lines: list = field(default_factory=lambda: [None])
+
+
+class Printer:
+    def __init__(self, unjudged_module):
+        self.unjudged_module = unjudged_module
+        self.lines = [None]
+
+    def book(self, book):
+        if book.node is not None:
+            return Numbered(plain(book.node), self.lines)
+        plays = [self.play(play) for play in book.plays]
+        return Numbered(plays, self.lines)
+
+    def play(self, play):
+        if isinstance(play, Raw):
+            self.lines.append(Line("play", None, play))
+            return plain(play.node)
+        self.lines.append(Line("play", play))
+        printed = {key: plain(part) for key, part in play.words.pairs.items()}
+        if printed.get("gather_facts") is True:
+            self.lines.append(Line("facts", play))
+        asked = self.asked(play, play.asked, {}, play)
+        for section in SECTIONS:
+            steps = play.sections.get(section)
+            if steps or (asked and section == "tasks"):
+                printed[section] = asked + self.steps(steps or [], play)
+                asked = []
+        handlers = play.sections.get("handlers")
+        if handlers:
+            printed["handlers"] = self.steps(handlers, play)
+        return printed
+
+    def steps(self, steps, play):
+        printed = []
+        for step in steps:
+            if isinstance(step, Block):
+                printed.append(self.block(step, play))
+            elif isinstance(step, Task):
+                printed += self.task(step, play)
+            else:
+                self.lines.append(Line("task", play, step))
+                printed.append(plain(step.node))
+        return printed
+
+    def block(self, block, play):
+        self.lines.append(Line("block", play, block))
+        printed = {key: plain(part) for key, part in block.words.pairs.items() if key not in PARTS}
+        asked = self.asked(block, block.asked, {}, play)
+        for part in PARTS:
+            steps = block.parts.get(part)
+            if steps is None:
+                continue
+            printed[part] = asked + self.steps(steps, play)
+            asked = []
+        return printed
+
+    def task(self, task, play):
+        kind = "handler" if task.is_handler else "task"
+        scope = {key: plain(task.words.get(key)) for key in ("when", "loop", "vars") if key in task.words}
+        asked = [] if task.reason and not task.is_still_asked else self.asked(task, task.asked, scope, play)
+        if task.reason:
+            self.lines.append(Line(kind, play, task))
+            return [*asked, self.unjudged(task, play)]
+        self.lines.append(Line(kind, play, task))
+        return [*asked, {key: plain(part) for key, part in task.words.pairs.items()}]
+
+    def asked(self, source, values, scope, play):
+        """A message of the templates that stand in words which are passed over, so that they are asked."""
+        texts = [text.value for value in values for text in texts_of(value) if has_template(text.value)]
+        if not texts:
+            return []
+        self.lines.append(Line("asked", play, source))
+        return [{"debug": {"msg": texts}, **scope}]
+
+    def unjudged(self, task, play):
+        """A call that may change or fail, in the place of a task that isn't judged."""
+        printed = {self.unjudged_module: None}
+        name = task.words.get("name")
+        if is_text(name) and not (task.is_handler and has_template(name.value)):
+            printed["name"] = name.value
+        topics = [text.value for text in texts_of(task.words.get("listen")) if not has_template(text.value)]
+        if task.is_handler and topics:
+            printed["listen"] = topics
+        ignores = task.words.get("ignore_errors")
+        if isinstance(ignores, Scalar) and ignores.value is True:
+            printed["ignore_errors"] = True
+        notified = self.notified(task, play)
+        if notified:
+            printed["notify"] = notified
+        return printed
+
+    def notified(self, task, play):
+        written = task.words.get("notify")
+        texts = [text.value for text in texts_of(written)] if written is not None else []
+        texts = [*texts, *task.notifies]
+        if task.notifies_any or any(has_template(text) for text in texts):
+            texts = [text for text in texts if not has_template(text)] + later_handlers(task, play)
+        return list(dict.fromkeys(texts))
+
+
+def later_handlers(task, play):
+    """The names of the handlers that a task may notify: of a handler those that stand behind it."""
+    handlers = play.sections.get("handlers", [])
+    at = next((index for index, handler in enumerate(handlers) if handler is task), -1)
+    return [handler.name for handler in handlers[at + 1:] if handler.name]

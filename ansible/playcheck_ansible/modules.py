@@ -1,0 +1,131 @@
+# What playcheck and Ansible know of modules: the profile's parameters, Ansible's further ones, and files of signatures.
+import json
+from dataclasses import dataclass, field
+
+from .problems import Place, Problem
+
+PREFIXES = ("ansible.builtin.", "ansible.legacy.")
+PROGRAM = {"cmd": "text", "chdir": "text", "creates": "text", "removes": "text"}
+# The parameters of the modules of the profile, with their kinds: docs/LANGUAGE.md.
+PROFILE = {
+    "ping": {"data": "text"},
+    "command": PROGRAM,
+    "shell": PROGRAM,
+    "stat": {"path": "text"},
+    "copy": {"dest": "text", "src": "text", "content": "text", "mode": "text"},
+    "file": {"path": "text", "state": "text", "mode": "text", "owner": "text", "group": "text"},
+    "service": {"name": "text", "state": "text", "enabled": "bool"},
+    "setup": {"gather_subset": "list"},
+    "debug": {"msg": "any"},
+    "set_fact": {},
+    "assert": {"that": "conditions", "fail_msg": "text"},
+    "fail": {"msg": "text"},
+    "meta": {},
+}
+# Other names of the same parameters.
+ALIASES = {
+    "file": {"dest": "path", "name": "path"},
+    "stat": {"dest": "path", "name": "path"},
+    "assert": {"msg": "fail_msg"},
+}
+# Ansible's further parameters that change nothing in the fields of the profile's shapes.
+PASSED_OVER = {
+    "command": {"stdin", "stdin_add_newline", "strip_empty_ends", "warn", "executable", "expand_argument_vars"},
+    "shell": {"stdin", "stdin_add_newline", "strip_empty_ends", "warn", "executable"},
+    "stat": {"follow", "get_checksum", "checksum_algorithm", "get_mime", "get_attributes", "get_md5", "checksum",
+             "checksum_algo", "mime", "mime_type", "mime-type", "attr", "attributes"},
+    "copy": {"attributes", "attr", "backup", "checksum", "decrypt", "directory_mode", "follow", "force", "group",
+             "local_follow", "owner", "remote_src", "selevel", "serole", "setype", "seuser", "unsafe_writes",
+             "validate"},
+    "file": {"access_time", "access_time_format", "attributes", "attr", "follow", "force", "modification_time",
+             "modification_time_format", "recurse", "selevel", "serole", "setype", "seuser", "src", "unsafe_writes"},
+    "service": {"arguments", "args", "pattern", "runlevel", "sleep", "use"},
+    "assert": {"quiet", "success_msg"},
+}
+# Ansible's further parameters that do.
+CHANGES_FLOW = {"setup": {"filter", "fact_path", "gather_timeout"}, "debug": {"verbosity"}}
+FREE_FORM = ("command", "shell")
+INCLUDES = ("include", "include_tasks", "import_tasks", "include_role", "import_role", "import_playbook")
+# Modules that may set names or groups which the book doesn't show.
+SETS_UNSEEN = ("include_vars", "package_facts", "service_facts", "set_stats", "gather_facts", "add_host", "group_by")
+BOOL_FIELD = {"kind": "bool", "always": True}
+FAILURE = {"changed": BOOL_FIELD, "msg": {"kind": "text", "always": True}}
+MOST_DECLARED = 256
+
+
+@dataclass
+class Modules:
+    """The modules that a book may call: the profile's, and those of a file of signatures."""
+
+    declared: list = field(default_factory=list)
+
+    def __post_init__(self):
+        self.parameters = dict(PROFILE)
+        self.aliases = {name: dict(given) for name, given in ALIASES.items()}
+        self.asked = {name: set(given) for name, given in PASSED_OVER.items()}
+        self.written = {}  # Ansible's name of a module to the one that it is declared under
+        self.documented = {}  # the fields of a module whose signature comes of its documentation
+        for module in self.declared:
+            params = module.get("params", {})
+            self.parameters[module["name"]] = {name: kind_of(param) for name, param in params.items()}
+            self.take_documented(module)
+
+    def take_documented(self, module):
+        further = module.get("ansible")
+        if isinstance(further, dict):
+            name = module["name"]
+            self.written[further.get("name", name)] = name
+            self.aliases[name] = dict(further.get("aliases") or {})
+            self.asked[name] = set(further.get("asked") or [])
+            self.documented[name] = set(module.get("ok") or {})
+
+    def has(self, name):
+        return name in self.parameters
+
+    def unjudged_name(self):
+        """The name of the module that stands in the place of a task that isn't judged."""
+        name = "not_judged"
+        while self.has(name):
+            name += "_"
+        return name
+
+    def signatures(self, book):
+        """The signatures that the program is given, and that of the module in a task's place."""
+        declared = [{key: part for key, part in module.items() if key != "ansible"} for module in self.declared]
+        if len(declared) >= MOST_DECLARED:
+            used = {key for task in book.tasks() for key in task.words.pairs}
+            declared = [module for module in declared if module["name"] in used]
+        return [*declared, {"name": self.unjudged_name(), "params": {}, "ok": {"changed": BOOL_FIELD},
+                            "failure": FAILURE}]
+
+
+def kind_of(param):
+    kind = param.get("kind") if isinstance(param, dict) else None
+    if isinstance(kind, str):
+        return kind
+    return "list" if isinstance(kind, dict) and "list" in kind else "rec"
+
+
+def read_signatures(paths):
+    declared = []
+    for path in paths:
+        try:
+            with open(path, encoding="utf-8") as file:
+                found = json.load(file)
+        except OSError as error:
+            raise Problem(Place(path), error.strerror or str(error)) from None
+        except (ValueError, RecursionError) as error:
+            raise Problem(Place(path), f"this is no JSON: {error}") from None
+        if not isinstance(found, list) or not all(isinstance(module, dict) and isinstance(module.get("name"), str)
+                                                  and isinstance(module.get("params"), dict) for module in found):
+            raise Problem(Place(path), "a list of modules with `name` and `params` is wanted")
+        declared += found
+    return Modules(declared)
+
+
+def short_name(key):
+    """A module's name without the prefix that says it is Ansible's own."""
+    for prefix in PREFIXES:
+        if key.startswith(prefix):
+            return key[len(prefix):]
+    return key

@@ -1,0 +1,122 @@
+# Which names a task's texts mention, and which it gives: by their letters alone, so rather too many than too few.
+import re
+
+from .nodes import Mapping, is_text, texts_of
+
+NAME = re.compile(r"[A-Za-z_][A-Za-z0-9_]*")
+READ = re.compile(r"(?<![A-Za-z0-9_.])(?<!\.\s)[A-Za-z_][A-Za-z0-9_]*")
+TEMPLATE = re.compile(r"\{\{(.*?)\}\}|\{%(.*?)%\}", re.S)
+FACT = re.compile(r"\bansible_facts\s*(?:\.\s*|\[\s*['\"])([A-Za-z_]\w*)")
+CONDITIONS = ("when", "changed_when", "failed_when", "until")
+FACTS = ("ansible_hostname", "ansible_system", "ansible_os_family", "ansible_distribution", "ansible_processor_vcpus",
+         "ansible_memtotal_mb")
+KNOWN = {"inventory_hostname", "groups", "group_names", "hostvars", "ansible_play_batch", "item",
+         "ansible_failed_result", "ansible_facts", *FACTS}
+GRAMMAR = {"and", "or", "not", "in", "is", "true", "false", "True", "False", "none", "None", "if", "else", "default",
+           "length", "join", "defined", "undefined", "failed", "succeeded", "changed", "skipped"}
+# Names that Ansible itself gives and the profile lacks, beside all that begin with `ansible_`.
+MAGIC = {"playbook_dir", "role_path", "role_name", "inventory_dir", "inventory_file", "play_hosts", "omit", "vars",
+         "environment", "inventory_hostname_short", "lookup", "query", "q", "now", "range", "undef"}
+
+
+def expressions_in(text):
+    """The expressions of a template's text."""
+    return [found[0] or found[1] for found in TEMPLATE.findall(text)]
+
+
+def expression_names(text):
+    """The names that an expression may read; those in its texts too where it reads other hosts."""
+    if "hostvars" in text or "vars" in text or "lookup" in text:
+        return set(NAME.findall(text))
+    return set(READ.findall(without_texts(text)))
+
+
+def without_texts(text):
+    """An expression with its texts blanked, but for those that are steps of a path."""
+    return re.sub(r"'(?:[^'\\]|\\.)*'|\"(?:[^\"\\]|\\.)*\"", lambda found: " " * len(found[0]), text)
+
+
+def read_places(words, asked=()):
+    """Each expression of a task's words, with the node in which it stands."""
+    for key, node in words.pairs.items():
+        if key == "assert" and isinstance(node, Mapping):
+            for name, part in node.pairs.items():
+                yield from expressions_of(part, name == "that")
+        elif key not in ("name", "notify", "listen", "register"):
+            yield from expressions_of(node, key in CONDITIONS)
+    for node in asked:
+        yield from expressions_of(node, False)
+
+
+def expressions_of(node, is_condition):
+    for text in texts_of(node):
+        yield from [(text.value, text)] if is_condition else templates_in(text)
+
+
+def templates_in(text):
+    return ((expression, text) for expression in expressions_in(text.value))
+
+
+# Forms that no expression of the profile has, with what they are called; the program is asked about all others.
+FILTER = re.compile(r"\|\s*(?!(?:default|length|join)\b)([A-Za-z_]\w*)")
+TEST = re.compile(r"\bis\s+(?:not\s+)?(?!(?:not|defined|undefined|failed|succeeded|changed|skipped)\b)([A-Za-z_]\w*)")
+CALL = re.compile(r"(?<![\w.|])(?!(?:and|or|not|in|is)\b)([A-Za-z_]\w*)\(")
+METHOD = re.compile(r"\.([A-Za-z_]\w*)\(")
+# An index that is no text, but for hosts and groups.
+INDEX = re.compile(r"(?<![\w.\]])(?!(?:hostvars|groups)\b)[A-Za-z_]\w*(?:\.\w+|\[\s*\])*\[\s*(-?\d+|[A-Za-z_]\w*)\s*\]")
+FORMS = ((FILTER, "the filter `{}`"), (TEST, "the test `{}`"), (METHOD, "the call `.{}()`"),
+         (INDEX, "the index `[{}]`"),
+         (re.compile(r"[^\w.]if\s+(?=[\w(])"), "an inline `if`"),
+         (re.compile(r"[\w)\]]\s*([+*/%~])"), "arithmetic (`{}`)"))
+
+
+def outside_form(expression):
+    """What an expression has that the profile lacks, where that shows at once; else nothing."""
+    bare = without_texts(expression)
+    for pattern, what in FORMS:
+        found = pattern.search(bare)
+        if found:
+            return what.format(*found.groups())
+    called = CALL.search(re.sub(r"\|\s*\w+\(", " ", bare))
+    return f"the call `{called[1]}()`" if called else ""
+
+
+def outside_node(node, is_condition=False):
+    """The first such form in a node's expressions, and the text in which it stands."""
+    for text in texts_of(node):
+        if not is_condition and "{%" in text.value:
+            return "`{% .. %}`", text
+        for expression in [text.value] if is_condition else expressions_in(text.value):
+            what = outside_form(expression)
+            if what:
+                return what, text
+    return "", None
+
+
+def mentioned(words, asked=()):
+    """All names that a task's texts mention; a field of `ansible_facts` is named as the fact itself."""
+    names = set()
+    for expression, _ in read_places(words, asked):
+        names |= expression_names(expression)
+        names |= {f"ansible_{name.removeprefix('ansible_')}" for name in FACT.findall(expression)}
+    return names
+
+
+def given_names(task):
+    """The names that a task sets: its register, what `set_fact` sets, and what is known besides."""
+    names = set(task.gives)
+    register = task.words.get("register")
+    if is_text(register):
+        names.add(register.value)
+    for key in ("set_fact", "ansible.builtin.set_fact", "ansible.legacy.set_fact"):
+        node = task.words.get(key)
+        if isinstance(node, Mapping):
+            names |= set(node.pairs)
+        elif is_text(node):
+            names |= {word.partition("=")[0] for word in node.value.split() if "=" in word}
+    return names
+
+
+def names_of_vars(words):
+    node = words.get("vars")
+    return set(node.pairs) if isinstance(node, Mapping) else set()

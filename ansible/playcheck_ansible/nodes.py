@@ -1,0 +1,90 @@
+# The values of a YAML file, each with its place.
+from dataclasses import dataclass, field
+from typing import Any
+
+from .problems import Place
+
+
+@dataclass
+class Scalar:
+    value: Any  # None, a truth value, a number or a text
+    place: Place
+    text: str = ""  # as it is written
+    is_quoted: bool = False
+
+
+@dataclass
+class Sequence:
+    items: list
+    place: Place
+
+
+@dataclass
+class Mapping:
+    pairs: dict  # a key to its value, in the order of the file
+    place: Place
+    keys: dict = field(default_factory=dict)  # a key to its place
+    merged: set = field(default_factory=set)  # the keys that came by `<<`: those of its own may follow
+
+    def copy(self):
+        return Mapping(dict(self.pairs), self.place, dict(self.keys))
+
+    def get(self, key):
+        return self.pairs.get(key)
+
+    def put(self, key, node):
+        self.pairs[key] = node
+        self.keys.setdefault(key, node.place)
+
+    def take(self, key):
+        return self.pairs.pop(key, None)
+
+    def __contains__(self, key):
+        return key in self.pairs
+
+
+def made(value, place):
+    """The node of a plain value that no file holds, at the place for which it was made."""
+    if isinstance(value, (Scalar, Sequence, Mapping)):
+        return value
+    if isinstance(value, dict):
+        return Mapping({key: made(part, place) for key, part in value.items()}, place, dict.fromkeys(value, place))
+    if isinstance(value, list):
+        return Sequence([made(item, place) for item in value], place)
+    return Scalar(value, place, "" if value is None else str(value))
+
+
+def plain(node):
+    if isinstance(node, Mapping):
+        return {key: plain(part) for key, part in node.pairs.items()}
+    if isinstance(node, Sequence):
+        return [plain(item) for item in node.items]
+    return node.value
+
+
+def is_text(node):
+    return isinstance(node, Scalar) and isinstance(node.value, str)
+
+
+def is_nothing(node):
+    return isinstance(node, Scalar) and node.value is None
+
+
+def has_template(text):
+    return "{{" in text or "{%" in text or "{#" in text
+
+
+def texts_of(node):
+    """Each text in the node that isn't a key, with its place."""
+    if isinstance(node, Mapping):
+        for part in node.pairs.values():
+            yield from texts_of(part)
+    elif isinstance(node, Sequence):
+        for item in node.items:
+            yield from texts_of(item)
+    elif node is not None and isinstance(node.value, str):
+        yield node
+
+
+def is_literal(node):
+    return not any(has_template(text.value) for text in texts_of(node))

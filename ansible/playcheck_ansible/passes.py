@@ -1,0 +1,328 @@
+# The passes over a task: each takes what Ansible has and the profile lacks, and writes it as the profile has it.
+# docs/FROM_ANSIBLE.md says of each why it keeps the meaning.
+import re
+
+from .books import is_module
+from .modules import CHANGES_FLOW, FREE_FORM, SETS_UNSEEN, short_name
+from .nodes import Mapping, Scalar, Sequence, has_template, is_literal, is_nothing, is_text, made, plain, texts_of
+from .values import WHOLE, arguments_of, as_bool, as_int, converted
+
+# Words that change neither the flow nor the variables.
+PASSED = ("tags", "become", "become_exe", "become_flags", "become_method", "become_user", "environment", "no_log",
+          "connection", "collections", "delegate_to", "throttle", "timeout", "delay", "diff", "debugger", "port",
+          "remote_user")
+# Words that change the flow, unless they are false.
+FLOW = ("run_once", "any_errors_fatal", "ignore_unreachable", "delegate_facts", "check_mode", "async", "poll",
+        "module_defaults", "max_fail_percentage")
+TRUTHS = ("ignore_errors", "run_once", "any_errors_fatal", "ignore_unreachable", "delegate_facts", "check_mode",
+          "gather_facts", "force_handlers")
+EMPTY = {"text": "", "bool": False, "int": 0, "list": []}
+PATH = re.compile(r"[A-Za-z_][\w.'\"\[\]]*")
+ENDS = ("end_host", "end_play", "end_batch", "end_role")
+NO_FLOW = ("noop", "reset_connection")
+
+
+def run_passes(task, modules):
+    """All passes over a task, in their order; where one finds a form outside the profile the rest is left."""
+    for one in TASK_PASSES:
+        if task.reason:
+            return
+        one(task, modules)
+
+
+def plain_keywords(task, modules):
+    """`yes`, numbers as texts and nothing at all, as Ansible takes them for keywords."""
+    words = task.words
+    for key in TRUTHS:
+        if key in words:
+            words.put(key, as_bool(words.get(key)))
+    if "retries" in words:
+        words.put("retries", as_int(words.get("retries")))
+        if "until" not in words:
+            task.asked.append(words.take("retries"))
+    for key in ("name", "register"):
+        node = words.get(key)
+        if isinstance(node, Scalar) and isinstance(node.value, (int, float)):
+            words.put(key, made(node.text, node.place))
+    for key in ("when", "vars", "notify", "loop", "changed_when", "failed_when", "name", "tags", "args"):
+        if key in words and is_nothing(words.get(key)):
+            words.take(key)
+
+
+def plain_conditions(task, modules):
+    """A condition in braces is the expression itself."""
+    for key in ("when", "changed_when", "failed_when", "until"):
+        if key in task.words:
+            task.words.put(key, without_braces(task.words.get(key)))
+
+
+def without_braces(node):
+    if isinstance(node, Sequence):
+        return Sequence([without_braces(item) for item in node.items], node.place)
+    if is_whole(node):
+        return Scalar(node.value.strip()[2:-2].strip(), node.place, node.text, True)
+    return node
+
+
+def action_words(task, modules):
+    """`action` and `local_action` with a module's name become that module."""
+    for key in ("action", "local_action"):
+        node = task.words.take(key)
+        if node is None:
+            continue
+        if is_text(node):
+            name, _, text = node.value.strip().partition(" ")
+            arguments = made(text.strip() or None, node.place)
+        elif isinstance(node, Mapping) and is_text(node.get("module")):
+            name, arguments = node.get("module").value, node.copy()
+            arguments.take("module")
+        else:
+            task.leave(f"`{key}` without a module's name", node.place)
+            return
+        if has_template(name):
+            task.leave(f"`{key}` with a template as the module's name", node.place)
+            return
+        task.words.put(name, arguments)
+
+
+def plain_module_names(task, modules):
+    """A built-in module with its collection's name is the same module."""
+    for key in list(task.words.pairs):
+        name = short_name(key)
+        name = modules.written.get(name, name)
+        if name != key and is_module(key):
+            node, place = task.words.take(key), task.words.keys.get(key)
+            task.words.put(name, node)
+            task.words.keys[name] = place or node.place
+
+
+def name_value_texts(task, modules):
+    """`copy: src=a dest=b` becomes the object with these parameters."""
+    module = task.module()
+    node = task.words.get(module) if module else None
+    if not is_text(node) or module in FREE_FORM or module == "meta" or not modules.has(module):
+        return
+    found = arguments_of(node.value)
+    if found:
+        task.words.put(module, made(found, node.place))
+
+
+def merged_args(task, modules):
+    """`args` are parameters of the module; those that stand at the module itself win."""
+    given = task.words.take("args")
+    module = task.module()
+    if given is None or module is None:
+        return
+    if not isinstance(given, Mapping):
+        task.leave("`args` that is no mapping", given.place)
+        return
+    own = task.words.get(module)
+    merged = given.copy()
+    if is_text(own) and module in FREE_FORM:
+        merged.put("cmd", own)
+    elif isinstance(own, Mapping):
+        for key, part in own.pairs.items():
+            merged.put(key, part)
+    elif own is not None and not is_nothing(own):
+        task.leave("`args` beside arguments that are one text", given.place)
+        return
+    task.words.put(module, merged)
+
+
+def flow_words(task, modules):
+    """Words that change the flow, which the profile lacks: with them a task isn't judged."""
+    for key in FLOW:
+        node = task.words.get(key)
+        if node is None:
+            continue
+        is_off = isinstance(node, Scalar) and node.value in (False, None)
+        if is_off or (key == "poll" and "async" not in task.words):
+            task.words.take(key)
+        else:
+            task.leave(f"`{key}` changes the flow", node.place)
+            return
+    tags = task.words.get("tags")
+    if tags is not None and "never" in str(plain(tags)):
+        task.leave("with the tag `never` it is run only where it is asked for", tags.place)
+
+
+def passed_words(task, modules):
+    """Words that change neither the flow nor variables: their templates are asked, and they are passed over."""
+    for key in PASSED:
+        node = task.words.take(key)
+        if node is None:
+            continue
+        if task.is_handler and not is_literal(node):
+            task.leave(f"`{key}` of a handler holds a template", node.place)
+            return
+        task.asked.append(node)
+
+
+def loops(task, modules):
+    """`with_list`, and `with_items` one level flat, are `loop`; a label of `loop_control` is asked."""
+    if "with_list" in task.words:
+        task.words.put("loop", task.words.take("with_list"))
+    if "with_items" in task.words:
+        node = task.words.take("with_items")
+        flat = flat_items(node)
+        if flat is None:
+            task.leave("`with_items` with a list in a template beside others", node.place)
+            return
+        task.words.put("loop", flat)
+    for key in task.words.pairs:
+        if key.startswith("with_"):
+            task.leave(f"`{key}`", task.words.keys.get(key))
+            return
+    control = task.words.take("loop_control")
+    if control is None or is_nothing(control):
+        return
+    if not isinstance(control, Mapping) or set(control.pairs) - {"label", "pause"}:
+        task.leave("`loop_control` with more than `label` and `pause`", control.place)
+        return
+    task.asked += control.pairs.values()
+
+
+def flat_items(node):
+    """The items of `with_items`, or None where a template among them may be a list."""
+    if not isinstance(node, Sequence):
+        return node
+    items = []
+    for item in node.items:
+        if isinstance(item, Sequence):
+            items += item.items
+        elif is_whole(item):
+            return None
+        else:
+            items.append(item)
+    return Sequence(items, node.place)
+
+
+def known_module(task, modules):
+    """A task with another module than those of the profile and of the signatures isn't judged; its texts are asked."""
+    keys = [key for key in task.words.pairs if is_module(key)]
+    if len(keys) != 1 or modules.has(keys[0]):
+        return
+    module, node = keys[0], task.words.get(keys[0])
+    task.leave(f"the module `{module}` is neither built in nor declared", task.words.keys.get(module) or node.place)
+    if not task.is_handler and module not in SETS_UNSEEN:
+        task.is_still_asked = True
+        task.asked += [converted(text, "omitted") for text in texts_of(node)]
+
+
+def meta_actions(task, modules):
+    """Of `meta` the profile has `flush_handlers`; `noop` and `reset_connection` do nothing to the flow."""
+    node = task.words.get("meta")
+    if not is_text(node):
+        return
+    word = node.value.strip()
+    if word in NO_FLOW:
+        task.words.take("meta")
+        task.words.put("debug", made({"msg": ""}, node.place))
+    elif word != "flush_handlers":
+        task.ends_host = word in ENDS
+        task.sets_unseen = not task.ends_host
+        task.forgets = word in ("clear_facts", "clear_host_errors")
+        task.leave(f"`meta: {word}`", node.place)
+    elif "when" in task.words:
+        task.leave("`meta: flush_handlers` with a condition", node.place)
+    else:
+        for key in list(task.words.pairs):
+            if key not in ("meta", "name"):
+                task.words.take(key)
+
+
+def messages(task, modules):
+    """`debug: var` shows what it names, and says so where that isn't there; empty messages are Ansible's own."""
+    node = task.words.get("debug")
+    if "debug" in task.words and (is_nothing(node) or isinstance(node, Mapping)):
+        task.words.put("debug", shown(task, node if isinstance(node, Mapping) else Mapping({}, node.place)))
+    node = task.words.get("fail")
+    if "fail" in task.words and (is_nothing(node) or isinstance(node, Mapping) and "msg" not in node):
+        told = node.copy() if isinstance(node, Mapping) else Mapping({}, node.place)
+        told.put("msg", made("Failed as requested from task", node.place))
+        task.words.put("fail", told)
+
+
+def shown(task, node):
+    node = node.copy()
+    verbosity = node.take("verbosity")
+    if verbosity is not None and "register" in task.words:
+        task.leave("`verbosity` decides what is registered", verbosity.place)
+    name = node.take("var")
+    if name is None or "msg" in node:
+        if "msg" not in node:
+            node.put("msg", made("Hello world!", node.place))
+        return node
+    if is_text(name) and not has_template(name.value):
+        text = name.value.strip() + (" | default('')" if PATH.fullmatch(name.value.strip()) else "")
+        name = Scalar("{{ " + text + " }}", name.place, name.text, True)
+    node.put("msg", name)
+    return node
+
+
+def parameters(task, modules):
+    """Other names of a parameter, parameters that change nothing in the shape of an answer, and values' kinds."""
+    module = task.module()
+    node = task.words.get(module) if module else None
+    if not isinstance(node, Mapping):
+        return
+    node = node.copy()
+    task.words.put(module, node)
+    for name in list(node.pairs):
+        if name in CHANGES_FLOW.get(module, ()):
+            task.leave(f"the parameter `{name}` of {module} decides what it gives", node.keys.get(name))
+            return
+    if module == "set_fact":
+        facts(node, task)
+        return
+    if module in FREE_FORM and isinstance(node.get("argv"), Sequence):
+        words = [str(plain(item)) for item in node.take("argv").items]
+        node.put("cmd", made(" ".join(words), node.place))
+    rename(node, modules.aliases.get(module, {}))
+    pass_over_parameters(task, node, modules.asked.get(module, ()))
+    for name, kind in modules.parameters.get(module, {}).items():
+        if name not in node:
+            continue
+        if module in modules.documented and not task.is_handler and is_whole(node.get(name)):
+            # Ansible converts whatever the template gives: what is asked is that it gives anything.
+            task.asked.append(converted(node.get(name), "omitted"))
+            node.put(name, made(EMPTY.get(kind, ""), node.get(name).place))
+        else:
+            node.put(name, converted(node.get(name), kind, name))
+
+
+def is_whole(node):
+    return is_text(node) and WHOLE.fullmatch(node.value) is not None
+
+
+def rename(node, names):
+    for name, other in names.items():
+        if name in node and other not in node:
+            place = node.keys.get(name)
+            node.put(other, node.take(name))
+            node.keys[other] = place or node.place
+
+
+def pass_over_parameters(task, node, names):
+    for name in names:
+        if name not in node:
+            continue
+        part = node.take(name)
+        if task.is_handler and not is_literal(part):
+            task.leave(f"the parameter `{name}` of a handler holds a template", part.place)
+        else:
+            task.asked += [converted(text, "omitted") for text in texts_of(part)]
+
+
+def facts(node, task):
+    """Ansible makes truth values of these words in `set_fact`, and `cacheable` keeps facts for later runs."""
+    cacheable = node.take("cacheable")
+    if cacheable is not None:
+        task.asked.append(cacheable)
+    for name, part in node.pairs.items():
+        if is_text(part) and part.value.lower() in ("yes", "no", "true", "false"):
+            node.put(name, as_bool(part))
+
+
+TASK_PASSES = (plain_keywords, plain_conditions, action_words, plain_module_names, flow_words, name_value_texts,
+               merged_args, passed_words, loops, known_module, meta_actions, messages, parameters)

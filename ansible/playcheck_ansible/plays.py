@@ -1,0 +1,252 @@
+# The passes over plays and blocks: as those over tasks, see passes.py.
+import re
+
+from .books import SECTIONS, Block, Raw, Task, steps_below
+from .nodes import Mapping, Scalar, Sequence, has_template, is_nothing, is_text, made, plain
+from .passes import FLOW, PASSED, TRUTHS, run_passes, without_braces
+from .values import as_bool, as_int
+
+VARIABLE = re.compile(r"[A-Za-z_][A-Za-z0-9_]{0,127}")
+PLAY_PASSED = (*PASSED, "gather_subset", "gather_timeout", "fact_path", "order", "module_defaults")
+PLAY_FLOW = tuple(word for word in FLOW if word != "module_defaults")
+LOOKED_UP = re.compile(r"\{\{\s*([A-Za-z_]\w*)\s*(?:\|\s*default\(\s*(?:'([^']*)'|\"([^\"]*)\")\s*(?:,\s*[Tt]rue\s*)?\)"
+                       r"\s*)?\}\}")
+STRATEGIES = {"debug": "linear", "ansible.builtin.linear": "linear", "ansible.builtin.free": "free",
+              "ansible.builtin.debug": "linear"}
+
+
+def run_book_passes(book, modules, extra):
+    """All passes over a book: its plays, their blocks and their tasks."""
+    for play in book.plays:
+        if isinstance(play, Raw):
+            continue
+        for one in PLAY_PASSES:
+            one(play, extra)
+        for step in play.steps():
+            if isinstance(step, Block):
+                block_words(step, extra)
+            elif isinstance(step, Task):
+                take_extra(step.words, extra)
+                run_passes(step, modules)
+        if play.reason:
+            leave_all(play.tasks(), play.reason)
+
+
+def leave_all(tasks, reason):
+    for task in tasks:
+        task.leave(reason)
+
+
+def empty_sections(play, extra):
+    """A word without a value is none, and truth values, numbers and strategies are what Ansible makes of them."""
+    words = play.words
+    for key in (*SECTIONS, "handlers", "vars", "vars_files", "roles", "name", "gather_facts", "serial", "strategy"):
+        if key in words and is_nothing(words.get(key)):
+            words.take(key)
+    for key in TRUTHS:
+        if key in words:
+            words.put(key, as_bool(words.get(key)))
+    given = words.get("vars")
+    if isinstance(given, Sequence) and all(isinstance(item, Mapping) for item in given.items):
+        merged = Mapping({}, given.place)
+        for item in given.items:
+            for name, node in item.pairs.items():
+                merged.put(name, node)
+                merged.keys[name] = item.keys.get(name, node.place)
+        words.put("vars", merged)
+    strategy = words.get("strategy")
+    if is_text(strategy) and strategy.value in STRATEGIES:
+        words.put("strategy", made(STRATEGIES[strategy.value], strategy.place))
+    if "serial" in words:
+        words.put("serial", counts(words.get("serial")))
+    plain_name(words)
+
+
+def plain_name(words):
+    """A number as a name is a text; what is no single value is none."""
+    name = words.get("name")
+    if isinstance(name, Scalar) and not isinstance(name.value, str):
+        words.put("name", made(name.text, name.place))
+    elif name is not None and not isinstance(name, Scalar):
+        words.take("name")
+
+
+def counts(node):
+    if isinstance(node, Sequence):
+        return Sequence([as_int(item) for item in node.items], node.place)
+    return as_int(node)
+
+
+def gathered_facts(play, extra):
+    """Ansible gathers facts unless a play says that it doesn't."""
+    if "gather_facts" not in play.words:
+        play.words.put("gather_facts", made(True, play.place))
+    node = play.words.get("gather_facts")
+    subset = play.words.get("gather_subset")
+    if not isinstance(node, Scalar) or not isinstance(node.value, bool):
+        play.words.put("gather_facts", made(True, node.place))
+        leave_facts(play, "`gather_facts` is a template")
+    elif subset is not None and "!min" in str(plain(subset)):
+        leave_facts(play, "`gather_subset` leaves facts out that are else always there")
+
+
+def leave_facts(play, reason):
+    for name in ("ansible_facts", "ansible_hostname", "ansible_system"):
+        play.lost[name] = reason
+
+
+def prompted_variables(play, extra):
+    """A variable that is asked for at the start is a text."""
+    node = play.words.take("vars_prompt")
+    if not isinstance(node, Sequence):
+        return
+    given = play.words.get("vars")
+    merged = given.copy() if isinstance(given, Mapping) else Mapping({}, play.place)
+    for item in node.items:
+        name = item.get("name") if isinstance(item, Mapping) else None
+        if is_text(name):
+            merged.put(name.value, made("", name.place))
+    play.words.put("vars", merged)
+
+
+def extra_variables(play, extra):
+    """Variables of the command line win over all others: they stand at the play, and nowhere below it."""
+    take_extra(play.words, extra)
+    if not extra:
+        return
+    given = play.words.get("vars")
+    merged = given.copy() if isinstance(given, Mapping) else Mapping({}, play.place)
+    for name, node in extra.items():
+        merged.put(name, node)
+    play.words.put("vars", merged)
+
+
+def take_extra(words, extra):
+    given = words.get("vars")
+    if isinstance(given, Mapping) and any(name in extra for name in given.pairs):
+        kept = given.copy()
+        for name in extra:
+            kept.take(name)
+        words.put("vars", kept)
+
+
+def named_hosts(play, extra):
+    """A name of hosts that the command line gives is put in; another template leaves the play."""
+    node = play.words.get("hosts")
+    texts = node.items if isinstance(node, Sequence) else [node]
+    found = [looked_up(text, play, extra) for text in texts]
+    if any(is_text(text) and has_template(text.value) for text in found):
+        play.reason = play.reason or "the play's `hosts` are a template"
+        play.words.put("hosts", made("all", node.place))
+    elif node is not None:
+        play.words.put("hosts", Sequence(found, node.place) if isinstance(node, Sequence) else found[0])
+
+
+def looked_up(node, play, extra):
+    if not is_text(node):
+        return node
+    given = play.words.get("vars")
+    known = {**(given.pairs if isinstance(given, Mapping) else {}), **extra}
+
+    def value(match):
+        text = known.get(match[1])
+        if is_text(text) and not has_template(text.value):
+            return text.value
+        default = match[2] if match[2] is not None else match[3]
+        return default if default is not None and match[1] not in known else match[0]
+
+    return Scalar(LOOKED_UP.sub(value, node.value), node.place, node.text, True)
+
+
+def play_words(play, extra):
+    """As of tasks: what changes the flow leaves all tasks of the play, the rest is asked and passed over."""
+    bars = [word for word in PLAY_FLOW if is_on(play.words.take(word), word, play)]
+    if bars:
+        play.reason = play.reason or f"`{bars[0]}` of the play changes the flow"
+    for word in PLAY_PASSED:
+        node = play.words.take(word)
+        if word == "module_defaults" and node is not None and not is_nothing(node):
+            play.reason = play.reason or "`module_defaults` give parameters"
+        elif word == "order" and node is not None and "serial" in play.words:
+            play.reason = play.reason or "`order` decides which hosts are in a batch"
+        elif word == "tags" and node is not None and "never" in str(plain(node)):
+            play.reason = play.reason or "with the tag `never` it is run only where it is asked for"
+        elif node is not None:
+            play.asked.append(node)
+    lost_variables(play)
+
+
+def is_on(node, word, play):
+    """Whether a word that changes the flow does so here: where nothing is rescued, a play's end is a host's end."""
+    if node is None or isinstance(node, Scalar) and node.value in (False, None):
+        return False
+    if word in ("any_errors_fatal", "max_fail_percentage"):
+        forced = play.words.get("force_handlers")
+        parts = any({"rescue", "always"} & set(step.parts) for step in play.steps() if isinstance(step, Block))
+        return parts or (isinstance(forced, Scalar) and forced.value is True)
+    return True
+
+
+def lost_variables(holder):
+    """Variables that the profile can't have: a name that no expression reads, a decimal number."""
+    given = holder.words.get("vars")
+    if not isinstance(given, Mapping):
+        return
+    kept = given.copy()
+    for name, node in given.pairs.items():
+        if not VARIABLE.fullmatch(name):
+            kept.take(name)
+        elif has_decimal(node):
+            kept.take(name)
+            holder.lost[name] = f"'{name}' holds a decimal number"
+    holder.words.put("vars", kept)
+
+
+def has_decimal(node):
+    if isinstance(node, Mapping):
+        return any(has_decimal(part) for part in node.pairs.values())
+    if isinstance(node, Sequence):
+        return any(has_decimal(item) for item in node.items)
+    return isinstance(node.value, float) or isinstance(node.value, int) and not -2**63 <= node.value < 2**63
+
+
+def block_words(block, extra):
+    """The words of a block, as of a play; what it notifies its tasks notify."""
+    words = block.words
+    take_extra(words, extra)
+    for key in ("when", "vars", "name", "ignore_errors"):
+        if key in words and is_nothing(words.get(key)):
+            words.take(key)
+    if "ignore_errors" in words:
+        words.put("ignore_errors", as_bool(words.get("ignore_errors")))
+    if "when" in words:
+        words.put("when", without_braces(words.get("when")))
+    plain_name(words)
+    below = [step for step in steps_below([block]) if isinstance(step, Task)]
+    for word in FLOW:
+        node = words.take(word)
+        if node is not None and not (isinstance(node, Scalar) and node.value in (False, None)):
+            leave_all(below, f"`{word}` of its block changes the flow")
+    tags = words.get("tags")
+    if tags is not None and "never" in str(plain(tags)):
+        leave_all(below, "with the tag `never` its block is run only where it is asked for")
+    for word in PASSED:
+        node = words.take(word)
+        if node is not None:
+            block.asked.append(node)
+    notify_below(words.take("notify"), below)
+    lost_variables(block)
+
+
+def notify_below(node, tasks):
+    """What a block notifies each of its tasks does, beside what it notifies itself."""
+    if node is None:
+        return
+    for task in tasks:
+        own = task.words.get("notify")
+        items = [part for one in (own, node) if one is not None
+                 for part in (one.items if isinstance(one, Sequence) else [one])]
+        task.words.put("notify", Sequence(items, node.place))
+
+
+PLAY_PASSES = (empty_sections, prompted_variables, extra_variables, named_hosts, gathered_facts, play_words)

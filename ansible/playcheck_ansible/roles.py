@@ -1,0 +1,171 @@
+# Roles with literal names put in place: their tasks, handlers, defaults and variables.
+import os
+from dataclasses import dataclass, field
+
+from .books import items_of
+from .nodes import Mapping, Sequence, has_template, is_nothing, is_text, made
+from .positions import read_file
+from .problems import Place, Problem
+
+SUFFIXES = (".yml", ".yaml", ".json")
+# Words beside a role's name that aren't variables of it.
+ROLE_WORDS = {"role", "name", "vars", "when", "tags", "become", "become_user", "become_method", "become_flags",
+              "environment", "delegate_to", "ignore_errors", "no_log", "connection", "collections", "remote_user"}
+INCLUDE_WORDS = {"name", "tasks_from", "vars_from", "defaults_from", "handlers_from", "public", "apply",
+                 "allow_duplicates", "rolespec_validate"}
+
+
+@dataclass
+class Role:
+    name: str
+    folder: str
+    words: Mapping  # what stands beside its name
+    defaults: dict = field(default_factory=dict)
+    variables: dict = field(default_factory=dict)
+    tasks: list = field(default_factory=list)  # nodes
+    tasks_file: str = ""
+    handlers: list = field(default_factory=list)
+    handlers_file: str = ""
+    needs: list = field(default_factory=list)  # nodes of the roles that run before it
+
+
+def role_of(node, context, is_include=False):
+    """The role that a node names, or None where it can't be put in place."""
+    words = node.copy() if isinstance(node, Mapping) else Mapping({"name": node}, node.place)
+    named = words.take("role") or words.take("name")
+    words.take("name")
+    if not is_text(named) or has_template(named.value):
+        return None
+    folder = role_folder(named.value.strip(), context)
+    if folder is None:
+        return None
+    if is_include and set(words.pairs) - {"public", "allow_duplicates", "rolespec_validate", "tasks_from"}:
+        return None
+    start = words.take("tasks_from") if is_include else None
+    if start is not None and (not is_text(start) or has_template(start.value)):
+        return None
+    return read_role(named.value.strip(), folder, words, start.value if start is not None else "main")
+
+
+def role_folder(name, context):
+    base = context.book_folder
+    for start in (os.path.join(base, "roles"), base, os.path.join(base, "..", "roles"),
+                  os.path.dirname(os.path.dirname(os.path.dirname(context.file))) or "."):
+        path = os.path.normpath(os.path.join(start, name))
+        if any(os.path.isdir(os.path.join(path, part)) for part in ("tasks", "handlers", "defaults", "vars", "meta")):
+            return path
+    return None
+
+
+def read_role(name, folder, words, start):
+    role = Role(name, folder, words)
+    role.defaults = pairs_of(role_file(folder, "defaults", "main"))
+    role.variables = pairs_of(role_file(folder, "vars", "main"))
+    role.tasks_file = role_file(folder, "tasks", start) or ""
+    role.tasks = list_of(role.tasks_file)
+    role.handlers_file = role_file(folder, "handlers", "main") or ""
+    role.handlers = list_of(role.handlers_file)
+    meta = role_file(folder, "meta", "main")
+    node = read_file(meta) if meta else None
+    role.needs = items_of(node.get("dependencies")) or [] if isinstance(node, Mapping) else []
+    return role
+
+
+def role_file(folder, part, name):
+    for suffix in ("", *SUFFIXES):
+        path = os.path.join(folder, part, name + suffix)
+        if os.path.isfile(path):
+            return path
+    return None
+
+
+def pairs_of(path):
+    node = read_file(path) if path else None
+    if node is None or is_nothing(node):
+        return {}
+    if not isinstance(node, Mapping):
+        raise Problem(node.place, "a mapping of variables is wanted")
+    return node.pairs
+
+
+def list_of(path):
+    node = read_file(path) if path else None
+    found = items_of(node) if node is not None else []
+    if found is None:
+        raise Problem(Place(path), "a list of tasks is wanted")
+    return found
+
+
+def own_variables(role):
+    """A role's variables, with those that stand beside its name, which win over them."""
+    beside = role.words.get("vars")
+    own = {name: part for name, part in role.words.pairs.items() if name not in ROLE_WORDS | INCLUDE_WORDS}
+    return {**role.variables, **own, **(beside.pairs if isinstance(beside, Mapping) else {})}
+
+
+def block_words(role, place):
+    """The words of the block that stands for a role: what is beside its name, and its variables."""
+    words = Mapping({key: part for key, part in role.words.pairs.items()
+                     if key in ROLE_WORDS and key not in ("vars", "role", "name")}, place)
+    given = own_variables(role)
+    if given:
+        words.put("vars", Mapping(given, place))
+    return words
+
+
+def put_handlers(play, role, handlers):
+    """Adds a role's handlers to its play, each with the role's variables and its longer name as a topic."""
+    there = {handler.name: handler for handler in play.sections.get("handlers", []) if handler.name}
+    for handler in handlers:
+        other = there.get(handler.name)
+        if other is not None:
+            if handler.place != other.place:
+                other.leave(f"two handlers have the name '{handler.name}'")
+            continue
+        give_variables(handler, own_variables(role))
+        if handler.name:
+            topics = handler.words.get("listen")
+            topics = topics.items if isinstance(topics, Sequence) else [topics] if topics is not None else []
+            longer = made(f"{role.name} : {handler.name}", handler.place)
+            handler.words.put("listen", Sequence([*topics, longer], handler.place))
+            there[handler.name] = handler
+        play.sections.setdefault("handlers", []).append(handler)
+
+
+def give_variables(task, given):
+    own = task.words.get("vars")
+    merged = {**given, **(own.pairs if isinstance(own, Mapping) else {})}
+    if merged:
+        task.words.put("vars", Mapping(merged, task.place))
+
+
+def put_play_variables(play, roles):
+    """What the roles of a play give, all of the play sees; a name that two of them give otherwise isn't judged."""
+    given, defaults = {}, {}
+    pairs = [(known, name, node) for role in roles
+             for known, more in ((given, role.variables), (defaults, role.defaults)) for name, node in more.items()]
+    for known, name, node in pairs:
+        if name in known and known[name].place != node.place:
+            play.lost[name] = f"two roles give '{name}'"
+        known[name] = node
+    own = play.words.get("vars")
+    if given and (own is None or isinstance(own, Mapping)):
+        play.words.put("vars", Mapping({**(own.pairs if own is not None else {}), **given}, play.place))
+    play.defaults.update(defaults)
+
+
+def put_defaults(holder, play, inventory):
+    """Gives the defaults of roles where nothing else gives the name; where only some hosts have it, it isn't judged."""
+    own, outer = holder.words.get("vars"), play.words.get("vars")
+    if own is not None and not isinstance(own, Mapping):
+        return
+    merged = own.copy() if own is not None else Mapping({}, holder.place)
+    for name, node in holder.defaults.items():
+        if name in merged or isinstance(outer, Mapping) and name in outer:
+            continue
+        if name not in inventory.names():
+            merged.put(name, node)
+        elif not inventory.all_have(name):
+            holder.lost[name] = f"the inventory gives '{name}' to some hosts, and a role to the others"
+    if merged.pairs:
+        holder.words.put("vars", merged)

@@ -1,0 +1,90 @@
+# What a book gives to its tasks: names, the places where they are given, and the blocks round a task.
+from .books import Block, Play, Raw
+from .names import KNOWN, given_names, mentioned, names_of_vars
+from .nodes import Mapping
+
+
+class Scope:
+    def __init__(self, book, inventory):
+        self.book = book
+        self.outside = inventory.names()
+        self.plays = [play for play in book.plays if isinstance(play, Play)]
+        self.tasks = book.tasks()
+        self.given_names = None
+        self.holders = {}  # a task to the blocks round it, the innermost first, and its play
+        for play in self.plays:
+            for section in play.sections.values():
+                self.hold(section, [play])
+
+    def hold(self, steps, holders):
+        for step in steps:
+            if isinstance(step, Block):
+                for part in step.parts.values():
+                    self.hold(part, [step, *holders])
+            else:
+                self.holders[id(step)] = holders
+
+    def given(self):
+        """All names that the book gives."""
+        if self.given_names is None:
+            self.given_names = set().union(*(given_names(task) for task in self.tasks),
+                                           *(names_of_vars(step.words) for play in self.plays
+                                             for step in [play, *play.steps()] if not isinstance(step, Raw)))
+        return self.given_names
+
+    def names_in_scope(self, task):
+        """All names that anything gives; `item` in a loop alone."""
+        names = set().union(self.outside, KNOWN, *(given_names(one) for one in self.tasks),
+                            *(names_of_vars(holder.words) for holder in [task, *self.holders.get(id(task), [])]))
+        return names if "loop" in task.words else names - {"item"}
+
+    def giver(self, name):
+        """The first task that gives a name."""
+        return next((task for task in self.tasks if name in given_names(task)), None)
+
+    def condition(self, task):
+        """The condition of a task, or of the innermost block round it that has one."""
+        found = [one.words.get("when") for one in [task, *self.holders.get(id(task), [])] if "when" in one.words]
+        return found[0] if found else None
+
+    def place_of_name(self, name):
+        """Where a name is given first: by a task, else by `vars`."""
+        giver = self.giver(name)
+        if giver is not None:
+            return giver.place
+        for play in self.plays:
+            for step in [play, *play.steps()]:
+                given = step.words.get("vars") if not isinstance(step, Raw) else None
+                if isinstance(given, Mapping) and name in given:
+                    return given.keys.get(name) or given.get(name).place
+        return None
+
+    def cycle(self):
+        """Names of `vars` that name each other in a circle, with their places, the first one again at the end."""
+        places, reads = {}, {}
+        for play in self.plays:
+            for step in [play, *play.steps()]:
+                given = step.words.get("vars") if not isinstance(step, Raw) else None
+                for name, node in given.pairs.items() if isinstance(given, Mapping) else ():
+                    places[name] = given.keys.get(name) or node.place
+                    reads[name] = sorted(mentioned(Mapping({"vars": node}, node.place)))
+        for start in reads:
+            path = path_back(start, reads)
+            if path:
+                return [(name, places[name]) for name in path]
+        return []
+
+
+def path_back(start, reads):
+    """The shortest way along names that are read from a name back to it."""
+    ways = [[start]]
+    seen = set()
+    while ways:
+        way = ways.pop(0)
+        for name in reads.get(way[-1], ()):
+            if name == start:
+                return [*way, start]
+            if name in reads and name not in seen:
+                seen.add(name)
+                ways.append([*way, name])
+    return []

@@ -1,0 +1,120 @@
+# Values as Ansible converts them to the kind that a module declares, and `name=value` texts taken apart.
+import json
+import re
+
+from .nodes import Mapping, Scalar, Sequence, has_template, is_literal, is_text, made, plain
+
+TRUE_WORDS = ("yes", "on", "1", "true", "t", "y")
+FALSE_WORDS = ("no", "off", "0", "false", "f", "n")
+WHOLE = re.compile(r"\s*\{\{(?:(?!\}\}).)*\}\}\s*", re.S)
+OMITTED = re.compile(r"(\|\s*default\()\s*omit\s*(?:,\s*[Tt]rue\s*)?\)(\s*\}\})")
+# What stands for a parameter that `default(omit)` leaves out.
+INSTEAD = {"omitted": "''", "text": "''", "bool": "false", "list": "[]", "int": "0"}
+OPENING = {"{{": "}}", "{%": "%}", "{#": "#}"}
+
+
+def split_words(text):
+    """The words of a text as Ansible splits them: blanks in quotes and in braces divide nothing."""
+    words, current, quote, closing = [], "", "", ""
+    at = 0
+    while at < len(text):
+        pair, letter = text[at:at + 2], text[at]
+        if closing:
+            if pair == closing:
+                current, at, closing = current + letter, at + 1, ""
+                letter = text[at]
+        elif quote:
+            quote = "" if letter == quote and text[at - 1] != "\\" else quote
+        elif pair in OPENING:
+            closing = OPENING[pair]
+        elif letter in "'\"":
+            quote = letter
+        elif letter.isspace():
+            words, current, letter = (words + [current] if current else words), "", ""
+        current += letter
+        at += 1
+    return words + [current] if current else words
+
+
+def unquoted(text):
+    if len(text) > 1 and text[0] == text[-1] and text[0] in "'\"":
+        return text[1:-1]
+    return text
+
+
+def arguments_of(text):
+    """The pairs of a `name=value` text, or None where a word of it is no such pair."""
+    found = {}
+    for word in split_words(text):
+        name, equals, value = word.partition("=")
+        if not equals or not re.fullmatch(r"[A-Za-z_][\w-]*", name):
+            return None
+        found[name] = unquoted(value)
+    return found
+
+
+def converted(node, kind, name=""):
+    """The node as a value of the kind, where Ansible converts it so; else as it is."""
+    if is_text(node) and "omit" in node.value and kind in INSTEAD:
+        node = without_omit(node, kind)
+    if kind == "text":
+        return as_text(node, name)
+    if kind == "bool":
+        return as_bool(node)
+    if kind == "int":
+        return as_int(node)
+    return as_list(node) if kind == "list" else node
+
+
+def without_omit(node, kind):
+    text = OMITTED.sub(lambda found: f"{found[1]}{INSTEAD[kind]}){found[2]}", node.value)
+    return Scalar(text, node.place, text, True)
+
+
+def as_text(node, name):
+    if isinstance(node, (Mapping, Sequence)):
+        if name == "content" and is_literal(node):
+            return made(json.dumps(plain(node)), node.place)
+        return node
+    if isinstance(node.value, str):
+        return whole_as_text(node)
+    if node.value is None:
+        return node
+    # A mode keeps the digits that are written: YAML reads 0644 as a number to the base 8.
+    text = node.text if name == "mode" and isinstance(node.value, int) else str(node.value)
+    return Scalar(text, node.place, node.text, True)
+
+
+def whole_as_text(node):
+    """A template that is the whole text would keep its value's kind; with an empty part behind it it is a text."""
+    if not WHOLE.fullmatch(node.value):
+        return node
+    return Scalar(node.value.strip() + "{{ '' }}", node.place, node.text, True)
+
+
+def as_bool(node):
+    if not isinstance(node, Scalar) or isinstance(node.value, bool) or node.value is None:
+        return node
+    word = str(node.value).lower()
+    if word in TRUE_WORDS or word in FALSE_WORDS:
+        return Scalar(word in TRUE_WORDS, node.place, node.text)
+    return node
+
+
+def as_int(node):
+    if is_text(node) and re.fullmatch(r"\s*[-+]?\d{1,18}\s*", node.value):
+        return Scalar(int(node.value), node.place, node.text)
+    return node
+
+
+def as_list(node):
+    if isinstance(node, Scalar) and isinstance(node.value, str):
+        if WHOLE.fullmatch(node.value):
+            return node
+        words = node.value.split(",") if not has_template(node.value) else [node.value]
+        return Sequence([Scalar(word.strip(), node.place, word, True) for word in words], node.place)
+    if isinstance(node, Scalar) and isinstance(node.value, (int, float)):
+        return Sequence([Scalar(str(node.value), node.place, node.text, True)], node.place)
+    if isinstance(node, Sequence):
+        return Sequence([as_text(item, "") if isinstance(item, Scalar) else item for item in node.items], node.place)
+    return node

@@ -1,0 +1,168 @@
+# Tries playcheck-ansible on the books of tests/ansible and on hostile YAML: python3 tests/ansible_checks.py PROGRAM.
+import json
+import os
+import re
+import subprocess
+import sys
+import tempfile
+from pathlib import Path
+
+from check import Check, outcome_of
+
+TOP = Path(__file__).resolve().parent.parent
+CASES = TOP / "tests" / "ansible"
+TOOL = TOP / "playcheck-ansible"
+MEGABYTES = 700
+SECONDS = 30
+INVENTORY = '{"all": {"hosts": ["h1"]}}'
+
+
+def transcripts():
+    """Each command of each transcript: where it is run, its words, what is wanted, and its status."""
+    for path in sorted(CASES.glob("*/transcript")):
+        for part in re.split(r"^\$ ", path.read_text(encoding="utf-8"), flags=re.M)[1:]:
+            lines = part.splitlines()
+            said = [line for line in lines[1:-1] if not line.startswith("! ")]
+            told = [line[2:] for line in lines[1:-1] if line.startswith("! ")]
+            yield path.parent, lines[0].split(), said, told, int(lines[-1].split()[1])
+
+
+def wrong_transcript(folder, words, said, told, status):
+    # In `bin` stand programs in the place of those of ansible-core.
+    environment = {**os.environ, "PATH": f"{folder / 'bin'}:{os.environ['PATH']}"}
+    done = subprocess.run([TOOL, *words], cwd=folder, capture_output=True, text=True, check=False, timeout=SECONDS,
+                          stdin=subprocess.DEVNULL, env=environment)
+    found = (done.stdout.splitlines(), done.stderr.splitlines(), done.returncode)
+    if found == (said, told, status):
+        return ""
+    return (f"{folder.name}: {' '.join(words)}\n" + "\n".join(f"  wanted {line}" for line in [*said, *told])
+            + f"\n  wanted status {status}\n" + "\n".join(f"  found  {line}" for line in [*found[0], *found[1]])
+            + f"\n  found  status {done.returncode}")
+
+
+def hostile():
+    """Hostile books: the bytes, what standard error says of them, and the status."""
+    play = "- hosts: all\n  gather_facts: false\n  tasks:\n"
+    bomb = "- &a0 [x, x, x, x, x, x, x, x, x, x]\n" + "".join(
+        f"- &a{n} [{', '.join([f'*a{n - 1}'] * 10)}]\n" for n in range(1, 12))
+    yield "aliases that explode", bomb, "book.yml:6:18: more than 400,000 values, with what its aliases", 64
+    yield "a cycle", "- &a\n  hosts: all\n  vars: {x: *a}\n", "book.yml:3:13: the alias *a stands in what it names", 64
+    yield "10 MB", "# " + "x" * 10_000_000, "book.yml: the file has more than 4,194,304 bytes", 64
+    yield "an object's tag", "- !!python/object/apply:os.system [ls]\n", "book.yml:1:3: the tag !!python/object", 64
+    yield "an unknown tag", "- hosts: !mine all\n", "book.yml:1:10: the tag !mine isn't read", 64
+    yield "no UTF-8", b"- hosts: all\n  name: \xff\n", "book.yml:2:9: byte 21 isn't UTF-8", 64
+    yield "UTF-16", "- hosts: all\n".encode("utf-16"), "book.yml:1:1: byte 0 isn't UTF-8", 64
+    yield "a key twice", "- hosts: all\n  hosts: web\n", "book.yml:2:3: the key 'hosts' stands here twice, first on", 64
+    yield "a key that is a number", "- hosts: all\n  1: x\n", "book.yml:2:3: a key that is no text: 1", 64
+    yield "a key that is a list", "- hosts: all\n  ? [a]\n  : x\n", "book.yml:2:5: a key that is no text: a list", 64
+    yield "a tab", "- hosts: all\n\ttasks: []\n", "book.yml:2:1: this is no YAML: found ", 64
+    yield "two documents", "- hosts: all\n---\n- hosts: all\n", "book.yml:2:1: a second document; one is wanted", 64
+    yield "a control character", "- hosts: all\n  name: a\x01b\n", "book.yml:2:10: this is no YAML: ", 64
+    yield "deep lists", "[" * 100_000, "book.yml:1:65: more than 64 lists and mappings inside one another", 64
+    yield "deep blocks", "".join(" " * n + "- \n" for n in range(200)), "book.yml:65:65: more than 64 lists", 64
+    yield "half a pair", '- hosts: "\\ud800"\n', "book.yml:1:1", 64
+    yield "an unknown anchor", "- *nothing\n", "book.yml:1:3: ", 64
+    yield "a long number", play + "    - debug: {msg: " + "9" * 5000 + "}\n", "book.yml:4:20: '99999", 64
+    yield "many values", "[" + "x," * 500_000 + "]", "more than 400,000 values", 64
+    yield "no file inside", "- import_playbook: gone.yml\n", "book.yml:1:20: what is imported can't be read: gone", 64
+    yield "files that double", hostile_files(), "more than 1,000 files are put in place", 64
+    many = "- hosts: all\n  pre_tasks: &t\n" + "    - command: x\n" * 3900 + "- hosts: all\n  tasks:\n"
+    yield "tasks that double", many + "    - block: *t\n" * 30, "book.yml: more than 4,096 tasks and blocks", 64
+    yield "itself imported", "- import_playbook: book.yml\n", "book.yml:1:20: book.yml is imported in itself", 64
+
+
+def hostile_files():
+    """Files that name each other so that they double at each step."""
+    twice = "- import_tasks: f{0}.yml\n- import_tasks: f{0}.yml\n"
+    files = {f"f{n}.yml": twice.format(n + 1) for n in range(30)}
+    book = "- hosts: all\n  tasks:\n    - import_tasks: f0.yml\n"
+    return {**files, "f30.yml": "- debug:\n", "book.yml": book, "hosts.json": INVENTORY}
+
+
+def wrong_hostile(name, data, wanted, status):
+    files = {"book.yml": data.encode() if isinstance(data, str) else data, "hosts.json": INVENTORY}
+    files = data if isinstance(data, dict) else files
+    outcome = outcome_of(TOOL, Check(name, ["check", "book.yml", "-i", "hosts.json"], None, files), SECONDS)
+    told = outcome.stderr.decode(errors="replace")
+    is_named = told.startswith("playcheck-ansible: ") and wanted in told and told.count("\n") == 1
+    if is_named and outcome.status == status and outcome.megabytes < MEGABYTES:
+        return ""
+    return f"{name}: wanted status {status} and {wanted!r}, found {outcome}"
+
+
+def wrong_conversion():
+    """What `convert` writes is what the program is asked, and the map of its lines."""
+    folder = CASES / "converted"
+    wanted = json.loads((folder / "wanted.json").read_text(encoding="utf-8"))
+    with tempfile.TemporaryDirectory() as made:
+        words = [TOOL, "convert", "book.yml", "-i", "../inventory.yml", "-o", made]
+        done = subprocess.run(words, cwd=folder, capture_output=True, check=False, timeout=SECONDS)
+        found = {path.stem: json.loads(path.read_text(encoding="utf-8")) for path in Path(made).glob("*.json")}
+    if done.returncode or found != wanted:
+        yield f"convert: status {done.returncode}, wanted {json.dumps(wanted)}, found {json.dumps(found)}"
+
+
+def wrong_signatures():
+    """What `signatures` writes out of the documentation, and what it says of the modules that can't be declared."""
+    folder = CASES / "documented"
+    environment = {**os.environ, "PATH": f"{folder / 'bin'}:{os.environ['PATH']}"}
+    done = subprocess.run([TOOL, "signatures", "book.yml", "gone"], cwd=folder, env=environment, capture_output=True,
+                          text=True, check=False, timeout=SECONDS)
+    told = ["playcheck-ansible: the module gone isn't declared: ansible-doc does not know it",
+            "playcheck-ansible: the module package_facts isn't declared: it sets facts"]
+    wanted = json.loads((folder / "signatures.json").read_text(encoding="utf-8"))
+    if done.returncode or done.stderr.splitlines() != told or json.loads(done.stdout) != wanted:
+        yield f"signatures: status {done.returncode}, {done.stderr}, {done.stdout}"
+
+
+def lost_hook():
+    """The hook of pre-commit calls the launcher."""
+    import yaml
+
+    hooks = yaml.safe_load((TOP / ".pre-commit-hooks.yaml").read_text(encoding="utf-8"))
+    return [str(hook) for hook in hooks if not os.access(TOP / hook["entry"], os.X_OK) or hook["args"] != ["check"]]
+
+
+def lost_titles():
+    """The titles of the codes are those of docs/REFUSALS.md."""
+    sys.path.insert(0, str(TOP / "ansible"))
+    sys.dont_write_bytecode = True
+    from playcheck_ansible.codes import PAGE, TITLES
+
+    page = dict(re.findall(r"^### ([A-Z]\d\d): (.*)$", PAGE.read_text(encoding="utf-8"), re.M))
+    return [f"{code}: {page.get(code)!r} on the page, {TITLES.get(code)!r} in codes.py"
+            for code in sorted({*page, *TITLES}) if page.get(code) != TITLES.get(code)]
+
+
+def lost_passes():
+    """Each pass is named in docs/FROM_ANSIBLE.md."""
+    from playcheck_ansible.passes import TASK_PASSES
+    from playcheck_ansible.plays import PLAY_PASSES
+
+    page = (TOP / "docs" / "FROM_ANSIBLE.md").read_text(encoding="utf-8")
+    return [f"docs/FROM_ANSIBLE.md doesn't name {one.__name__}" for one in (*TASK_PASSES, *PLAY_PASSES)
+            if f"`{one.__name__}`" not in page]
+
+
+def main():
+    try:
+        import yaml  # noqa: F401
+    except ImportError:
+        print("skipped: PyYAML isn't here")
+        print("0 passed, 0 failed")
+        return 0
+    os.environ["PLAYCHECK"] = str(Path(sys.argv[1]).resolve())
+    results = ["\n".join(search()) for search in (lost_titles, lost_passes, lost_hook, wrong_conversion,
+                                                      wrong_signatures)]
+    results += [wrong_transcript(*one) for one in transcripts()]
+    results += [wrong_hostile(*one) for one in hostile()]
+    for wrong in results:
+        if wrong:
+            print(f"FAILED: {wrong}")
+    failed = sum(bool(wrong) for wrong in results)
+    print(f"{len(results) - failed} passed, {failed} failed")
+    return 1 if failed else 0
+
+
+if __name__ == "__main__":
+    sys.exit(main())

@@ -68,13 +68,13 @@ sets_off ns first p = record { led = λ ms vars h i. record { host = h; «as» =
 is_at : (p : Position) (goal h : FlatHost) → goal ≡ h → IsAs p h → h.stage ≡ stands (location_view p.location) → IsAt p goal
 is_at p goal h e i f = subst (λ (x : FlatHost). IsAt p x) (sym e) (record { «as» = i; stage = f })
 
-pub leaves_the_play : (ns : List Node) (first : Option ℕ) (old p : Position) (to : Option ℕ) → Goes ns first old to p → to ≡ None → Reaches ns first old (record p { location = location.Left })
-leaves_the_play ns first old p to goes none = record {
+pub leaves_the_play : (ns : List Node) (first : Option ℕ) (old p q : Position) (to : Option ℕ) → Goes ns first old to p → to ≡ None
+    → ((h : FlatHost) → IsAs p h → IsAt q (record h { stage = stands left_play })) → Reaches ns first old q
+leaves_the_play ns first old p q to goes none leaves = record {
   host = λ ms vars h i.
       let l = goes.led ms vars h i in
-      is_at (record p { location = location.Left }) _ (record l.host { stage = stands left_play })
-      (l.same ∙ ap (λ o. arrival (map (node_step ms vars) ns) 1 o l.host) none)
-      (record { marks = l.as.marks; failure = l.as.failure; rescues = l.as.rescues; holds = l.as.holds }) refl;
+      subst (λ (x : FlatHost). IsAt q x) (sym (l.same ∙ ap (λ o. arrival (map (node_step ms vars) ns) 1 o l.host) none))
+      (leaves l.host l.as);
 }
 
 pub comes_to_the_end : (ns : List Node) (first : Option ℕ) (old p : Position) (to : Option ℕ) (n : ℕ) → Goes ns first old to p → to ≡ Some n → length ns < n → Reaches ns first old (record p { location = location.End })

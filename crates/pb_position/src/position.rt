@@ -2,7 +2,7 @@
 ghost use Rattle.std.specs.Prelude.{◌≡◌, ◌<◌, ◌==◌, ◌&&◌, ◌||◌, ◌∷◌, [], ℕ, suc, not, true, false};
 ghost use Rattle.std.specs.Prelude.{All, IfOk, OnOk, get_or, length, option_map};
 ghost use Rattle.pb_language.specs.Machine.{innermost, is_marked, outermost};
-ghost use Rattle.pb_machine.specs.Hosts.{FlatHost, stands};
+ghost use Rattle.pb_machine.specs.Hosts.{FlatHost, left_play, stands};
 ghost use Rattle.pb_flow.specs.Ahead.{all_lead_on, is_ahead, lead_on};
 ghost use Rattle.pb_position.specs.Texts.{text_of, texts_of};
 ghost use Rattle.pb_position.specs.Positions.{IsAs, IsAt, handlers_of, location_view};
@@ -158,6 +158,15 @@ impl Position {
         }
     }
 
+    /// The host leaves the play, as after an answer that breaks its module's word, or none.
+    pub fn leave(&mut self)
+        ensures host { (h : FlatHost) → IsAs self.old h
+            → IsAt self.new (record h { stage = stands left_play }) }
+        ensures handlers { handlers_of self.new ≡ handlers_of self.old }
+    {
+        self.location = Location::Left;
+    }
+
     /// Another position that is the same, with the same texts.
     ///
     /// # Errors
@@ -223,7 +232,7 @@ impl Position {
         let mut to = first;
         loop {
             let Some(number) = to else {
-                self.location = Location::Left;
+                self.leave();
                 return Ok(());
             };
             let index = number as usize - 1;

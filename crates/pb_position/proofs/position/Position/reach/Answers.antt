@@ -2,7 +2,7 @@ use Rattle.std.proofs.Common.{◌≡◌, ◌<◌, ◌≤◌, ◌-◌, ℕ, suc, 
 use Rattle.pb_flow.specs.Ahead.{is_ahead}
 use Rattle.pb_flow.specs.declared.graph.Move.{Move}
 use Rattle.pb_position.specs.Calls.{Moves}
-use Rattle.pb_position.proofs.Along.{sets_off, comes_to_the_end, stands_at_the_node, passes_the_handler, comes_nearer, ahead_of_the_start, number_is_within, leads_ahead_from, far}
+use Rattle.pb_position.proofs.Along.{sets_off, leaves_the_play, comes_to_the_end, stands_at_the_node, passes_the_handler, comes_nearer, ahead_of_the_start, number_is_within, leads_ahead_from, far}
 use Rattle.pb_position.proofs.position.Position.reach.Goals as goal
 
 pub loop-to-init : goal.loop-to-init
@@ -41,3 +41,7 @@ loop-to-preserved c =
           (subst (λ (moves : List Move). Moves moves c.begins_task.new.self c.make.new.self) c.deref.ensures.value c.in_ok-make.ensures.host);
       handlers = c.make.ensures.handlers ∙ c.begins_task.ensures.handlers ∙ c.loop-to.invariant.handlers;
     }
+
+pub returns-in_default-clause-host : goal.returns-in_default-clause-host
+returns-in_default-clause-host c =
+    leaves_the_play c.args.nodes.now c.args.first c.args.self.now c.loop-to.self c.leave.new.self c.loop-to.to c.loop-to.invariant.goes c.in_default.is c.leave.ensures.host

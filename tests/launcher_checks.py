@@ -41,7 +41,7 @@ def link(tools, name):
 def tree(folder, program):
     """A copy of what the launcher reads, with nothing built and a ready program that is of these sources."""
     top = folder / "tree"
-    for source in ["crates.txt", "playcheck", "sources.sh"]:
+    for source in ["crates.txt", "launch.sh", "playcheck", "sources.sh"]:
         top.mkdir(exist_ok=True)
         shutil.copy2(TOP / source, top / source)
     for crate in (TOP / "crates").iterdir():

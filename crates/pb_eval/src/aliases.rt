@@ -57,12 +57,20 @@ impl<'v, V: Vars> Vars for Aliased<'v, V> {
         self.world.value(name)
     }
 
+    fn value_at(&self, slot: u32, name: &str) -> Option<&Value> {
+        self.world.value_at(slot, name)
+    }
+
     fn this(&self) -> &str {
         self.world.this()
     }
 
     fn other(&self, host: &str, name: &str) -> Option<&Value> {
         self.world.other(host, name)
+    }
+
+    fn other_at(&self, host: &str, slot: u32, name: &str) -> Option<&Value> {
+        self.world.other_at(host, slot, name)
     }
 
     fn is_active(&self, host: &str) -> bool {

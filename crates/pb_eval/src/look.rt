@@ -6,7 +6,7 @@ ghost use Rattle.pb_language.specs.Evaluation.{is_text_among, look, look_there, 
 ghost use Rattle.pb_language.specs.Evaluation.{readable, there};
 ghost use Rattle.pb_language.specs.Expansion.{expanded_root, root_named};
 ghost use Rattle.pb_language.specs.Words.{found, value, value_below};
-ghost use Rattle.pb_language.specs.World.{member_of};
+ghost use Rattle.pb_language.specs.World.{member_of, variables_of};
 ghost use Rattle.pb_value.specs.Words.{view};
 ghost use Rattle.pb_syntax.specs.ExprView.{names_of, root_view, term_view};
 ghost use Rattle.pb_eval.specs.OwnWorld.{end_of, field_in, look_view, shown, value_read};
@@ -35,20 +35,27 @@ pub(crate) fn look_at<V: Vars>(alloc: Global, path: &Path, vars: &V) -> Result<L
         (look (V.world vars.now) (expanded_root (V.trees vars.now) (root_view path.now.root)))) }
 {
     match &path.root {
-        Root::Variable(name) => look_at_own(name.as_str(), &path.steps, vars),
-        Root::Other(host, name) => look_at_other(host, name.as_str(), &path.steps, vars),
+        Root::Variable(name) => look_at_own(name.as_str(), path.slot, &path.steps, vars),
+        Root::Other(host, name) => {
+            look_at_other(host, name.as_str(), path.slot, &path.steps, vars)
+        }
         Root::Member(member) => look_at_member(alloc, member, &path.steps, vars),
     }
 }
 
 // From a name of `vars` or a variable of the host on.
-fn look_at_own<V: Vars>(name: &str, steps: &[String], vars: &V) -> Result<Look, AllocError>
+fn look_at_own<V: Vars>(
+    name: &str,
+    slot: Option<u32>,
+    steps: &[String],
+    vars: &V,
+) -> Result<Look, AllocError>
     ensures { IfOk result (λ l. look_view l ≡ end_of (names_of steps.now)
         (look (V.world vars.now) (root_named name.now (V.trees vars.now name.now)))) }
 {
     match vars.alias(name) {
         Some(worth) => look_at_alias(worth, steps),
-        None => look_at_variable(name, steps, vars),
+        None => look_at_variable(name, slot, steps, vars),
     }
 }
 
@@ -64,13 +71,29 @@ fn look_at_alias(worth: &Value, steps: &[String]) -> Result<Look, AllocError>
 }
 
 // From a variable of the host on.
-fn look_at_variable<V: Vars>(name: &str, steps: &[String], vars: &V) -> Result<Look, AllocError>
+fn look_at_variable<V: Vars>(
+    name: &str,
+    slot: Option<u32>,
+    steps: &[String],
+    vars: &V,
+) -> Result<Look, AllocError>
     ensures { IfOk result (λ l. look_view l ≡ end_of (names_of steps.now)
         (found (field_value name.now (V.world vars.now).mine))) }
 {
-    match vars.value(name) {
+    match own_value(name, slot, vars) {
         Some(value) => look_below(value, steps),
         None => Ok(Look::Absent),
+    }
+}
+
+// What a variable of the host holds.
+fn own_value<'v, V: Vars>(name: &str, slot: Option<u32>, vars: &'v V) -> Option<&'v Value>
+    ensures { option_map (λ v. view v.now) result
+        ≡ field_value name.now (V.world vars.now).mine }
+{
+    match slot {
+        Some(slot) => vars.value_at(slot, name),
+        None => vars.value(name),
     }
 }
 
@@ -78,6 +101,7 @@ fn look_at_variable<V: Vars>(name: &str, steps: &[String], vars: &V) -> Result<L
 fn look_at_other<V: Vars>(
     term: &Term,
     name: &str,
+    slot: Option<u32>,
     steps: &[String],
     vars: &V,
 ) -> Result<Look, AllocError>
@@ -85,15 +109,15 @@ fn look_at_other<V: Vars>(
         (V.world vars.now) name.now (host_of (V.world vars.now) (term_view term.now)))) }
 {
     match term {
-        Term::Named(host) => look_at_host(host.as_str(), name, steps, vars),
-        Term::This => look_at_host(vars.this(), name, steps, vars),
+        Term::Named(host) => look_at_host(host.as_str(), name, slot, steps, vars),
+        Term::This => look_at_host(vars.this(), name, slot, steps, vars),
         Term::Item => match vars.value("item") {
-            Some(Value::Text(host)) => look_at_host(host.as_str(), name, steps, vars),
+            Some(Value::Text(host)) => look_at_host(host.as_str(), name, slot, steps, vars),
             Some(_) => Ok(Look::Failing),
             None => Ok(Look::Absent),
         },
         Term::Member(member) => match vars.member(member.group.as_str(), member.place) {
-            Some(host) => look_at_host(host, name, steps, vars),
+            Some(host) => look_at_host(host, name, slot, steps, vars),
             None => Ok(Look::Absent),
         },
     }
@@ -103,15 +127,32 @@ fn look_at_other<V: Vars>(
 fn look_at_host<V: Vars>(
     host: &str,
     name: &str,
+    slot: Option<u32>,
     steps: &[String],
     vars: &V,
 ) -> Result<Look, AllocError>
     ensures { IfOk result (λ l. look_view l ≡ end_of (names_of steps.now)
         (look_there (V.world vars.now) name.now (host_named host.now))) }
 {
-    match vars.other(host, name) {
+    match other_value(host, name, slot, vars) {
         Some(value) => look_below(value, steps),
         None => Ok(Look::Absent),
+    }
+}
+
+// What a variable of the host of that name holds.
+fn other_value<'v, V: Vars>(
+    host: &str,
+    name: &str,
+    slot: Option<u32>,
+    vars: &'v V,
+) -> Option<&'v Value>
+    ensures { option_map (λ v. view v.now) result
+        ≡ field_value name.now (variables_of host.now (V.world vars.now).hosts) }
+{
+    match slot {
+        Some(slot) => vars.other_at(host, slot, name),
+        None => vars.other(host, name),
     }
 }
 

@@ -32,6 +32,15 @@ pub trait Vars {
         ensures { option_map (λ v. view v.now) result
             ≡ field_value name.now (world self.now).mine };
 
+    /// The same. The slot is where a world that keeps variables at slots finds it, if that slot has
+    /// the name.
+    fn value_at(&self, _slot: u32, name: &str) -> Option<&Value>
+        ensures { option_map (λ v. view v.now) result
+            ≡ field_value name.now (world self.now).mine }
+    {
+        self.value(name)
+    }
+
     /// The host's name, which is `inventory_hostname`.
     fn this(&self) -> &str
         ensures { result.now ≡ (world self.now).this };
@@ -41,6 +50,14 @@ pub trait Vars {
     fn other(&self, host: &str, name: &str) -> Option<&Value>
         ensures { option_map (λ v. view v.now) result
             ≡ field_value name.now (variables_of host.now (world self.now).hosts) };
+
+    /// The same, where the slot is as in `value_at`.
+    fn other_at(&self, host: &str, _slot: u32, name: &str) -> Option<&Value>
+        ensures { option_map (λ v. view v.now) result
+            ≡ field_value name.now (variables_of host.now (world self.now).hosts) }
+    {
+        self.other(host, name)
+    }
 
     /// Whether the host of that name is active in the batch.
     fn is_active(&self, host: &str) -> bool

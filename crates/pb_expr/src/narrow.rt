@@ -1,5 +1,5 @@
 // What the answer of a test teaches of what is known.
-ghost use Rattle.std.specs.Prelude.{[], ◌++◌, ◌∷◌, ◌≡◌, IfOk, option_map, string_bytes};
+ghost use Rattle.std.specs.Prelude.{[], ◌++◌, ◌∷◌, ◌≡◌, IfOk, option_map};
 ghost use Rattle.pb_language.specs.Expansion.{all_expanded, expanded, expanded_root};
 ghost use Rattle.pb_language.specs.Kinds.{kind_of};
 ghost use Rattle.pb_language.specs.Narrow.{answers, any_teaches, cases_with, changed_at};
@@ -18,9 +18,9 @@ use crate::asked::{all_turns, here_anew, inquiry_of};
 use crate::change::{Change, teach};
 use crate::inference::narrow_here;
 use pb_forms::inferred::Inferred;
-use pb_syntax::{Expr, Member, Path, Root, Status, Term};
+use pb_syntax::{Expr, Path, Root, Status, Term};
 use pb_taught::known::Known;
-use pb_taught::scope::{Taught, both, names_copied};
+use pb_taught::scope::{Taught, both};
 use std::alloc::{AllocError, Global};
 use std::sync::Arc;
 
@@ -185,7 +185,8 @@ fn shown_path<K: Known>(alloc: Global, path: &Path, known: &K) -> Result<Path, A
 {
     let root = shown_root(alloc, &path.root, known)?;
     let steps = names_copied(alloc, &path.steps)?;
-    Ok(Path { root, steps })
+    let slot = None;
+    Ok(Path { root, steps, slot })
 }
 
 fn shown_root<K: Known>(alloc: Global, root: &Root, known: &K) -> Result<Root, AllocError>
@@ -198,7 +199,7 @@ fn shown_root<K: Known>(alloc: Global, root: &Root, known: &K) -> Result<Root, A
             let host = shown_term(alloc, term, known)?;
             Ok(Root::Other(host, name.clone()?))
         }
-        Root::Member(member) => Ok(Root::Member(member_copied(member)?)),
+        Root::Member(member) => Ok(Root::Member(member.copy()?)),
     }
 }
 
@@ -212,19 +213,9 @@ fn shown_term<K: Known>(alloc: Global, term: &Term, known: &K) -> Result<Term, A
         Term::Item => Ok(Term::Item),
         Term::Member(member) => match known.member(member.group.as_str(), member.place) {
             Some(host) => Ok(Term::Named(String::from_str(alloc, host)?)),
-            None => Ok(Term::Member(member_copied(member)?)),
+            None => Ok(Term::Member(member.copy()?)),
         },
     }
-}
-
-fn member_copied(member: &Member) -> Result<Member, AllocError>
-    ensures group { IfOk result
-        (λ m. string_bytes m.group ≡ string_bytes member.now.group) }
-    ensures place { IfOk result (λ m. m.place ≡ member.now.place) }
-{
-    let group = member.group.clone()?;
-    let place = member.place;
-    Ok(Member { group, place })
 }
 
 // The host was tested to be active in the batch.

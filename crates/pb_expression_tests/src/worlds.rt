@@ -2,11 +2,12 @@
 // by hand.
 ghost use Rattle.pb_value.specs.Words.{fields_view};
 ghost use Rattle.pb_syntax.specs.Words.{no_trees};
+ghost use Rattle.pb_expression_tests.specs.Numbers.{numbers};
 ghost use Rattle.pb_expression_tests.specs.TwoHosts.{two_hosts};
 
 use pb_eval::eval::eval;
 use pb_eval::{Vars, values_of};
-use pb_syntax::{Expr, Member, Names, Path, Root, Status, Term};
+use pb_syntax::{Expr, Member, Names, Path, Root, SlotNames, Status, Term};
 use pb_value::{Fields, Value, field_of, read_json};
 use std::alloc::Global;
 use std::test::Fail;
@@ -63,6 +64,27 @@ impl Vars for TwoHosts {
     }
 }
 
+// `port` stands at slot 3, `out` at 5; here a name of `vars` hides `out`.
+struct Numbers;
+
+impl SlotNames for Numbers {
+    ghost slots = { λ _. numbers };
+
+    fn own(&self, name: &str) -> Option<u32> {
+        if name == "port" { Some(3) } else { None }
+    }
+
+    fn other(&self, name: &str) -> Option<u32> {
+        if name == "port" {
+            Some(3)
+        } else if name == "out" {
+            Some(5)
+        } else {
+            None
+        }
+    }
+}
+
 fn fields(alloc: Global, json: &str) -> Result<Fields, Fail> {
     match &read_json(alloc, json.as_bytes())? {
         Value::Rec(fields) => {
@@ -86,9 +108,12 @@ fn world(alloc: Global, mine: &str) -> Result<TwoHosts, Fail> {
     })
 }
 
-// The expression has that value, and where the text is empty none.
+// The expression has that value, and where the text is empty none; so has its bound copy.
 fn is_worth(alloc: Global, mine: &str, expr: &Expr, expected: &str) -> Result<(), Fail> {
-    is_found(alloc, eval(alloc, expr, &world(alloc, mine)?)?, expected)
+    let world = world(alloc, mine)?;
+    is_found(alloc, eval(alloc, expr, &world)?, expected)?;
+    let bound = expr.bind(alloc, &Numbers)?;
+    is_found(alloc, eval(alloc, &bound, &world)?, expected)
 }
 
 fn is_found(alloc: Global, found: Value, expected: &str) -> Result<(), Fail> {
@@ -127,7 +152,8 @@ fn in_web(alloc: Global, place: usize) -> Result<Term, Fail> {
 fn path(alloc: Global, host: Term, name: &str, step: &str) -> Result<Path, Fail> {
     let steps = step_alone(alloc, step)?;
     let root = Root::Other(host, text(alloc, name)?);
-    Ok(Path { root, steps })
+    let slot = None;
+    Ok(Path { root, steps, slot })
 }
 
 // The one step, or none where it is empty.
@@ -147,7 +173,8 @@ fn port(alloc: Global, host: Term) -> Result<Expr, Fail> {
 fn name_of(alloc: Global, group: &str, place: usize) -> Result<Path, Fail> {
     let steps = Names::new(alloc);
     let root = Root::Member(member(alloc, group, place)?);
-    Ok(Path { root, steps })
+    let slot = None;
+    Ok(Path { root, steps, slot })
 }
 
 const NONE: &str = "{}";
@@ -275,7 +302,8 @@ fn is_worth_over(
 fn own(alloc: Global, name: &str, step: &str) -> Result<Path, Fail> {
     let steps = step_alone(alloc, step)?;
     let root = Root::Variable(text(alloc, name)?);
-    Ok(Path { root, steps })
+    let slot = None;
+    Ok(Path { root, steps, slot })
 }
 
 // `name and name and ..`, seven times.
@@ -350,4 +378,23 @@ fn names_without_a_value(rt: HostRuntime) -> Result<(), Fail> {
     is_worth_over(alloc, &names, &status, "")?;
     let unknown = or_five(alloc, own(alloc, "gone", "")?)?;
     is_worth_over(alloc, &names, &unknown, "5")
+}
+
+// The bound copy of the path has that slot.
+fn has_slot(alloc: Global, path: Path, expected: Option<u32>) -> Result<(), Fail> {
+    match Expr::Defined(path).bind(alloc, &Numbers)? {
+        Expr::Defined(path) if path.slot == expected => Ok(()),
+        _ => Err("another slot")?,
+    }
+}
+
+#[test]
+fn slots_of_paths(rt: HostRuntime) -> Result<(), Fail> {
+    let alloc = rt.alloc();
+    has_slot(alloc, own(alloc, "port", "")?, Some(3))?;
+    has_slot(alloc, own(alloc, "out", "rc")?, None)?;
+    has_slot(alloc, path(alloc, Term::This, "out", "rc")?, Some(5))?;
+    has_slot(alloc, path(alloc, Term::Item, "port", "")?, Some(3))?;
+    has_slot(alloc, path(alloc, Term::This, "mode", "")?, None)?;
+    has_slot(alloc, name_of(alloc, "web", 0)?, None)
 }

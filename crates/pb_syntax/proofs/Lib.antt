@@ -16,3 +16,4 @@ pub mod Exprs
 pub mod Left
 pub mod Ascending
 pub mod Aliases
+pub mod Bound

@@ -7,4 +7,5 @@ pub mod Forms
 pub mod Lexed
 pub mod Reads
 pub mod Aliases
+pub mod Slots
 pub mod Words

@@ -47,6 +47,8 @@ pub enum Root {
 pub struct Path {
     pub root: Root,
     pub steps: Names,
+    /// The slot at which a bound path looks for its variable first; it changes no value.
+    pub slot: Option<u32>,
 }
 
 /// How two values are compared; `a != b` is `not a == b`.

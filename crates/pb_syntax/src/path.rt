@@ -49,6 +49,7 @@ pub fn path_at(alloc: Global, text: &[u8], token: Token) -> Result<(Expr, Token)
         Expr::Path(Path {
             root: Root::Variable(root),
             steps,
+            slot: None,
         }),
         after,
     ))
@@ -188,7 +189,8 @@ fn groups_at(alloc: Global, text: &[u8], token: Token) -> Result<(Expr, Token), 
     let (steps, after) = steps_at(alloc, text, token, STEPS)?;
     if after.sort != Sort::OpenBracket {
         let root = Root::Variable(String::from_str(alloc, "groups")?);
-        return Ok((Expr::Path(Path { root, steps }), after));
+        let slot = None;
+        return Ok((Expr::Path(Path { root, steps, slot }), after));
     }
     let (member, after) = member_at(text, steps, after)?;
     let root = Root::Member(member);
@@ -196,6 +198,7 @@ fn groups_at(alloc: Global, text: &[u8], token: Token) -> Result<(Expr, Token), 
         Expr::Path(Path {
             root,
             steps: SmallVec::new(alloc),
+            slot: None,
         }),
         after,
     ))
@@ -275,6 +278,7 @@ fn host_path(host: Term, steps: Names) -> Expr
     Expr::Path(Path {
         root: Root::Other(host, variable),
         steps,
+        slot: None,
     })
 }
 

@@ -24,7 +24,7 @@ use indexmap::IndexMap;
 use pb_kind::below::find;
 use pb_kind::join::join;
 use pb_kind::{Kind, Slot, Slots, copy_slots};
-use pb_syntax::{Member, Names, Path, Root, Term};
+use pb_syntax::{Member, Names, Path, Root, Term, names_copied};
 use std::alloc::{AllocError, Global};
 use std::collections::BTreeMap;
 use std::sync::Arc;
@@ -111,22 +111,6 @@ fn paths_copied(alloc: Global, paths: &[Arc<Path>]) -> Result<Vec<Arc<Path>>, Al
     let mut all = Vec::new(alloc);
     for path in paths {
         all.push(path.clone()?)?;
-    }
-    Ok(all)
-}
-
-/// The same names.
-///
-/// # Errors
-///
-/// Want of memory.
-pub fn names_copied(alloc: Global, names: &[String]) -> Result<Names, AllocError>
-    ensures { IfOk result (λ ns. names_of ns.items ≡ names_of names.now) }
-{
-    let mut all = Names::new(alloc);
-    for name in names {
-        let copy = name.clone()?;
-        all.push(copy)?;
     }
     Ok(all)
 }

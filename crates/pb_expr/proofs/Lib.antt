@@ -1,5 +1,4 @@
 pub mod Untold
 pub mod Ways
-pub mod InOrder
 pub mod FoundParts
 pub mod AskedTrees

@@ -24,10 +24,10 @@ asked-here a f (alone o) = refl
 asked-here a f (looked_for t) = refl
 
 -- chains that have at most so many names
-abbrev up_to : ℕ → Parts → Name → Bool
+abbrev pub up_to : ℕ → Parts → Name → Bool
 up_to k ps n = nat_le (chain_length (suc k) ps n) k
 
-abbrev HaveUpTo : ℕ → Parts → List Bool → Type 0
+abbrev pub HaveUpTo : ℕ → Parts → List Bool → Type 0
 HaveUpTo k ps bs = (n : Name) → unwrap_or (answer_named n ps bs) (is_outside ps n) ≡ up_to k ps n
 
 first-up-to : (h : Name → ℕ) (o : Option Expression) → not (is_some o) ≡ nat_le (suc_depth (depth_in h) o) 0
@@ -37,10 +37,10 @@ first-up-to h (Some e) = grind arith
 begun : (ps : Parts) → HaveUpTo 0 ps []
 begun ps n = ap (λ (a : Option Bool). unwrap_or a (is_outside ps n)) (none-answered n ps) ∙ first-up-to (chain_length 0 ps) (part_named n ps)
 
-zero-up : (k : ℕ) → true ≡ nat_le 0 k
+pub zero-up : (k : ℕ) → true ≡ nat_le 0 k
 zero-up k = grind arith
 
-one-more : (m k : ℕ) → nat_le m k ≡ nat_le (suc m) (suc k)
+pub one-more : (m k : ℕ) → nat_le m k ≡ nat_le (suc m) (suc k)
 one-more m k = grind arith
 
 next-up-to : (h : Name → ℕ) (k : ℕ) (o : Option Expression) → unwrap_or (option_map (every_read (by_name (λ n. nat_le (h n) k))) o) (not (is_some o)) ≡ nat_le (suc_depth (depth_in h) o) (suc k)
@@ -50,7 +50,7 @@ next-up-to h k (Some e) = reads-up-to h k e ∙ one-more (depth_in h e) k
 question-is : (k : ℕ) (ps : Parts) (bs : List Bool) → HaveUpTo k ps bs → through (λ n. answer_named n ps bs) (by_name (is_outside ps)) ≡ by_name (up_to k ps)
 question-is k ps bs h = fun_ext (asked-here (λ n. answer_named n ps bs) (is_outside ps)) ∙ ap by_name (fun_ext h)
 
-round-is : (k : ℕ) (ps : Parts) (bs : List Bool) → HaveUpTo k ps bs → round (by_name (is_outside ps)) ps bs ≡ value_answers (by_name (up_to k ps)) ps
+pub round-is : (k : ℕ) (ps : Parts) (bs : List Bool) → HaveUpTo k ps bs → round (by_name (is_outside ps)) ps bs ≡ value_answers (by_name (up_to k ps)) ps
 round-is k ps bs h = ap (λ f. value_answers f ps) (question-is k ps bs h)
 
 one-round-up : (k : ℕ) (ps : Parts) (bs : List Bool) → HaveUpTo k ps bs → HaveUpTo (suc k) ps (round (by_name (is_outside ps)) ps bs)

@@ -9,3 +9,9 @@ pub mod Rising
 pub mod Searched
 pub mod Merged
 pub mod Pushes
+pub mod InOrder
+pub mod Depths
+pub mod Found
+pub mod Once
+pub mod Newly
+pub mod FoundRounds

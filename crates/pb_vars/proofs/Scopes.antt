@@ -38,8 +38,11 @@ none-long scope (part m e ps) h = neither-both (is_long scope m) (any_too_long s
 at-most : (m : ℕ) → nat_lt 8 m ≡ false → m ≤ 8
 at-most m h = grind (arith, h)
 
+pub short-chains : (scope : Parts) → any_too_long scope scope ≡ false → (n : Name) → chain_length 9 scope n ≤ 8
+short-chains scope h n = at-most (chain_length 9 scope n) (all-short scope h n)
+
 pub whole-trees : (scope : Parts) → any_too_long scope scope ≡ false → (n : Name) → trees scope n ≡ option_map (expanded (trees scope)) (part_named n scope)
-whole-trees scope h = trees-whole scope (λ n. at-most (chain_length 9 scope n) (all-short scope h n))
+whole-trees scope h = trees-whole scope (short-chains scope h)
 
 -- the same values have the same trees and chains
 

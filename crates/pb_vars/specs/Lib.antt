@@ -5,4 +5,5 @@ pub mod Rounds
 pub mod Merging
 pub mod Borrowed
 pub mod InScope
+pub mod Order
 pub mod Words

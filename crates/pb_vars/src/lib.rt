@@ -6,6 +6,7 @@
 //     if !at_task.has_long_chain(alloc)? {
 //         let answers = at_task.answers(alloc, &IsOwn)?; // each name asked once a round
 //         let own = at_task.holds(&IsOwn, &answers, &condition);
+//         let names = at_task.in_order(alloc)?; // each behind those that it reads
 //     }
 #![tactic(auto)]
 
@@ -14,6 +15,7 @@ pub mod in_scope;
 pub mod laws;
 mod merge;
 mod names;
+mod order;
 pub mod read;
 mod rounds;
 

@@ -14,7 +14,7 @@ use pb_syntax::{Expr, Root};
 use std::alloc::{AllocError, Global};
 
 // More names than these make a chain too long.
-const LONGEST_CHAIN: usize = 8;
+pub(crate) const LONGEST_CHAIN: usize = 8;
 
 // A tree is read through so many names at most.
 const MOST_ROUNDS: usize = 17;
@@ -81,7 +81,7 @@ impl<'p> InScope<'p> {
     }
 
     // What each value answers, where names answer as they did before.
-    fn round<Q: Question>(
+    pub(crate) fn round<Q: Question>(
         &self,
         alloc: Global,
         question: &Q,
@@ -133,8 +133,8 @@ impl<'a, 'p, Q: Question> Question for Answered<'a, 'p, Q> {
 
 // Whether no name in scope is read.
 #[derive(Drop)]
-struct ReadsNoName<'a, 'p> {
-    scope: &'a InScope<'p>,
+pub(crate) struct ReadsNoName<'a, 'p> {
+    pub(crate) scope: &'a InScope<'p>,
 }
 
 impl<'a, 'p> Question for ReadsNoName<'a, 'p> {

@@ -1,6 +1,6 @@
 -- The nodes of a play as they are built, from its end to its start.
-use Rattle.std.specs.Prelude.{◌≡◌, ℕ, ◌+◌, List, ◌++◌, Bool, Option, Some, None, length}
-use Rattle.std.specs.Prelude.{map, reverse}
+use Rattle.std.specs.Prelude.{◌≡◌, ◌≤◌, ℕ, suc, ◌+◌, List, ◌++◌, Bool, Option, Some, None, length}
+use Rattle.std.specs.Prelude.{map, reverse, vec_len}
 use Rattle.pb_language.specs.Book.{PlayData, Registry, Steps, block_step, no_steps}
 use Rattle.pb_language.specs.Expression.{Parts}
 use Rattle.pb_language.specs.Links.{size}
@@ -28,6 +28,11 @@ tail_steps ms vars t = map (node_step ms vars) (reverse t.nodes.items)
 -- the task of a node
 abbrev pub task_of : Registry → Parts → Around → ℕ → Visited → Task
 task_of ms vars a p v = task_at (around_view ms vars a) p (visited_view v)
+
+-- one more block stands round a step than before, and no more `rescue` parts than blocks
+abbrev pub IsInside : Around → Around → Type 0
+IsInside old new = (vec_len new.blocks ≡ suc (vec_len old.blocks))
+    × (new.depth ≤ vec_len new.blocks)
 
 -- the row stands in front of what was built before, between those targets, inside so many `always`
 -- parts that run after a failure, and is entered there

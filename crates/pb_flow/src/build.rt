@@ -1,6 +1,7 @@
 // The nodes of a play, put one in front of the other, from its end to its start.
 ghost use Rattle.std.specs.Prelude.{◌*◌, ◌++◌, ◌+◌, ◌<◌, ◌≡◌, ◌≤◌, ◌∷◌, ◌||◌, IfOk, None, OnOk};
 ghost use Rattle.std.specs.Prelude.{Option, Some, [], cond, false, length, reverse, suc, true, ℕ};
+ghost use Rattle.std.specs.Prelude.{vec_len};
 ghost use Rattle.pb_semantics.specs.Limits.{most_play_steps};
 ghost use Rattle.pb_language.specs.Book.{Registry, no_steps};
 ghost use Rattle.pb_language.specs.Expression.{Parts};
@@ -10,9 +11,10 @@ ghost use Rattle.pb_machine.specs.Steps.{Target as FlatTarget, leaving, saved_ta
 ghost use Rattle.pb_template.specs.Entries.{entries_view};
 ghost use Rattle.pb_play.specs.Plays.{head_view, play_view, step_view, steps_view};
 ghost use Rattle.pb_play.specs.Sound.{step_tasks, tasks_in};
-ghost use Rattle.pb_flow.specs.Build.{IsPut, StaySound, all_sections_row, block_alone, block_tasks};
-ghost use Rattle.pb_flow.specs.Build.{ended_steps_row, flush_row, gathering_row, one_section_row};
-ghost use Rattle.pb_flow.specs.Build.{sections_tasks, steps_row, tail_steps, task_of};
+ghost use Rattle.pb_flow.specs.Build.{IsInside, IsPut, StaySound, all_sections_row, block_alone};
+ghost use Rattle.pb_flow.specs.Build.{block_tasks, ended_steps_row, flush_row, gathering_row};
+ghost use Rattle.pb_flow.specs.Build.{one_section_row, sections_tasks, steps_row, tail_steps};
+ghost use Rattle.pb_flow.specs.Build.{task_of};
 ghost use Rattle.pb_flow.specs.Nodes.{AreVisitedSound, IsVisitedSound, around_view, target_view};
 ghost use Rattle.pb_flow.specs.Places.{section_places, sections_places};
 
@@ -141,7 +143,7 @@ fn put_steps<'p>(
     tail: &mut Tail<'p>,
     scene: &Scene<'p>,
     around: &Arc<Around<'p>>,
-    held: u32,
+    held: usize,
     steps: &'p [Step],
     ok: &Target,
     failed: &Target,
@@ -150,6 +152,8 @@ fn put_steps<'p>(
         ≤ tail.old.front }
     requires places { places_in (length scene.now.handlers.now) (steps_view steps.now)
         ≤ tail.old.place }
+    requires held { held ≤ vec_len around.now.value.blocks }
+    requires depth { around.now.value.depth ≤ vec_len around.now.value.blocks }
     ensures front { OnOk result (tail.new.front
         + steps_in (length scene.now.handlers.now) 0 (steps_view steps.now) ≡ tail.old.front) }
     ensures place { OnOk result (tail.new.place
@@ -173,7 +177,7 @@ fn put_step<'p>(
     tail: &mut Tail<'p>,
     scene: &Scene<'p>,
     around: &Arc<Around<'p>>,
-    held: u32,
+    held: usize,
     step: &'p Step,
     ok: &Target,
     failed: &Target,
@@ -182,6 +186,8 @@ fn put_step<'p>(
         ≤ tail.old.front }
     requires places { places_in (length scene.now.handlers.now) (step_view step.now no_steps)
         ≤ tail.old.place }
+    requires held { held ≤ vec_len around.now.value.blocks }
+    requires depth { around.now.value.depth ≤ vec_len around.now.value.blocks }
     ensures front { OnOk result (tail.new.front
         + steps_in (length scene.now.handlers.now) 0 (step_view step.now no_steps)
         ≡ tail.old.front) }
@@ -209,7 +215,7 @@ fn put_block<'p>(
     tail: &mut Tail<'p>,
     scene: &Scene<'p>,
     around: &Arc<Around<'p>>,
-    held: u32,
+    held: usize,
     block: &'p Block<Step>,
     ok: &Target,
     failed: &Target,
@@ -218,6 +224,8 @@ fn put_block<'p>(
         ≤ tail.old.front }
     requires places { places_in (length scene.now.handlers.now) (block_alone block.now)
         ≤ tail.old.place }
+    requires held { held ≤ vec_len around.now.value.blocks }
+    requires depth { around.now.value.depth ≤ vec_len around.now.value.blocks }
     ensures front { OnOk result (tail.new.front
         + steps_in (length scene.now.handlers.now) 0 (block_alone block.now) ≡ tail.old.front) }
     ensures place { OnOk result (tail.new.place
@@ -232,10 +240,7 @@ fn put_block<'p>(
     let always = around_always(scene.alloc, around, block)?;
     let rescue = around_rescue(scene.alloc, around, block)?;
     let body = around_body(scene.alloc, around, block)?;
-    // Nobody has memory for as many blocks.
-    let Some(deeper) = held.checked_add(1) else {
-        return Err(AllocError);
-    };
+    let deeper = held + 1;
     let place = tail.place;
     let out = failed.after(Move::Releasing(held))?;
     let last = put_steps(tail, scene, &always, deeper, &block.always, &out, failed)?;
@@ -250,7 +255,7 @@ fn put_block<'p>(
 // Where a failure of the body leads: into the `rescue`, if there is one.
 fn failure_of(
     block: &Block<Step>,
-    depth: u32,
+    depth: usize,
     inside: &Target,
     outside: &Target,
 ) -> Result<Target, AllocError>
@@ -270,9 +275,12 @@ fn around_body<'p>(
     around: &Around<'p>,
     block: &'p Block<Step>,
 ) -> Result<Arc<Around<'p>>, AllocError>
-    ensures { IfOk result (λ a. (ms : Registry) (vars : Parts) → around_view ms vars a.value
+    requires { around.now.depth ≤ vec_len around.now.blocks }
+    ensures surroundings { IfOk result (λ a. (ms : Registry) (vars : Parts)
+        → around_view ms vars a.value
         ≡ record (inside (around_view ms vars around.now) (head_view block.now.head))
         { rescued = around.now.rescued || is_given (steps_view block.now.rescue.items) }) }
+    ensures inner { IfOk result (λ a. IsInside around.now a.value) }
 {
     let rescued = is_rescued(around, block);
     around_part(alloc, around, &block.head, rescued, around.depth)
@@ -290,14 +298,14 @@ fn around_rescue<'p>(
     around: &Around<'p>,
     block: &'p Block<Step>,
 ) -> Result<Arc<Around<'p>>, AllocError>
-    ensures { IfOk result (λ a. (ms : Registry) (vars : Parts) → around_view ms vars a.value
+    requires { around.now.depth ≤ vec_len around.now.blocks }
+    ensures surroundings { IfOk result (λ a. (ms : Registry) (vars : Parts)
+        → around_view ms vars a.value
         ≡ record (inside (around_view ms vars around.now) (head_view block.now.head))
         { depth = suc around.now.depth }) }
+    ensures inner { IfOk result (λ a. IsInside around.now a.value) }
 {
-    // Nobody has memory for as many blocks.
-    let Some(depth) = around.depth.checked_add(1) else {
-        return Err(AllocError);
-    };
+    let depth = around.depth + 1;
     around_part(alloc, around, &block.head, around.rescued, depth)
 }
 
@@ -306,8 +314,11 @@ fn around_always<'p>(
     around: &Around<'p>,
     block: &'p Block<Step>,
 ) -> Result<Arc<Around<'p>>, AllocError>
-    ensures { IfOk result (λ a. (ms : Registry) (vars : Parts) → around_view ms vars a.value
+    requires { around.now.depth ≤ vec_len around.now.blocks }
+    ensures surroundings { IfOk result (λ a. (ms : Registry) (vars : Parts)
+        → around_view ms vars a.value
         ≡ inside (around_view ms vars around.now) (head_view block.now.head)) }
+    ensures inner { IfOk result (λ a. IsInside around.now a.value) }
 {
     around_part(alloc, around, &block.head, around.rescued, around.depth)
 }
@@ -318,11 +329,14 @@ fn around_part<'p>(
     around: &Around<'p>,
     head: &'p BlockHead,
     rescued: bool,
-    depth: u32,
+    depth: usize,
 ) -> Result<Arc<Around<'p>>, AllocError>
-    ensures { IfOk result (λ a. (ms : Registry) (vars : Parts) → around_view ms vars a.value
+    requires { depth ≤ suc (vec_len around.now.blocks) }
+    ensures surroundings { IfOk result (λ a. (ms : Registry) (vars : Parts)
+        → around_view ms vars a.value
         ≡ record (inside (around_view ms vars around.now) (head_view head.now))
         { rescued = rescued; depth = depth }) }
+    ensures inner { IfOk result (λ a. IsInside around.now a.value) }
 {
     let mut blocks = Vec::new(alloc);
     blocks.extend_from_slice(&around.blocks)?;
@@ -348,6 +362,7 @@ fn put_section<'p>(
         (steps_view steps.now) ≤ tail.old.front }
     requires places { section_places (length scene.now.handlers.now) (steps_view steps.now)
         ≤ tail.old.place }
+    requires depth { scene.now.around.value.depth ≡ 0 }
     ensures front { OnOk result (tail.new.front
         + section_steps (length scene.now.handlers.now) (cond forces 2 1) (steps_view steps.now)
         ≡ tail.old.front) }
@@ -382,6 +397,7 @@ fn put_ended<'p>(
         + length scene.now.handlers.now ≤ tail.old.front }
     requires places { places_in (length scene.now.handlers.now) (steps_view steps.now)
         + length scene.now.handlers.now ≤ tail.old.place }
+    requires depth { scene.now.around.value.depth ≡ 0 }
     ensures front { OnOk result (tail.new.front
         + (steps_in (length scene.now.handlers.now) 0 (steps_view steps.now)
         + length scene.now.handlers.now) ≡ tail.old.front) }
@@ -412,6 +428,7 @@ fn put_forced<'p>(
         + 2 * length scene.now.handlers.now ≤ tail.old.front }
     requires places { places_in (length scene.now.handlers.now) (steps_view steps.now)
         + length scene.now.handlers.now ≤ tail.old.place }
+    requires depth { scene.now.around.value.depth ≡ 0 }
     ensures front { OnOk result (tail.new.front
         + (steps_in (length scene.now.handlers.now) 0 (steps_view steps.now)
         + 2 * length scene.now.handlers.now) ≡ tail.old.front) }
@@ -444,6 +461,7 @@ pub(crate) fn put_sections<'p>(
         (cond play.now.force_handlers 2 1) (play_view play.now) ≤ tail.old.front }
     requires places { sections_places (length scene.now.handlers.now) (play_view play.now)
         ≤ tail.old.place }
+    requires depth { scene.now.around.value.depth ≡ 0 }
     ensures front { OnOk result (tail.new.front
         + sections_steps (length scene.now.handlers.now) (cond play.now.force_handlers 2 1)
         (play_view play.now) ≡ tail.old.front) }
@@ -500,6 +518,7 @@ impl<'p> Scene<'p> {
         ensures around { IfOk result (λ s. (ms : Registry)
             → around_view ms (entries_view play.now.vars.items) s.around.value
             ≡ play_surroundings ms (play_view play.now)) }
+        ensures depth { IfOk result (λ s. s.around.value.depth ≡ 0) }
     {
         let around = Around {
             blocks: Vec::new(alloc),

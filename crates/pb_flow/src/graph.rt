@@ -31,7 +31,7 @@ pub struct Around<'p> {
     /// Whether it stands in the `block` part of a block with a `rescue`.
     pub rescued: bool,
     /// In how many `rescue` parts it stands.
-    pub depth: u32,
+    pub depth: usize,
 }
 
 /// What is done at a node.
@@ -47,12 +47,12 @@ pub enum Visited<'p> {
 #[derive(Clone, Copy, PartialEq, Eq, Debug)]
 pub enum Move {
     /// It is kept for the `rescue` part that begins, inside so many others.
-    Rescuing(u32),
+    Rescuing(usize),
     /// It is held while the `always` part runs that begins, inside so many others that run after a
     /// failure.
-    Holding(u32),
+    Holding(usize),
     /// That part is done: the text that it held is the failure's again.
-    Releasing(u32),
+    Releasing(usize),
 }
 
 /// Where a host goes, and what happens on the way.

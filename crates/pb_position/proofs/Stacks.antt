@@ -1,7 +1,7 @@
 -- Stacks whose innermost stands last.
-use Rattle.std.proofs.Common.{◌≡◌, ◌<◌, ◌≤◌, ℕ, ◌+◌, ◌-◌, List, [], ◌∷◌, ◌++◌, length, take, drop, map, reverse, get_or, Option, String, Global, sym, ap, ap₂, ◌∙◌, length-drop, arith}
+use Rattle.std.proofs.Common.{◌≡◌, ◌<◌, ◌≤◌, ℕ, ◌+◌, ◌-◌, List, [], ◌∷◌, ◌++◌, length, min, take, drop, map, reverse, get_or, Option, String, Global, sym, ap, ap₂, ◌∙◌, length-drop, arith}
 use Rattle.std.specs.declared.sync.Arc.{Arc}
-use Rattle.std.proofs.lemmas.List.{reverse-append, take-append-drop, length-reverse, map-append, take-map, take_more, take_all}
+use Rattle.std.proofs.lemmas.List.{reverse-append, take-append-drop, length-reverse, map-append, take-map, take_more, take_all, take_min}
 use Rattle.std.proofs.Math.Seq.{drop-append_seam}
 use Rattle.pb_language.specs.Machine.{outermost, innermost}
 use Rattle.pb_position.specs.Texts.{text_of, texts_of}
@@ -34,3 +34,7 @@ innermost_is_last n w xs x same some within e =
 
 pub all_are_taken : (n w : ℕ) (xs : List (Option (Arc (String Global) Global))) → length xs ≤ n → w ≡ length xs → take n xs ≡ take w xs
 all_are_taken n w xs past e = take_all n xs past ∙ sym (take_all w xs (omega (arith, e)))
+
+-- two numbers that are the same as far as there are texts
+pub as_many_are_outermost : (n m : ℕ) (xs : List (Option (Arc (String Global) Global))) → min n (length xs) ≡ min m (length xs) → outermost n (texts_of xs) ≡ outermost m (texts_of xs)
+as_many_are_outermost n m xs e = outermost_is_taken n xs ∙ ap texts_of (sym (take_min n xs) ∙ ap (λ k. take k xs) e ∙ take_min m xs) ∙ sym (outermost_is_taken m xs)

@@ -310,11 +310,11 @@ impl Position {
     {
         match each {
             Move::Rescuing(depth) => {
-                self.rescue(depth as usize)?;
+                self.rescue(depth)?;
                 Ok(())
             }
             Move::Holding(held) => {
-                self.hold(held as usize)?;
+                self.hold(held)?;
                 Ok(())
             }
             Move::Releasing(held) => {
@@ -349,12 +349,14 @@ impl Position {
     }
 
     // The failure that was held goes outwards.
-    fn release(&mut self, held: u32) -> Result<(), AllocError>
+    fn release(&mut self, held: usize) -> Result<(), AllocError>
         ensures text { OnOk result (text_of self.new.failure
             ≡ innermost (outermost (suc held) (texts_of self.old.holds.items))) }
         ensures rest { record self.new { failure = self.old.failure } ≡ self.old }
     {
-        self.failure = copied(innermost_of(&self.holds, held as usize + 1))?;
+        // There are fewer texts than can be counted.
+        let text = copied(innermost_of(&self.holds, held.saturating_add(1)))?;
+        self.failure = text;
         Ok(())
     }
 }

@@ -1,4 +1,4 @@
-use Rattle.std.proofs.Common.{rules, ◌≡◌, ◌∙◌, ◌||◌, suc, ◌+◌, ◌-◌, ◌<◌, length, drop, ap, sym, subst, refl, arith}
+use Rattle.std.proofs.Common.{rules, ◌≡◌, ◌∙◌, ◌||◌, suc, ◌+◌, ◌-◌, ◌<◌, ◌≤◌, length, vec_len, drop, ap, sym, subst, refl, arith}
 use Rattle.pb_language.specs.Book.{flush_step, no_steps}
 use Rattle.pb_language.specs.Plays.{inside, is_given, places_in, row_of}
 use Rattle.pb_language.specs.Task.{end}
@@ -9,6 +9,8 @@ use Rattle.pb_play.specs.Sound.{tasks_in}
 use Rattle.pb_play.specs.declared.play.Step.{the_lemmas as step_lemmas}
 use Rattle.pb_flow.specs.Build.{IsPut, StaySound, handlers_from, steps_row}
 use Rattle.pb_flow.specs.Nodes.{around_view, target_view}
+use Rattle.pb_flow.specs.declared.graph.Around.{Around}
+use Rattle.pb_flow.proofs.Arounds.{room-inside}
 use Rattle.pb_flow.proofs.Blocks.{block-put, both-ok, on-ok}
 use Rattle.pb_flow.proofs.Counts.{left, less-left, places-sum, steps-sum, sum-left, weight, weight-sum}
 use Rattle.pb_flow.proofs.Joins.{row-front}
@@ -29,7 +31,10 @@ put_steps-put_step-requires t c =
       omega (arith, c.decreases, sum-left weight weight-sum ss i j s one lt c.index-steps-index.is, less-left weight weight-sum ss i),
       (
         omega (arith, sum-left (steps_in n 0) (steps-sum n) ss i j s one lt c.index-steps-index.is, less-left (steps_in n 0) (steps-sum n) ss i),
-        omega (arith, sum-left (places_in n) (places-sum n) ss i j s one lt c.index-steps-index.is, less-left (places_in n) (places-sum n) ss i),
+        (
+          omega (arith, sum-left (places_in n) (places-sum n) ss i j s one lt c.index-steps-index.is, less-left (places_in n) (places-sum n) ss i),
+          (c.requires.held, c.requires.depth),
+        ),
       ),
     )
 
@@ -58,13 +63,28 @@ put_steps-loop-index-preserved t c =
           (put-joined ms vars (row_of hs n a p (step_view s no_steps) end) (row_of hs n a c.loop-index.tail.place rest end) c.args.held (target_view c.args.ok.now) (target_view c.args.failed.now) c.args.tail.now c.loop-index.tail c.put_step.new.tail (target_view c.loop-index.next) (target_view c.in_ok-next-2.next) (inv.put ms vars) (h.put ms vars));
     }
 
+pub put_block-around_always-requires : goal.put_block-around_always-requires
+put_block-around_always-requires t c = subst (λ (a : Around). a.depth ≤ vec_len a.blocks) (sym c.deref.ensures) c.requires.depth
+
+pub put_block-around_rescue-requires : goal.put_block-around_rescue-requires
+put_block-around_rescue-requires t c = subst (λ (a : Around). a.depth ≤ vec_len a.blocks) (sym c.deref-2.ensures) c.requires.depth
+
+pub put_block-around_body-requires : goal.put_block-around_body-requires
+put_block-around_body-requires t c = subst (λ (a : Around). a.depth ≤ vec_len a.blocks) (sym c.deref-3.ensures) c.requires.depth
+
+pub put_block-overflow_add-deeper : goal.put_block-overflow_add-deeper
+put_block-overflow_add-deeper t c =
+    let blocks = c.args.around.now.value.blocks in
+    omega (arith, c.requires.held, blocks.ok.1, blocks.small)
+
 pub put_block-put_steps-requires : goal.put_block-put_steps-requires
 put_block-put_steps-requires t c =
     let n = length c.args.scene.now.handlers.now in
     let tw = twice n 0 (steps_view c.args.block.now.always.items) in
     let a4 = ap (λ xs. steps_in n 0 (steps_view xs)) c.deref-4.ensures.value in
     let b4 = ap (λ xs. places_in n (steps_view xs)) c.deref-4.ensures.value in
-    (omega (arith, c.decreases, ap (λ xs. weight (steps_view xs)) c.deref-4.ensures.value), (omega (arith, c.requires.room), omega (arith, c.requires.places)))
+    let held = room-inside c.args.around.now.value c.deref.result.now c.in_ok-always.always.value c.args.held c.deref.ensures c.requires.held c.in_ok-always.ensures.inner in
+    (omega (arith, c.decreases, ap (λ xs. weight (steps_view xs)) c.deref-4.ensures.value), (omega (arith, c.requires.room), (omega (arith, c.requires.places), (held, c.in_ok-always.ensures.inner.1))))
 
 pub put_block-put_steps-requires-2 : goal.put_block-put_steps-requires-2
 put_block-put_steps-requires-2 t c =
@@ -74,7 +94,8 @@ put_block-put_steps-requires-2 t c =
     let a5 = ap (λ xs. steps_in n 0 (steps_view xs)) c.deref-5.ensures.value in
     let b4 = ap (λ xs. places_in n (steps_view xs)) c.deref-4.ensures.value in
     let b5 = ap (λ xs. places_in n (steps_view xs)) c.deref-5.ensures.value in
-    (omega (arith, c.decreases, ap (λ xs. weight (steps_view xs)) c.deref-5.ensures.value), (omega (arith, c.requires.room, c.in_ok-last.ensures.front), omega (arith, c.requires.places, c.in_ok-last.ensures.place)))
+    let held = room-inside c.args.around.now.value c.deref.result.now c.in_ok-always.always.value c.args.held c.deref.ensures c.requires.held c.in_ok-always.ensures.inner in
+    (omega (arith, c.decreases, ap (λ xs. weight (steps_view xs)) c.deref-5.ensures.value), (omega (arith, c.requires.room, c.in_ok-last.ensures.front), (omega (arith, c.requires.places, c.in_ok-last.ensures.place), (omega (arith, held), c.in_ok-always.ensures.inner.1))))
 
 pub put_block-put_steps-requires-3 : goal.put_block-put_steps-requires-3
 put_block-put_steps-requires-3 t c =
@@ -86,7 +107,8 @@ put_block-put_steps-requires-3 t c =
     let b4 = ap (λ xs. places_in n (steps_view xs)) c.deref-4.ensures.value in
     let b5 = ap (λ xs. places_in n (steps_view xs)) c.deref-5.ensures.value in
     let b6 = ap (λ xs. places_in n (steps_view xs)) c.deref-6.ensures.value in
-    (omega (arith, c.decreases, ap (λ xs. weight (steps_view xs)) c.deref-6.ensures.value), (omega (arith, c.requires.room, c.in_ok-last.ensures.front, c.in_ok-on.ensures.front), omega (arith, c.requires.places, c.in_ok-last.ensures.place, c.in_ok-on.ensures.place)))
+    let held = room-inside c.args.around.now.value c.deref-2.result.now c.in_ok-rescue.rescue.value c.args.held c.deref-2.ensures c.requires.held c.in_ok-rescue.ensures.inner in
+    (omega (arith, c.decreases, ap (λ xs. weight (steps_view xs)) c.deref-6.ensures.value), (omega (arith, c.requires.room, c.in_ok-last.ensures.front, c.in_ok-on.ensures.front), (omega (arith, c.requires.places, c.in_ok-last.ensures.place, c.in_ok-on.ensures.place), (omega (arith, held), c.in_ok-rescue.ensures.inner.1))))
 
 pub put_block-put_steps-requires-4 : goal.put_block-put_steps-requires-4
 put_block-put_steps-requires-4 t c =
@@ -100,7 +122,8 @@ put_block-put_steps-requires-4 t c =
     let b5 = ap (λ xs. places_in n (steps_view xs)) c.deref-5.ensures.value in
     let b6 = ap (λ xs. places_in n (steps_view xs)) c.deref-6.ensures.value in
     let b7 = ap (λ xs. places_in n (steps_view xs)) c.deref-8.ensures.value in
-    (omega (arith, c.decreases, ap (λ xs. weight (steps_view xs)) c.deref-8.ensures.value), (omega (arith, c.requires.room, c.in_ok-last.ensures.front, c.in_ok-on.ensures.front, c.in_ok-inside.ensures.front), omega (arith, c.requires.places, c.in_ok-last.ensures.place, c.in_ok-on.ensures.place, c.in_ok-inside.ensures.place)))
+    let held = room-inside c.args.around.now.value c.deref-3.result.now c.in_ok-body.body.value c.args.held c.deref-3.ensures c.requires.held c.in_ok-body.ensures.inner in
+    (omega (arith, c.decreases, ap (λ xs. weight (steps_view xs)) c.deref-8.ensures.value), (omega (arith, c.requires.room, c.in_ok-last.ensures.front, c.in_ok-on.ensures.front, c.in_ok-inside.ensures.front), (omega (arith, c.requires.places, c.in_ok-last.ensures.place, c.in_ok-on.ensures.place, c.in_ok-inside.ensures.place), (omega (arith, held), c.in_ok-body.ensures.inner.1))))
 
 pub put_block-returns-clause-front : goal.put_block-returns-clause-front
 put_block-returns-clause-front t c =
@@ -115,15 +138,15 @@ put_block-returns-clause-front t c =
 pub put_block-returns-clause-put : goal.put_block-returns-clause-put
 put_block-returns-clause-put t c =
     let b = c.args.block.now in
-    let deeper : c.in-Some.deeper ≡ suc c.args.held = omega (arith, c.in-Some.ensures) in
+    let deeper : c.args.held + 1 ≡ suc c.args.held = omega arith in
     both-ok c.put_steps-4.result _ _ _ c.put_steps-4.ensures.put c.put_steps-4.ensures.place (λ at p e. λ ms vars.
     block-put ms vars c.args.scene.now c.args.around.now.value b c.in_ok-always.always.value c.in_ok-rescue.rescue.value c.in_ok-body.body.value
     c.deref-8.result.now c.deref-6.result.now c.deref-4.result.now c.deref-5.result.now c.args.held (target_view c.args.ok.now) (target_view c.args.failed.now)
     c.args.tail.now c.put_steps.new.tail (record { nodes = c.put_steps.new.tail.nodes; front = c.put_steps.new.tail.front; place = c.args.tail.now.place }) c.put_steps-2.new.tail c.put_steps-3.new.tail c.put_steps-4.new.tail
     (target_view c.in_ok-out.out) (target_view c.in_ok-last.last) (target_view c.in_ok-on.on) (target_view c.in_ok-fails.fails) (target_view c.in_ok-inside.inside) (target_view c.in_ok-saved.saved) (target_view at)
-    (subst (λ a. around_view ms vars c.in_ok-always.always.value ≡ inside (around_view ms vars a) (head_view b.head)) c.deref.ensures (c.in_ok-always.ensures ms vars))
-    (subst (λ a. around_view ms vars c.in_ok-rescue.rescue.value ≡ record (inside (around_view ms vars a) (head_view b.head)) { depth = suc a.depth }) c.deref-2.ensures (c.in_ok-rescue.ensures ms vars))
-    (subst (λ a. around_view ms vars c.in_ok-body.body.value ≡ record (inside (around_view ms vars a) (head_view b.head)) { rescued = a.rescued || is_given (steps_view b.rescue.items) }) c.deref-3.ensures (c.in_ok-body.ensures ms vars))
+    (subst (λ a. around_view ms vars c.in_ok-always.always.value ≡ inside (around_view ms vars a) (head_view b.head)) c.deref.ensures (c.in_ok-always.ensures.surroundings ms vars))
+    (subst (λ a. around_view ms vars c.in_ok-rescue.rescue.value ≡ record (inside (around_view ms vars a) (head_view b.head)) { depth = suc a.depth }) c.deref-2.ensures (c.in_ok-rescue.ensures.surroundings ms vars))
+    (subst (λ a. around_view ms vars c.in_ok-body.body.value ≡ record (inside (around_view ms vars a) (head_view b.head)) { rescued = a.rescued || is_given (steps_view b.rescue.items) }) c.deref-3.ensures (c.in_ok-body.ensures.surroundings ms vars))
     c.deref-8.ensures.value c.deref-6.ensures.value c.deref-4.ensures.value c.deref-5.ensures.value
     refl refl refl c.in_ok-last.ensures.place c.in_ok-on.ensures.place c.in_ok-inside.ensures.place e
     c.in_ok-out.ensures c.in_ok-fails.ensures

@@ -9,8 +9,8 @@ use Rattle.pb_play.specs.declared.play.Block.{Block}
 use Rattle.pb_play.specs.declared.play.Step.{Step}
 use Rattle.pb_flow.specs.Build.{IsPut, block_alone, handlers_from, steps_row, tail_steps}
 use Rattle.pb_flow.specs.Nodes.{around_view}
-use Rattle.pb_flow.specs.declared.build.Scene.{Scene}
-use Rattle.pb_flow.specs.declared.build.Tail.{Tail}
+use Rattle.pb_flow.specs.declared.tail.Scene.{Scene}
+use Rattle.pb_flow.specs.declared.tail.Tail.{Tail}
 use Rattle.pb_flow.specs.declared.graph.Around.{Around}
 use Rattle.pb_machine.specs.Steps.{Target, holding, releasing, moving, saved_target}
 use Rattle.pb_flow.proofs.Puts.{put-block}

@@ -5,7 +5,7 @@ use Rattle.pb_language.specs.Expression.{Parts}
 use Rattle.pb_language.specs.Task.{Handlers, Row, block, end, flush, section}
 use Rattle.pb_machine.specs.Steps.{Target, holding, releasing, leaving, moving, flush_target, row_target, flush_steps, saved_target, row_steps}
 use Rattle.pb_flow.specs.Build.{IsPut, tail_steps}
-use Rattle.pb_flow.specs.declared.build.Tail.{Tail}
+use Rattle.pb_flow.specs.declared.tail.Tail.{Tail}
 use Rattle.pb_machine.specs.Joins.{joined}
 use Rattle.pb_machine.proofs.Joins.{joined-size, joined-steps, joined-target, block-steps, section-steps}
 

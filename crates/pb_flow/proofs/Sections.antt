@@ -17,8 +17,8 @@ use Rattle.pb_flow.specs.Flow.{begins_at, end_node, row_links, tasks_of}
 use Rattle.pb_flow.specs.Nodes.{around_view, node_step, node_task, nodes_links}
 use Rattle.pb_flow.specs.declared.graph.Node.{Node}
 use Rattle.pb_flow.specs.Places.{section_places}
-use Rattle.pb_flow.specs.declared.build.Scene.{Scene}
-use Rattle.pb_flow.specs.declared.build.Tail.{Tail}
+use Rattle.pb_flow.specs.declared.tail.Scene.{Scene}
+use Rattle.pb_flow.specs.declared.tail.Tail.{Tail}
 use Rattle.pb_machine.specs.Joins.{joined}
 use Rattle.pb_machine.proofs.Joins.{step-tasks}
 use Rattle.pb_flow.proofs.Joins.{joined-assoc, row-joined}

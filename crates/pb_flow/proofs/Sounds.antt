@@ -12,7 +12,7 @@ use Rattle.pb_syntax.proofs.Left.{drop-at}
 use Rattle.pb_task.specs.declared.task.Task.{Task}
 use Rattle.pb_flow.specs.Build.{StaySound, block_tasks, sections_tasks}
 use Rattle.pb_flow.specs.Nodes.{AreVisitedSound, IsVisitedSound}
-use Rattle.pb_flow.specs.declared.build.Tail.{Tail}
+use Rattle.pb_flow.specs.declared.tail.Tail.{Tail}
 use Rattle.pb_flow.specs.declared.graph.Node.{Node}
 
 -- of two lists the one and the other

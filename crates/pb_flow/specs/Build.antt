@@ -16,8 +16,8 @@ use Rattle.pb_play.specs.declared.play.Step.{Step as ReadStep}
 use Rattle.pb_task.specs.declared.task.Task.{Task as ReadTask}
 use Rattle.pb_machine.specs.Steps.{Step, Target, row_steps, row_target}
 use Rattle.pb_flow.specs.Nodes.{AreVisitedSound, around_view, node_step, visited_view}
-use Rattle.pb_flow.specs.declared.build.Scene.{Scene}
-use Rattle.pb_flow.specs.declared.build.Tail.{Tail}
+use Rattle.pb_flow.specs.declared.tail.Scene.{Scene}
+use Rattle.pb_flow.specs.declared.tail.Tail.{Tail}
 use Rattle.pb_flow.specs.declared.graph.Around.{Around}
 use Rattle.pb_flow.specs.declared.graph.Visited.{Visited}
 

@@ -1,114 +1,25 @@
 // The nodes of a play, put one in front of the other, from its end to its start.
-ghost use Rattle.std.specs.Prelude.{◌*◌, ◌++◌, ◌+◌, ◌<◌, ◌≡◌, ◌≤◌, ◌∷◌, ◌||◌, IfOk, None, OnOk};
-ghost use Rattle.std.specs.Prelude.{Option, Some, [], cond, false, length, reverse, suc, true, ℕ};
-ghost use Rattle.std.specs.Prelude.{vec_len};
-ghost use Rattle.pb_semantics.specs.Limits.{most_play_steps};
+ghost use Rattle.std.specs.Prelude.{◌*◌, ◌+◌, ◌<◌, ◌≡◌, ◌≤◌, ◌||◌, IfOk, None, OnOk};
+ghost use Rattle.std.specs.Prelude.{Option, Some, [], cond, false, length, suc, true, vec_len, ℕ};
 ghost use Rattle.pb_language.specs.Book.{Registry, no_steps};
 ghost use Rattle.pb_language.specs.Expression.{Parts};
-ghost use Rattle.pb_language.specs.Plays.{inside, is_given, places_in, play_surroundings};
+ghost use Rattle.pb_language.specs.Plays.{inside, is_given, places_in};
 ghost use Rattle.pb_language.specs.Sites.{gathering_steps, section_steps, sections_steps, steps_in};
-ghost use Rattle.pb_machine.specs.Steps.{Target as FlatTarget, leaving, saved_target, to_node};
-ghost use Rattle.pb_template.specs.Entries.{entries_view};
+ghost use Rattle.pb_machine.specs.Steps.{Target as FlatTarget, leaving, saved_target};
 ghost use Rattle.pb_play.specs.Plays.{head_view, play_view, step_view, steps_view};
 ghost use Rattle.pb_play.specs.Sound.{step_tasks, tasks_in};
 ghost use Rattle.pb_flow.specs.Build.{IsInside, IsPut, StaySound, all_sections_row, block_alone};
 ghost use Rattle.pb_flow.specs.Build.{block_tasks, ended_steps_row, flush_row, gathering_row};
-ghost use Rattle.pb_flow.specs.Build.{one_section_row, sections_tasks, steps_row, tail_steps};
-ghost use Rattle.pb_flow.specs.Build.{task_of};
-ghost use Rattle.pb_flow.specs.Nodes.{AreVisitedSound, IsVisitedSound, around_view, target_view};
+ghost use Rattle.pb_flow.specs.Build.{one_section_row, sections_tasks, steps_row};
+ghost use Rattle.pb_flow.specs.Nodes.{AreVisitedSound, around_view, target_view};
 ghost use Rattle.pb_flow.specs.Places.{section_places, sections_places};
 
-use crate::graph::{Around, Move, Node, Target, Visited};
-use crate::steps::{Count, is_given};
-use pb_play::{Block, BlockHead, Handler, Play, Step};
+use crate::graph::{Around, Move, Target, Visited};
+use crate::steps::is_given;
+use crate::tail::{Scene, Tail};
+use pb_play::{Block, BlockHead, Play, Step};
 use std::alloc::{AllocError, Global};
 use std::sync::Arc;
-
-// What is the same in the whole play.
-#[derive(Drop)]
-pub(crate) struct Scene<'p> {
-    alloc: Global,
-    handlers: &'p [Handler],
-    // What stands round its sections and its handlers.
-    around: Arc<Around<'p>>,
-}
-
-// The last nodes of a play, in front of which more are put.
-#[derive(Drop)]
-pub(crate) struct Tail<'p> {
-    // The last first.
-    nodes: Vec<Node<'p>>,
-    // The number of the one in front, or of the end while there is none.
-    pub(crate) front: u32,
-    // How many places there are before it.
-    place: u32,
-}
-
-impl<'p> Tail<'p> {
-    // The end alone, behind so many nodes and places.
-    pub(crate) fn behind(alloc: Global, count: Count) -> Tail<'p>
-        requires few { count.steps ≤ most_play_steps }
-        requires places { count.places ≤ most_play_steps }
-        ensures front { result.front ≡ suc count.steps }
-        ensures place { result.place ≡ count.places }
-        ensures nodes { result.nodes.items ≡ [] }
-    {
-        Tail {
-            nodes: Vec::new(alloc),
-            front: count.steps as u32 + 1,
-            place: count.places as u32,
-        }
-    }
-
-    // The nodes in their order.
-    pub(crate) fn into_nodes(self) -> Vec<Node<'p>>
-        ensures { result.items ≡ reverse self.entry.nodes.items }
-    {
-        let mut nodes = self.nodes;
-        nodes.reverse();
-        nodes
-    }
-
-    // Puts a node in front, and says how it is reached.
-    pub(crate) fn put(
-        &mut self,
-        visited: Visited<'p>,
-        around: &Arc<Around<'p>>,
-        handler: Option<u32>,
-        ok: &Target,
-        failed: &Target,
-    ) -> Result<Target, AllocError>
-        requires room { 0 < self.old.front }
-        requires places { 0 < self.old.place }
-        ensures front { OnOk result (suc self.new.front ≡ self.old.front) }
-        ensures place { OnOk result (suc self.new.place ≡ self.old.place) }
-        ensures at { IfOk result (λ at. target_view at ≡ to_node self.new.front) }
-        ensures steps { OnOk result ((ms : Registry) (vars : Parts) → tail_steps ms vars self.new
-            ≡ record {
-              task = task_of ms vars around.now.value self.new.place visited.entry;
-              handler = handler;
-              ok = target_view ok.now;
-              failed = target_view failed.now;
-            } ∷ tail_steps ms vars self.old) }
-        ensures sound { OnOk result ((ms : Registry) (line : Option ℕ)
-            → IsVisitedSound ms line visited.entry → AreVisitedSound ms line self.old.nodes.items
-            → AreVisitedSound ms line self.new.nodes.items) }
-    {
-        let alloc = *self.nodes.allocator();
-        let node = Node {
-            visited,
-            around: around.clone()?,
-            place: self.place - 1,
-            handler,
-            ok: ok.copy()?,
-            failed: failed.copy()?,
-        };
-        self.nodes.push(node)?;
-        self.front -= 1;
-        self.place -= 1;
-        Ok(Target::to_node(alloc, self.front))
-    }
-}
 
 // Puts the handlers of a flush in front, from the last to the first. Behind them a host goes on
 // there; where one fails it leaves.
@@ -509,27 +420,5 @@ pub(crate) fn put_gathering<'p>(
             &leaving,
         ),
         None => after.copy(),
-    }
-}
-
-impl<'p> Scene<'p> {
-    pub(crate) fn of(alloc: Global, play: &'p Play) -> Result<Scene<'p>, AllocError>
-        ensures handlers { IfOk result (λ s. s.handlers.now ≡ play.now.handlers.items) }
-        ensures around { IfOk result (λ s. (ms : Registry)
-            → around_view ms (entries_view play.now.vars.items) s.around.value
-            ≡ play_surroundings ms (play_view play.now)) }
-        ensures depth { IfOk result (λ s. s.around.value.depth ≡ 0) }
-    {
-        let around = Around {
-            blocks: Vec::new(alloc),
-            ignores: false,
-            rescued: false,
-            depth: 0,
-        };
-        Ok(Scene {
-            alloc,
-            handlers: &play.handlers,
-            around: Arc::new(alloc, around)?,
-        })
     }
 }

@@ -14,8 +14,9 @@ ghost use Rattle.pb_flow.specs.Flow.{begins_at, row_links, tasks_of};
 ghost use Rattle.pb_flow.specs.Nodes.{AreVisitedSound, move_view, node_step, node_task};
 ghost use Rattle.pb_flow.specs.Nodes.{nodes_links, target_view, visited_view};
 
-use crate::build::{Scene, Tail, put_gathering, put_sections};
+use crate::build::{put_gathering, put_sections};
 use crate::steps::count_of;
+use crate::tail::{Scene, Tail};
 use pb_play::{BlockHead, Play};
 use pb_task::Task;
 use std::alloc::{AllocError, Global};

@@ -13,6 +13,7 @@ pub mod flow;
 pub mod graph;
 pub mod laws;
 pub mod steps;
+mod tail;
 
 pub use flow::{Flow, Way};
 pub use graph::{Around, Exits, Graph, Move, Node, Target, Visited};

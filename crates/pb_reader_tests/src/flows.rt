@@ -1,6 +1,6 @@
 // Plays as graphs: where a host goes from each task, and how many steps there are.
 use crate::plays::plays_of;
-use pb_flow::{Exits, Flow, Graph, MOST_STEPS, Way, steps_of};
+use pb_flow::{Exits, Flow, Graph, MOST_STEPS, Move, Node, Target, Way, steps_of};
 use pb_play::Play;
 use std::alloc::Global;
 use std::test::Fail;
@@ -12,6 +12,14 @@ const RESCUED: &str = r#"[{"hosts":"all","tasks":[
 
 const FORCED: &str = r#"[{"hosts":"all","force_handlers":true,"tasks":[{"ping":null}],
     "handlers":[{"name":"a","ping":null}]}]"#;
+
+// A block with a `rescue` and an `always` in the `always` part of a block, and that one in the body
+// of a block with a `rescue`.
+const HELD: &str = r#"[{"hosts":"all","tasks":[
+    {"block":[
+        {"block":[{"ping":null}],"always":[
+            {"block":[{"ping":null}],"rescue":[{"ping":null}],"always":[{"ping":null}]}]}],
+    "rescue":[{"ping":null}]}]}]"#;
 
 // Twelve `always` parts in one another, round two tasks.
 const NESTED: &str = r#"[{"hosts":"all","tasks":[
@@ -95,6 +103,77 @@ fn ways_through_a_forced_flush(rt: HostRuntime) -> Result<(), Fail> {
         assert!(rt; leads(&graph, 2, Some(4), None) && stands_at(&graph, 2, 3, 1));
         assert!(rt; leads(&graph, 3, None, None) && stands_at(&graph, 3, 3, 1));
         assert!(rt; is_the_end(&graph, 4) && steps_of(play) == 3);
+    }
+    assert!(rt; plays.len() == 1);
+    Ok(())
+}
+
+fn node_at<'g, 'p>(graph: &'g Graph<'p>, node: usize) -> Option<&'g Node<'p>> {
+    graph.tasks.get(node.checked_sub(1)?)
+}
+
+fn is_way(target: &Target, moves: &[Move], to: Option<u32>) -> bool {
+    target.moves.as_slice() == moves && target.to == to
+}
+
+// Whether a host goes there from the node, with those moves on the way, the first one first.
+fn goes(graph: &Graph, node: usize, moves: &[Move], to: u32) -> bool {
+    match node_at(graph, node) {
+        Some(it) => is_way(&it.ok, moves, Some(to)),
+        None => false,
+    }
+}
+
+// Whether it goes there where its task fails, with those moves on the way.
+fn fails(graph: &Graph, node: usize, moves: &[Move], to: Option<u32>) -> bool {
+    match node_at(graph, node) {
+        Some(it) => is_way(&it.failed, moves, to),
+        None => false,
+    }
+}
+
+// The nodes are the inner body, then the block in the `always` part as it runs else, the same as it
+// runs after a failure (node 6 on), and the outer `rescue`; of that block they are its body, its
+// `rescue`, and its `always` as it runs else and after a failure.
+#[test]
+fn moves_in_an_always_part(rt: HostRuntime) -> Result<(), Fail> {
+    let plays = first_of(rt.alloc(), HELD)?;
+    for play in plays.iter() {
+        let graph = graph_of(rt.alloc(), play)?;
+        assert!(rt; goes(&graph, 1, &[], 2) && fails(&graph, 1, &[Move::Holding(0)], Some(6)));
+        assert!(rt; goes(&graph, 2, &[], 4) && fails(&graph, 2, &[Move::Rescuing(0)], Some(3)));
+        assert!(rt; goes(&graph, 3, &[], 4) && fails(&graph, 3, &[Move::Holding(0)], Some(5)));
+        assert!(rt; goes(&graph, 4, &[], 11) && fails(&graph, 4, &[Move::Rescuing(0)], Some(10)));
+        assert!(rt; goes(&graph, 5, &[Move::Releasing(0), Move::Rescuing(0)], 10));
+        assert!(rt; fails(&graph, 5, &[Move::Rescuing(0)], Some(10)));
+    }
+    assert!(rt; plays.len() == 1);
+    Ok(())
+}
+
+#[test]
+fn moves_in_an_always_part_after_a_failure(rt: HostRuntime) -> Result<(), Fail> {
+    let plays = first_of(rt.alloc(), HELD)?;
+    for play in plays.iter() {
+        let graph = graph_of(rt.alloc(), play)?;
+        assert!(rt; goes(&graph, 6, &[], 8) && fails(&graph, 6, &[Move::Rescuing(0)], Some(7)));
+        assert!(rt; goes(&graph, 7, &[], 8) && fails(&graph, 7, &[Move::Holding(1)], Some(9)));
+        assert!(rt; goes(&graph, 8, &[Move::Releasing(0), Move::Rescuing(0)], 10));
+        assert!(rt; goes(&graph, 9, &[Move::Releasing(1), Move::Rescuing(0)], 10));
+        assert!(rt; fails(&graph, 8, &[Move::Rescuing(0)], Some(10)));
+        assert!(rt; fails(&graph, 9, &[Move::Rescuing(0)], Some(10)));
+    }
+    assert!(rt; plays.len() == 1);
+    Ok(())
+}
+
+#[test]
+fn moves_behind_a_rescue(rt: HostRuntime) -> Result<(), Fail> {
+    let plays = first_of(rt.alloc(), HELD)?;
+    for play in plays.iter() {
+        let graph = graph_of(rt.alloc(), play)?;
+        assert!(rt; goes(&graph, 10, &[], 11) && is_the_end(&graph, 11));
+        assert!(rt; fails(&graph, 10, &[Move::Holding(0), Move::Releasing(0)], None));
     }
     assert!(rt; plays.len() == 1);
     Ok(())

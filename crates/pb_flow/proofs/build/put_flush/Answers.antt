@@ -11,7 +11,7 @@ use Rattle.pb_syntax.proofs.Left.{drop-at}
 use Rattle.pb_machine.specs.Steps.{Target, leaving, to_node, flush_target, flush_steps}
 use Rattle.pb_flow.specs.Build.{IsPut, StaySound, tail_steps}
 use Rattle.pb_flow.specs.Nodes.{around_view, target_view}
-use Rattle.pb_flow.specs.declared.build.Tail.{Tail}
+use Rattle.pb_flow.specs.declared.tail.Tail.{Tail}
 use Rattle.pb_flow.proofs.Sounds.{stay-handler}
 use Rattle.pb_flow.proofs.build.put_flush.Goals as goal
 

@@ -6,7 +6,7 @@ use Rattle.pb_play.specs.Sound.{tasks_in}
 use Rattle.pb_flow.specs.Build.{IsPut, handlers_from}
 use Rattle.pb_flow.specs.Nodes.{around_view, target_view}
 use Rattle.pb_machine.specs.Steps.{leaving}
-use Rattle.pb_flow.specs.declared.build.Tail.{Tail}
+use Rattle.pb_flow.specs.declared.tail.Tail.{Tail}
 use Rattle.pb_flow.proofs.Blocks.{both-ok, on-ok}
 use Rattle.pb_flow.proofs.Puts.{put-section}
 use Rattle.pb_flow.proofs.Sounds.{stay-both, stay-more}

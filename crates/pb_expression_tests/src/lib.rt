@@ -9,4 +9,6 @@ mod expressions;
 #[cfg(test)]
 mod lattices;
 #[cfg(test)]
+mod scopes;
+#[cfg(test)]
 mod worlds;

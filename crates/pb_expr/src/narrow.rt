@@ -18,7 +18,7 @@ use crate::asked::{all_turns, here_anew, inquiry_of};
 use crate::change::{Change, teach};
 use crate::inference::narrow_here;
 use pb_forms::inferred::Inferred;
-use pb_syntax::{Expr, Path, Root, Status, Term};
+use pb_syntax::{Expr, Path, Root, Status, Term, names_copied};
 use pb_taught::known::Known;
 use pb_taught::scope::{Taught, both};
 use std::alloc::{AllocError, Global};

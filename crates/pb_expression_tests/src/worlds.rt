@@ -382,7 +382,7 @@ fn names_without_a_value(rt: HostRuntime) -> Result<(), Fail> {
 
 // The bound copy of the path has that slot.
 fn has_slot(alloc: Global, path: Path, expected: Option<u32>) -> Result<(), Fail> {
-    match Expr::Defined(path).bind(alloc, &Numbers)? {
+    match &Expr::Defined(path).bind(alloc, &Numbers)? {
         Expr::Defined(path) if path.slot == expected => Ok(()),
         _ => Err("another slot")?,
     }

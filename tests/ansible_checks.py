@@ -7,6 +7,7 @@ import sys
 import tempfile
 from pathlib import Path
 
+from ansible_formats import wrong_gitlab, wrong_junit, wrong_sarif, wrong_strict
 from check import Check, outcome_of
 
 TOP = Path(__file__).resolve().parent.parent
@@ -144,6 +145,10 @@ def lost_passes():
             if f"`{one.__name__}`" not in page]
 
 
+SEARCHES = (lost_titles, lost_passes, lost_hook, wrong_conversion, wrong_signatures, wrong_gitlab, wrong_junit,
+            wrong_strict, wrong_sarif)
+
+
 def main():
     try:
         import yaml  # noqa: F401
@@ -152,8 +157,7 @@ def main():
         print("0 passed, 0 failed")
         return 0
     os.environ["PLAYCHECK"] = str(Path(sys.argv[1]).resolve())
-    results = ["\n".join(search()) for search in (lost_titles, lost_passes, lost_hook, wrong_conversion,
-                                                      wrong_signatures)]
+    results = ["\n".join(search()) for search in SEARCHES]
     results += [wrong_transcript(*one) for one in transcripts()]
     results += [wrong_hostile(*one) for one in hostile()]
     for wrong in results:

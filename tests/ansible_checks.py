@@ -125,14 +125,16 @@ def lost_hook():
 
 
 def lost_titles():
-    """The titles of the codes are those of docs/REFUSALS.md."""
+    """The titles of the codes are those of the pages."""
     sys.path.insert(0, str(TOP / "ansible"))
     sys.dont_write_bytecode = True
-    from playcheck_ansible.codes import PAGE, TITLES
+    from playcheck_ansible.codes import OWN_PAGE, OWN_TITLES, PAGE, TITLES
 
-    page = dict(re.findall(r"^### ([A-Z]\d\d): (.*)$", PAGE.read_text(encoding="utf-8"), re.M))
-    return [f"{code}: {page.get(code)!r} on the page, {TITLES.get(code)!r} in codes.py"
-            for code in sorted({*page, *TITLES}) if page.get(code) != TITLES.get(code)]
+    text = PAGE.read_text(encoding="utf-8") + OWN_PAGE.read_text(encoding="utf-8")
+    page = dict(re.findall(r"^### ([A-Z]\d\d|A-[a-z]+): (.*)$", text, re.M))
+    titles = {**TITLES, **OWN_TITLES}
+    return [f"{code}: {page.get(code)!r} on the page, {titles.get(code)!r} in codes.py"
+            for code in sorted({*page, *titles}) if page.get(code) != titles.get(code)]
 
 
 def lost_passes():

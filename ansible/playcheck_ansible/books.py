@@ -33,6 +33,7 @@ class Task:
     sets_unseen: bool = False  # it may set names that the book doesn't show
     forgets: bool = False  # it may bring hosts back that failed, or take variables away
     ends_host: bool = False  # it may end the play for a host that goes on with the next one
+    mistakes: list = field(default_factory=list)  # what the documentation of its module forbids
 
     def __post_init__(self):
         self.written = self.words.copy()

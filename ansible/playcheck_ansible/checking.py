@@ -2,7 +2,7 @@
 from dataclasses import dataclass, field
 
 from .books import Block, Play, Raw
-from .codes import TITLES
+from .codes import OWN_TITLES, TITLES
 from .facts import trust_facts
 from .hints import hint
 from .hosts import host_patterns, with_localhost
@@ -90,6 +90,7 @@ def settled(path, options):
     book, inventory = prepared(path, options)
     with Asker(inventory.json(), options.modules.signatures(book)) as asker:
         settler = Settler(book, options.modules, inventory, asker)
+        settler.take_mistakes(finding_of_mistake)
         settler.settle(finding_of, options.go_on)
     return settler, inventory
 
@@ -101,7 +102,7 @@ def check_book(path, options):
 def report_of(path, settler):
     tasks = settler.tasks
     report = Report(path, tasks=len(tasks))
-    report.findings = sorted((found for _, found in settler.findings), key=lambda found: found.number)
+    report.findings = numbered(settler)
     refused = {id(line.step) for line, _ in settler.findings if line is not None and line.step is not None}
     for task in tasks:
         if task.reason and id(task) not in refused:
@@ -111,6 +112,15 @@ def report_of(path, settler):
     report.judged = sum(not task.reason or task.reason.startswith(CUT) for task in tasks)
     report.budget = settler.answer.budget
     return report
+
+
+def numbered(settler):
+    """The findings in the order of their counted lines; those of the front end itself get theirs now."""
+    numbers = {id(line.step): number for number, line in enumerate(settler.numbered.lines) if line is not None}
+    for line, found in settler.findings:
+        if line is not None and not found.number:
+            found.number = numbers[id(line.step)]
+    return sorted((found for _, found in settler.findings), key=lambda found: found.number)
 
 
 def finding_of(answer, line, settler):
@@ -126,3 +136,7 @@ def finding_of(answer, line, settler):
                    found.detail, found.help, answer.line)
 
 
+def finding_of_mistake(mistake, line):
+    """The finding of what the front end sees itself."""
+    return Finding(mistake.code, OWN_TITLES[mistake.code], mistake.place, "", line.name, line.play.name, line.kind,
+                   mistake.detail)

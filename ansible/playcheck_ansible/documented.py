@@ -4,7 +4,7 @@ import re
 import shutil
 import subprocess
 
-from .modules import BOOL_FIELD, FAILURE, PROFILE
+from .modules import BOOL_FIELD, FAILURE, PROFILE, are_choices
 from .problems import Problem
 
 SECONDS = 300
@@ -72,23 +72,41 @@ def declared_name(name):
 
 
 def signature_of(name, document):
-    params, unkinded, aliases = {}, [], {}
-    for option, given in sorted((document["doc"].get("options") or {}).items()):
+    params, unkinded = {}, []
+    options = dict(sorted((document["doc"].get("options") or {}).items()))
+    required = [option for option, given in options.items() if is_required(name, option, given)]
+    for option, given in options.items():
         kind = kind_of(given)
-        for alias in given.get("aliases") or []:
-            aliases[alias] = option
         if kind is None or not VARIABLE.fullmatch(option) or len(params) >= MOST_PARAMETERS:
             unkinded.append(option)
         else:
-            is_required = given.get("required") is True and (name, option) not in NOT_REQUIRED
-            params[option] = {"kind": kind, "required": is_required}
+            params[option] = {"kind": kind, "required": option in required}
     ok = {"changed": BOOL_FIELD}
     for option, given in sorted((document.get("return") or {}).items()):
         kind = kind_of(given) if isinstance(given, dict) else None
         if kind is not None and VARIABLE.fullmatch(option) and option not in NOT_FIELDS and len(ok) < MOST_PARAMETERS:
             ok[option] = {"kind": kind, "always": bool(ALWAYS.fullmatch(str(given.get("returned", "")).strip()))}
     return {"name": declared_name(name), "params": params, "ok": ok, "failure": FAILURE,
-            "ansible": {"name": name, "aliases": aliases, "asked": unkinded}}
+            "ansible": {"name": name, "aliases": aliases_of(options), "asked": unkinded, "required": required,
+                        "choices": {option: choices_of(given) for option, given in options.items()
+                                    if choices_of(given)}}}
+
+
+def is_required(name, option, given):
+    is_free = option in ("free_form", "free-form")
+    return given.get("required") is True and not is_free and (name, option) not in NOT_REQUIRED
+
+
+def aliases_of(options):
+    return {alias: option for option, given in options.items() for alias in given.get("aliases") or []}
+
+
+def choices_of(given):
+    """The choices of a parameter that can be compared: those of its own kind."""
+    choices = list(given.get("choices") or [])
+    kind = given.get("elements", "str") if given.get("type") == "list" else given.get("type", "str")
+    wanted = {"str": str, "int": int}.get(kind)
+    return choices if wanted and are_choices(choices) and choices and isinstance(choices[0], wanted) else []
 
 
 def kind_of(given):

@@ -54,6 +54,16 @@ MOST_DECLARED = 256
 
 
 @dataclass
+class Documented:
+    """What Ansible's documentation says of a module beside its signature."""
+
+    name: str  # Ansible's own
+    fields: set = field(default_factory=set)  # those of an answer that have a kind
+    choices: dict = field(default_factory=dict)  # a parameter to the values that it may have
+    required: list = field(default_factory=list)
+
+
+@dataclass
 class Modules:
     """The modules that a book may call: the profile's, and those of a file of signatures."""
 
@@ -64,7 +74,7 @@ class Modules:
         self.aliases = {name: dict(given) for name, given in ALIASES.items()}
         self.asked = {name: set(given) for name, given in PASSED_OVER.items()}
         self.written = {}  # Ansible's name of a module to the one that it is declared under
-        self.documented = {}  # the fields of a module whose signature comes of its documentation
+        self.documented = {}  # of a module whose signature comes of its documentation: Documented
         for module in self.declared:
             params = module.get("params", {})
             self.parameters[module["name"]] = {name: kind_of(param) for name, param in params.items()}
@@ -77,7 +87,8 @@ class Modules:
             self.written[further.get("name", name)] = name
             self.aliases[name] = dict(further.get("aliases") or {})
             self.asked[name] = set(further.get("asked") or [])
-            self.documented[name] = set(module.get("ok") or {})
+            self.documented[name] = Documented(further.get("name", name), set(module.get("ok") or {}),
+                                               further.get("choices") or {}, further.get("required") or [])
 
     def has(self, name):
         return name in self.parameters
@@ -119,8 +130,29 @@ def read_signatures(paths):
         if not isinstance(found, list) or not all(isinstance(module, dict) and isinstance(module.get("name"), str)
                                                   and isinstance(module.get("params"), dict) for module in found):
             raise Problem(Place(path), "a list of modules with `name` and `params` is wanted")
+        for module in found:
+            if not is_documentation(module.get("ansible", {})):
+                raise Problem(Place(path), f"the field `ansible` of the module {module['name']} has another form")
         declared += found
     return Modules(declared)
+
+
+def is_documentation(further):
+    """Whether the field that only playcheck-ansible reads has its form."""
+    return (isinstance(further, dict) and isinstance(further.get("name", ""), str)
+            and is_names(further.get("asked", [])) and is_names(further.get("required", []))
+            and isinstance(further.get("aliases", {}), dict) and is_names(list(further.get("aliases", {}).values()))
+            and isinstance(further.get("choices", {}), dict)
+            and all(map(are_choices, further.get("choices", {}).values())))
+
+
+def is_names(found):
+    return isinstance(found, list) and all(isinstance(name, str) for name in found)
+
+
+def are_choices(found):
+    """Whether these are choices that are compared: texts alone, or whole numbers alone."""
+    return is_names(found) or isinstance(found, list) and all(type(one) is int for one in found)
 
 
 def short_name(key):

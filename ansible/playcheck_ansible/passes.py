@@ -3,6 +3,7 @@
 import re
 
 from .books import is_module
+from .mistakes import documented_values
 from .modules import CHANGES_FLOW, FREE_FORM, SETS_UNSEEN, short_name
 from .nodes import Mapping, Scalar, Sequence, has_template, is_literal, is_nothing, is_text, made, plain, texts_of
 from .values import WHOLE, arguments_of, as_bool, as_int, converted
@@ -325,4 +326,5 @@ def facts(node, task):
 
 
 TASK_PASSES = (plain_keywords, plain_conditions, action_words, plain_module_names, flow_words, name_value_texts,
-               merged_args, passed_words, loops, known_module, meta_actions, messages, parameters)
+               merged_args, passed_words, loops, known_module, meta_actions, messages, documented_values,
+               parameters)

@@ -4,7 +4,7 @@ import json
 import re
 import xml.etree.ElementTree as xml
 
-from .codes import TITLES
+from .codes import OWN_TITLES, TITLES
 from .wording import message_of, verdict_of
 
 SARIF_SCHEMA = "https://json.schemastore.org/sarif-2.1.0.json"
@@ -27,7 +27,7 @@ def uri_of(place):
 
 def sarif_format(reports, has_colour):
     used = sorted({one.code for report in reports for one in report.findings})
-    rules = [{"id": code, "shortDescription": {"text": TITLES.get(code, code)}} for code in used]
+    rules = [{"id": code, "shortDescription": {"text": {**TITLES, **OWN_TITLES}.get(code, code)}} for code in used]
     rules.append({"id": NOT_JUDGED, "shortDescription": {"text": "a task that isn't judged"}})
     results = []
     for report in reports:

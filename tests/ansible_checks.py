@@ -2,19 +2,17 @@
 import json
 import os
 import re
-import subprocess
 import sys
 import tempfile
 from pathlib import Path
 
+from ansible_tools import SECONDS, TOOL, TOP, run_tool
+from ansible_lookups import wrong_lookups, wrong_time_limit
 from ansible_formats import wrong_gitlab, wrong_junit, wrong_sarif, wrong_strict
 from check import Check, outcome_of
 
-TOP = Path(__file__).resolve().parent.parent
 CASES = TOP / "tests" / "ansible"
-TOOL = TOP / "playcheck-ansible"
 MEGABYTES = 700
-SECONDS = 30
 INVENTORY = '{"all": {"hosts": ["h1"]}}'
 
 
@@ -29,10 +27,7 @@ def transcripts():
 
 
 def wrong_transcript(folder, words, said, told, status):
-    # In `bin` stand programs in the place of those of ansible-core.
-    environment = {**os.environ, "PATH": f"{folder / 'bin'}:{os.environ['PATH']}"}
-    done = subprocess.run([TOOL, *words], cwd=folder, capture_output=True, text=True, check=False, timeout=SECONDS,
-                          stdin=subprocess.DEVNULL, env=environment)
+    done = run_tool(words, folder, folder / "bin")
     found = (done.stdout.splitlines(), done.stderr.splitlines(), done.returncode)
     if found == (said, told, status):
         return ""
@@ -96,8 +91,8 @@ def wrong_conversion():
     folder = CASES / "converted"
     wanted = json.loads((folder / "wanted.json").read_text(encoding="utf-8"))
     with tempfile.TemporaryDirectory() as made:
-        words = [TOOL, "convert", "book.yml", "-i", "../inventory.yml", "-o", made]
-        done = subprocess.run(words, cwd=folder, capture_output=True, check=False, timeout=SECONDS)
+        words = ["convert", "book.yml", "-i", "../inventory.yml", "-o", made]
+        done = run_tool(words, folder)
         found = {path.stem: json.loads(path.read_text(encoding="utf-8")) for path in Path(made).glob("*.json")}
     if done.returncode or found != wanted:
         yield f"convert: status {done.returncode}, wanted {json.dumps(wanted)}, found {json.dumps(found)}"
@@ -106,10 +101,8 @@ def wrong_conversion():
 def wrong_signatures():
     """What `signatures` writes out of the documentation, and what it says of the modules that can't be declared."""
     folder = CASES / "documented"
-    environment = {**os.environ, "PATH": f"{folder / 'bin'}:{os.environ['PATH']}"}
-    done = subprocess.run([TOOL, "signatures", "book.yml", "gone"], cwd=folder, env=environment, capture_output=True,
-                          text=True, check=False, timeout=SECONDS)
-    told = ["playcheck-ansible: the module gone isn't declared: ansible-doc does not know it",
+    done = run_tool(["signatures", "book.yml", "gone"], folder, folder / "bin")
+    told = ["playcheck-ansible: the module gone isn't declared: ansible-doc doesn't know it",
             "playcheck-ansible: the module package_facts isn't declared: it sets facts"]
     wanted = json.loads((folder / "signatures.json").read_text(encoding="utf-8"))
     if done.returncode or done.stderr.splitlines() != told or json.loads(done.stdout) != wanted:
@@ -148,7 +141,7 @@ def lost_passes():
 
 
 SEARCHES = (lost_titles, lost_passes, lost_hook, wrong_conversion, wrong_signatures, wrong_gitlab, wrong_junit,
-            wrong_strict, wrong_sarif)
+            wrong_strict, wrong_sarif, wrong_lookups, wrong_time_limit)
 
 
 def main():

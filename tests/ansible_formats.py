@@ -1,13 +1,11 @@
 # Tries the formats for pipelines that playcheck-ansible prints, against what their publishers want of each file.
 import json
-import subprocess
 import tempfile
 import xml.etree.ElementTree as xml
 from pathlib import Path
 
-TOP = Path(__file__).resolve().parent.parent
-TOOL = TOP / "playcheck-ansible"
-SECONDS = 30
+from ansible_tools import run_tool
+
 HOSTS = '{"all": {"hosts": ["h1", "h2"]}}'
 PLAY = "- hosts: all\n  gather_facts: false\n  tasks:\n"
 GOOD = PLAY + '    - debug: {msg: "a & b"}\n'
@@ -33,9 +31,8 @@ def printed(kind, *words, files=None):
             Path(folder, name).write_text(text, encoding="utf-8")
         Path(folder, "hosts.json").write_text(HOSTS, encoding="utf-8")
         names = sorted(files or ("bad.yml", "good.yml"))
-        done = subprocess.run([TOOL, "check", "--format", kind, *words, *names, "-i", "hosts.json"], cwd=folder,
-                              capture_output=True, check=False, timeout=SECONDS, stdin=subprocess.DEVNULL)
-        return done.stdout, done.returncode
+        done = run_tool(["check", "--format", kind, *words, *names, "-i", "hosts.json"], folder)
+        return done.stdout.encode(), done.returncode
 
 
 def wrong_gitlab():

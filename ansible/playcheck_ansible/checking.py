@@ -66,9 +66,8 @@ class Options:
     trusts_facts: bool = False
 
 
-def prepared(path, options):
+def prepared(path, options, book):
     """The book with its passes run, and the inventory that it is judged with."""
-    book = load_book(path)
     inventory = read_inventories(options.inventories, path)
     plays = [play for play in book.plays if isinstance(play, Play)]
     for play in plays:
@@ -85,9 +84,9 @@ def prepared(path, options):
     return book, inventory
 
 
-def settled(path, options):
+def settled(path, options, book=None):
     """The book as it was judged last, with the inventory that it was judged with."""
-    book, inventory = prepared(path, options)
+    book, inventory = prepared(path, options, book or load_book(path))
     with Asker(inventory.json(), options.modules.signatures(book)) as asker:
         settler = Settler(book, options.modules, inventory, asker)
         settler.take_mistakes(finding_of_mistake)
@@ -95,8 +94,8 @@ def settled(path, options):
     return settler, inventory
 
 
-def check_book(path, options):
-    return report_of(path, settled(path, options)[0])
+def check_book(path, options, book=None):
+    return report_of(path, settled(path, options, book)[0])
 
 
 def report_of(path, settler):

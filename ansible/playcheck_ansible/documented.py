@@ -2,10 +2,10 @@
 import json
 import re
 import shutil
-import subprocess
 
 from .modules import BOOL_FIELD, FAILURE, PROFILE, are_choices
 from .problems import Problem
+from .processes import run_within
 
 SECONDS = 300
 MOST_PARAMETERS = 64
@@ -20,26 +20,21 @@ NOT_REQUIRED = {("package", "state")}
 NOT_FIELDS = ("failed", "skipped", "skip_reason", "results", "unreachable", "changed")
 
 
-def documentation(names):
+def documentation(names, seconds=SECONDS):
     """What ansible-doc has on these modules; those that it doesn't know are left out."""
     found = shutil.which("ansible-doc")
     if not found:
         raise Problem(None, "`ansible-doc` isn't installed; it comes with ansible-core")
-    read = {}
-    for start in range(0, len(names), 200):
-        read.update(asked(found, names[start:start + 200]))
-    return read
-
-
-def asked(command, names):
+    said, told, status = run_within([found, "-t", "module", "--json", *names], seconds)
+    if status and not said.strip():
+        raise Problem(None, f"ansible-doc ended with status {status}: {' '.join(told.split())[-200:]}")
     try:
-        done = subprocess.run([command, "-t", "module", "--json", *names], capture_output=True, text=True, check=False,
-                              stdin=subprocess.DEVNULL, timeout=SECONDS)
-        return json.loads(done.stdout) if done.stdout.strip() else {}
-    except (OSError, subprocess.TimeoutExpired) as error:
-        raise Problem(None, f"ansible-doc couldn't be run: {error}") from None
-    except ValueError as error:
+        read = json.loads(said or "{}")
+    except (ValueError, RecursionError) as error:
         raise Problem(None, f"ansible-doc printed no JSON: {error}") from None
+    if not isinstance(read, dict) or not all(isinstance(document, dict) for document in read.values()):
+        raise Problem(None, "ansible-doc printed no object of modules")
+    return read
 
 
 def signatures_of(documents):

@@ -68,6 +68,7 @@ class Modules:
     """The modules that a book may call: the profile's, and those of a file of signatures."""
 
     declared: list = field(default_factory=list)
+    unknown: dict = field(default_factory=dict)  # modules that were looked up in vain, with the reason
 
     def __post_init__(self):
         self.parameters = dict(PROFILE)
@@ -102,10 +103,10 @@ class Modules:
 
     def signatures(self, book):
         """The signatures that the program is given, and that of the module in a task's place."""
-        declared = [{key: part for key, part in module.items() if key != "ansible"} for module in self.declared]
-        if len(declared) >= MOST_DECLARED:
-            used = {key for task in book.tasks() for key in task.words.pairs}
-            declared = [module for module in declared if module["name"] in used]
+        used = {key for task in book.tasks() for key in task.words.pairs}
+        are_many = len(self.declared) >= MOST_DECLARED
+        declared = [{key: part for key, part in module.items() if key != "ansible"} for module in self.declared
+                    if module["name"] in used or not are_many and "ansible" not in module]
         return [*declared, {"name": self.unjudged_name(), "params": {}, "ok": {"changed": BOOL_FIELD},
                             "failure": FAILURE}]
 

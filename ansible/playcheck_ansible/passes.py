@@ -204,7 +204,9 @@ def known_module(task, modules):
     if len(keys) != 1 or modules.has(keys[0]):
         return
     module, node = keys[0], task.words.get(keys[0])
-    task.leave(f"the module `{module}` is neither built in nor declared", task.words.keys.get(module) or node.place)
+    why = f": {modules.unknown[module]}" if module in modules.unknown else ""
+    told = f"the module `{module}` is neither built in nor declared{why}"
+    task.leave(told, task.words.keys.get(module) or node.place)
     if not task.is_handler and module not in SETS_UNSEEN:
         task.is_still_asked = True
         task.asked += [converted(text, "omitted") for text in texts_of(node)]

@@ -8,6 +8,7 @@ from pathlib import Path
 
 from ansible_tools import SECONDS, TOOL, TOP, run_tool
 from ansible_lookups import wrong_lookups, wrong_time_limit
+from ansible_rewritings import wrong_rewritings
 from ansible_formats import wrong_gitlab, wrong_junit, wrong_sarif, wrong_strict
 from check import Check, outcome_of
 
@@ -132,16 +133,17 @@ def lost_titles():
 
 def lost_passes():
     """Each pass is named in docs/FROM_ANSIBLE.md."""
+    from playcheck_ansible.literals import LITERAL_PASSES
     from playcheck_ansible.passes import TASK_PASSES
     from playcheck_ansible.plays import PLAY_PASSES
 
     page = (TOP / "docs" / "FROM_ANSIBLE.md").read_text(encoding="utf-8")
-    return [f"docs/FROM_ANSIBLE.md doesn't name {one.__name__}" for one in (*TASK_PASSES, *PLAY_PASSES)
+    return [f"docs/FROM_ANSIBLE.md doesn't name {one.__name__}" for one in (*TASK_PASSES, *PLAY_PASSES, *LITERAL_PASSES)
             if f"`{one.__name__}`" not in page]
 
 
 SEARCHES = (lost_titles, lost_passes, lost_hook, wrong_conversion, wrong_signatures, wrong_gitlab, wrong_junit,
-            wrong_strict, wrong_sarif, wrong_lookups, wrong_time_limit)
+            wrong_strict, wrong_sarif, wrong_lookups, wrong_time_limit, wrong_rewritings)
 
 
 def main():

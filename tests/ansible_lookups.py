@@ -1,4 +1,4 @@
-# Tries how playcheck-ansible looks modules up: one call for all books, with a limit of time, and none where it isn't wanted.
+# Tries how playcheck-ansible looks modules up: by one call with a limit of time, and not where that is not wanted.
 import sys
 import tempfile
 import time

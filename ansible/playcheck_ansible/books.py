@@ -33,6 +33,7 @@ class Task:
     sets_unseen: bool = False  # it may set names that the book doesn't show
     forgets: bool = False  # it may bring hosts back that failed, or take variables away
     ends_host: bool = False  # it may end the play for a host that goes on with the next one
+    outer_names: set = field(default_factory=set)  # those that `vars` and words round it mention
     mistakes: list = field(default_factory=list)  # what the documentation of its module forbids
 
     def __post_init__(self):
@@ -95,6 +96,7 @@ class Play:
     defaults: dict = field(default_factory=dict)  # what roles give where nothing else does
     unseen_files: list = field(default_factory=list)  # files of variables that couldn't be read
     lost: dict = field(default_factory=dict)  # names of `vars` that the profile can't have, with the reason
+    prompted: set = field(default_factory=set)  # names whose values are asked for at the start
 
     def __post_init__(self):
         self.written = self.words.copy()

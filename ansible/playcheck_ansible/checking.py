@@ -7,6 +7,7 @@ from .facts import trust_facts
 from .hints import hint
 from .hosts import host_patterns, with_localhost
 from .inventory import read_inventories
+from .literals import run_literal_passes
 from .loading import load_book
 from .plays import leave_all, run_book_passes
 from .problems import Place
@@ -74,6 +75,7 @@ def prepared(path, options, book):
         for holder in [play, *(step for step in play.steps() if isinstance(step, Block))]:
             put_defaults(holder, play, inventory)
     run_book_passes(book, options.modules, options.extra)
+    run_literal_passes(book, inventory)
     if options.trusts_facts:
         trust_facts(book)
     added = with_localhost(inventory, plays)

@@ -3,10 +3,11 @@
 import re
 
 from .books import is_module
+from .loops import dict_loops, loop_variables, loops
 from .mistakes import documented_values
 from .modules import CHANGES_FLOW, FREE_FORM, SETS_UNSEEN, short_name
 from .nodes import Mapping, Scalar, Sequence, has_template, is_literal, is_nothing, is_text, made, plain, texts_of
-from .values import WHOLE, arguments_of, as_bool, as_int, converted
+from .values import arguments_of, as_bool, as_int, converted, is_whole
 
 # Words that change neither the flow nor the variables.
 PASSED = ("tags", "become", "become_exe", "become_flags", "become_method", "become_user", "environment", "no_log",
@@ -159,45 +160,6 @@ def passed_words(task, modules):
         task.asked.append(node)
 
 
-def loops(task, modules):
-    """`with_list`, and `with_items` one level flat, are `loop`; a label of `loop_control` is asked."""
-    if "with_list" in task.words:
-        task.words.put("loop", task.words.take("with_list"))
-    if "with_items" in task.words:
-        node = task.words.take("with_items")
-        flat = flat_items(node)
-        if flat is None:
-            task.leave("`with_items` with a list in a template beside others", node.place)
-            return
-        task.words.put("loop", flat)
-    for key in task.words.pairs:
-        if key.startswith("with_"):
-            task.leave(f"`{key}`", task.words.keys.get(key))
-            return
-    control = task.words.take("loop_control")
-    if control is None or is_nothing(control):
-        return
-    if not isinstance(control, Mapping) or set(control.pairs) - {"label", "pause"}:
-        task.leave("`loop_control` with more than `label` and `pause`", control.place)
-        return
-    task.asked += control.pairs.values()
-
-
-def flat_items(node):
-    """The items of `with_items`, or None where a template among them may be a list."""
-    if not isinstance(node, Sequence):
-        return node
-    items = []
-    for item in node.items:
-        if isinstance(item, Sequence):
-            items += item.items
-        elif is_whole(item):
-            return None
-        else:
-            items.append(item)
-    return Sequence(items, node.place)
-
-
 def known_module(task, modules):
     """A task with another module than those of the profile and of the signatures isn't judged; its texts are asked."""
     keys = [key for key in task.words.pairs if is_module(key)]
@@ -294,10 +256,6 @@ def parameters(task, modules):
             node.put(name, converted(node.get(name), kind, name))
 
 
-def is_whole(node):
-    return is_text(node) and WHOLE.fullmatch(node.value) is not None
-
-
 def rename(node, names):
     for name, other in names.items():
         if name in node and other not in node:
@@ -328,5 +286,5 @@ def facts(node, task):
 
 
 TASK_PASSES = (plain_keywords, plain_conditions, action_words, plain_module_names, flow_words, name_value_texts,
-               merged_args, passed_words, loops, known_module, meta_actions, messages, documented_values,
-               parameters)
+               merged_args, passed_words, messages, dict_loops, loop_variables, loops, known_module, meta_actions,
+               documented_values, parameters)

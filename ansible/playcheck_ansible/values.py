@@ -13,6 +13,11 @@ INSTEAD = {"omitted": "''", "text": "''", "bool": "false", "list": "[]", "int": 
 OPENING = {"{{": "}}", "{%": "%}", "{#": "#}"}
 
 
+def is_whole(node):
+    """Whether a node is a text that is one template."""
+    return is_text(node) and WHOLE.fullmatch(node.value) is not None
+
+
 def split_words(text):
     """The words of a text as Ansible splits them: blanks in quotes and in braces divide nothing."""
     words, current, quote, closing = [], "", "", ""

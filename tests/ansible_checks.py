@@ -6,10 +6,11 @@ import sys
 import tempfile
 from pathlib import Path
 
-from ansible_tools import SECONDS, TOOL, TOP, run_tool
-from ansible_lookups import wrong_lookups, wrong_time_limit
-from ansible_rewritings import wrong_rewritings
 from ansible_formats import wrong_gitlab, wrong_junit, wrong_sarif, wrong_strict
+from ansible_lookups import wrong_lookups, wrong_time_limit
+from ansible_pipelines import lost_words, wrong_action, wrong_completion, wrong_gitlab_job
+from ansible_rewritings import wrong_rewritings
+from ansible_tools import SECONDS, TOOL, TOP, run_tool
 from check import Check, outcome_of
 
 CASES = TOP / "tests" / "ansible"
@@ -143,7 +144,8 @@ def lost_passes():
 
 
 SEARCHES = (lost_titles, lost_passes, lost_hook, wrong_conversion, wrong_signatures, wrong_gitlab, wrong_junit,
-            wrong_strict, wrong_sarif, wrong_lookups, wrong_time_limit, wrong_rewritings)
+            wrong_strict, wrong_sarif, wrong_lookups, wrong_time_limit, wrong_rewritings, wrong_completion, lost_words,
+            wrong_action, wrong_gitlab_job)
 
 
 def main():

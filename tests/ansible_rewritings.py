@@ -4,8 +4,8 @@ import sys
 from ansible_tools import TOP
 
 # The values that anything gives to a name; None where another one is possible too, nothing where nothing gives it.
-VALUES = {"yes_no": [True, False], "on": [True], "off": [False], "texts": ["Yes", "no"], "plain": ["a"], "empty": ["", "a"],
-          "mixed": [True, "yes"], "number": [1], "zero": [0], "any": None}
+VALUES = {"yes_no": [True, False], "on": [True], "off": [False], "texts": ["Yes", "no"], "plain": ["a"],
+          "empty": ["", "a"], "mixed": [True, "yes"], "number": [1], "zero": [0], "any": None}
 TRUTHS = [
     ("yes_no | bool", "yes_no"),
     ("not on|bool and off | bool", "not on and off"),
@@ -27,7 +27,8 @@ KEPT_TRUTHS = [
     "any | bool", "gone | bool", "mixed | bool", "number | bool", "any | default(false) | bool", "on.x | bool",
     "x. on | bool", "x['on'] | bool", "(on) | bool", "on | bool | string", "on | bool.x", "on | boolean",
     "yes_no | default(true, true) | bool", "empty | default(true, true) | bool", "gone | default(any) | bool",
-    "'on | bool'", "item | default(false) | bool", "ansible_x | default(false) | bool", "on", "gone | default([]) | bool",
+    "'on | bool'", "item | default(false) | bool", "ansible_x | default(false) | bool", "on",
+    "gone | default([]) | bool",
 ]
 DEFAULTS = [
     ("plain | default('x', true)", "plain | default('x')"),

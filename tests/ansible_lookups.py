@@ -23,6 +23,11 @@ echo '{"probe": {"doc": {"options": {"state": {"choices": ["absent", "present"]}
 """
 FAILS = "#!/bin/sh\necho no such luck >&2\nexit 5\n"
 NO_JSON = "#!/bin/sh\necho '[1'\n"
+# As ansible-core's ends where one of the modules has no documentation.
+FAILS_ON_ONE = KNOWS_ONE.replace("#!/bin/sh\n", """#!/bin/sh
+case $* in *other.sort.thing*) echo "$@" >> calls
+echo "ERROR! module other.sort.thing missing documentation (or could not parse documentation): none" >&2; exit 1 ;; esac
+""")
 CHECK = ["check", "one.yml", "broken.yml", "two.yml", "-i", "hosts.json", "-s", "own.json"]
 BROKEN = "playcheck-ansible: broken.yml:2:1: this is no YAML: did not find expected node content"
 NEITHER = "is neither built in nor declared"
@@ -51,6 +56,8 @@ def looked_up(program, *words):
 def wrong_lookups():
     cases = [
         ("one call", KNOWS_ONE, [], [CHOICE, UNKNOWN], [BROKEN], ["-t module --json other.sort.thing probe"]),
+        ("one without documentation", FAILS_ON_ONE, [], [CHOICE, UNKNOWN], [BROKEN],
+         ["-t module --json other.sort.thing probe", "-t module --json probe"]),
         ("--no-lookup", KNOWS_ONE, ["--no-lookup"], NOT_LOOKED_UP, [BROKEN], []),
         ("no ansible-core", "", [], NOT_LOOKED_UP, [BROKEN], []),
         ("a failure", FAILS, [], NOT_LOOKED_UP,

@@ -8,6 +8,8 @@ from .problems import Problem
 from .processes import run_within
 
 SECONDS = 300
+MOST_UNDOCUMENTED = 4
+UNDOCUMENTED = re.compile(r"module (\S+) missing documentation")
 MOST_PARAMETERS = 64
 MOST_ITEMS = 65536
 TEXTS = ("str", "path", "sid", "bytes", "bits", "float", "json", "jsonarg")
@@ -20,13 +22,18 @@ NOT_REQUIRED = {("package", "state")}
 NOT_FIELDS = ("failed", "skipped", "skip_reason", "results", "unreachable", "changed")
 
 
-def documentation(names, seconds=SECONDS):
-    """What ansible-doc has on these modules; those that it doesn't know are left out."""
+def documentation(names, seconds=SECONDS, again=MOST_UNDOCUMENTED):
+    """What ansible-doc has on these modules; those that it doesn't know or that have no documentation are left out."""
     found = shutil.which("ansible-doc")
     if not found:
         raise Problem(None, "`ansible-doc` isn't installed; it comes with ansible-core")
     said, told, status = run_within([found, "-t", "module", "--json", *names], seconds)
     if status and not said.strip():
+        # It prints nothing on all the others where one has no documentation: the call is made again without that one.
+        without = UNDOCUMENTED.search(told)
+        if without and without[1] in names and again:
+            others = [name for name in names if name != without[1]]
+            return documentation(others, seconds, again - 1) if others else {}
         raise Problem(None, f"ansible-doc ended with status {status}: {' '.join(told.split())[-200:]}")
     try:
         read = json.loads(said or "{}")

@@ -18,7 +18,14 @@ NAME = re.compile(r"[a-z][a-z0-9_.]{0,63}")
 # When the documentation promises a field in each answer that isn't failed.
 ALWAYS = re.compile(r"(always|success|on success|when successful|changed or success|success or changed)\.?", re.I)
 # What the documentation calls required, and the module that is called in the end has a default for.
-NOT_REQUIRED = {("package", "state")}
+NOT_REQUIRED = {("package", "state"), ("package", "name")}
+# `package` hands its parameters on: all that it calls know this other name.
+FURTHER_ALIASES = {"package": {"pkg": "name"}}
+# Where the description of a parameter takes back that it is required.
+NOT_ALWAYS = re.compile(r"\boptional\b|\benvironment\b|\benv\b|\bif (not|un)\s?\w*(set|specified|given|provided|defined)\b"
+                        r"|\bnot required\b|\b(required|mandatory|needed) (if|when|only|for|unless)\b", re.I)
+# A choice that stands for many, as `0-6`: such lists can't be compared.
+RANGE = re.compile(r"-?\d+\s*(-|\.\.+|to)\s*\d+|.*[<>*].*")
 NOT_FIELDS = ("failed", "skipped", "skip_reason", "results", "unreachable", "changed")
 
 
@@ -89,23 +96,28 @@ def signature_of(name, document):
         if kind is not None and VARIABLE.fullmatch(option) and option not in NOT_FIELDS and len(ok) < MOST_PARAMETERS:
             ok[option] = {"kind": kind, "always": bool(ALWAYS.fullmatch(str(given.get("returned", "")).strip()))}
     return {"name": declared_name(name), "params": params, "ok": ok, "failure": FAILURE,
-            "ansible": {"name": name, "aliases": aliases_of(options), "asked": unkinded, "required": required,
+            "ansible": {"name": name, "aliases": aliases_of(name, options), "asked": unkinded, "required": required,
                         "choices": {option: choices_of(given) for option, given in options.items()
                                     if choices_of(given)}}}
 
 
 def is_required(name, option, given):
-    is_free = option in ("free_form", "free-form")
-    return given.get("required") is True and not is_free and (name, option) not in NOT_REQUIRED
+    if given.get("required") is not True or option in ("free_form", "free-form") or (name, option) in NOT_REQUIRED:
+        return False
+    told = given.get("description") or ""
+    return not NOT_ALWAYS.search(" ".join(map(str, told)) if isinstance(told, list) else str(told))
 
 
-def aliases_of(options):
-    return {alias: option for option, given in options.items() for alias in given.get("aliases") or []}
+def aliases_of(name, options):
+    found = {alias: option for option, given in options.items() for alias in given.get("aliases") or []}
+    return {**found, **FURTHER_ALIASES.get(name, {})}
 
 
 def choices_of(given):
     """The choices of a parameter that can be compared: those of its own kind."""
     choices = list(given.get("choices") or [])
+    if any(RANGE.fullmatch(str(choice)) for choice in choices):
+        return []
     kind = given.get("elements", "str") if given.get("type") == "list" else given.get("type", "str")
     wanted = {"str": str, "int": int}.get(kind)
     return choices if wanted and are_choices(choices) and choices and isinstance(choices[0], wanted) else []

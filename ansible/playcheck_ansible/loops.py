@@ -117,6 +117,8 @@ def flat_items(node):
     """The items of `with_items`, or None where a template among them may be a list."""
     if not isinstance(node, Sequence):
         return node
+    if len(node.items) == 1 and is_whole(node.items[0]):
+        return node.items[0]
     items = []
     for item in node.items:
         if isinstance(item, Sequence):

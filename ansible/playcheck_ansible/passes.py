@@ -88,9 +88,10 @@ def action_words(task, modules):
 
 
 def plain_module_names(task, modules):
-    """A built-in module with its collection's name is the same module."""
+    """A built-in module with its collection's name is the same; a short name is looked for in the collections first."""
     for key in list(task.words.pairs):
-        name = short_name(key)
+        longer = [f"{one}.{key}" for one in task.collections if "." not in key]
+        name = next((one for one in longer if one in modules.written), short_name(key))
         name = modules.written.get(name, name)
         if name != key and is_module(key):
             node, place = task.words.take(key), task.words.keys.get(key)

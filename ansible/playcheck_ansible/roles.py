@@ -68,6 +68,8 @@ def read_role(name, folder, words, start):
     meta = role_file(folder, "meta", "main")
     node = read_file(meta) if meta else None
     role.needs = items_of(node.get("dependencies")) or [] if isinstance(node, Mapping) else []
+    if isinstance(node, Mapping) and "collections" in node and "collections" not in words:
+        words.put("collections", node.get("collections"))
     return role
 
 
@@ -123,6 +125,8 @@ def put_handlers(play, role, handlers):
                 other.leave(f"two handlers have the name '{handler.name}'")
             continue
         give_variables(handler, own_variables(role))
+        if "collections" not in handler.words:
+            handler.words.put("collections", role.words.get("collections") or made([], handler.place))
         if handler.name:
             topics = handler.words.get("listen")
             topics = topics.items if isinstance(topics, Sequence) else [topics] if topics is not None else []

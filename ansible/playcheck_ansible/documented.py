@@ -18,7 +18,9 @@ NAME = re.compile(r"[a-z][a-z0-9_.]{0,63}")
 # When the documentation promises a field in each answer that isn't failed.
 ALWAYS = re.compile(r"(always|success|on success|when successful|changed or success|success or changed)\.?", re.I)
 # What the documentation calls required, and the module that is called in the end has a default for.
-NOT_REQUIRED = {("package", "state"), ("package", "name")}
+NOT_REQUIRED = {("package", "state"), ("package", "name"), ("dnf", "name")}
+# Modules that take parameters which their documentation doesn't list: variables of a host, what another module has.
+OPEN = ("add_host", "package")
 # `package` hands its parameters on: all that it calls know this other name.
 FURTHER_ALIASES = {"package": {"pkg": "name"}}
 # Where the description of a parameter takes back that it is required.
@@ -85,7 +87,7 @@ def signature_of(name, document):
     options = dict(sorted((document["doc"].get("options") or {}).items()))
     required = [option for option, given in options.items() if is_required(name, option, given)]
     for option, given in options.items():
-        kind = kind_of(given)
+        kind = kind_of(given) if name != "package" else None
         if kind is None or not VARIABLE.fullmatch(option) or len(params) >= MOST_PARAMETERS:
             unkinded.append(option)
         else:
@@ -97,6 +99,7 @@ def signature_of(name, document):
             ok[option] = {"kind": kind, "always": bool(ALWAYS.fullmatch(str(given.get("returned", "")).strip()))}
     return {"name": declared_name(name), "params": params, "ok": ok, "failure": FAILURE,
             "ansible": {"name": name, "aliases": aliases_of(name, options), "asked": unkinded, "required": required,
+                        **({"open": True} if name in OPEN else {}),
                         "choices": {option: choices_of(given) for option, given in options.items()
                                     if choices_of(given)}}}
 

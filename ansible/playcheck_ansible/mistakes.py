@@ -42,7 +42,7 @@ def documented_values(task, modules):
             task.mistakes.append(Mistake("A-alias", place, told))
         for name in names:
             if option in known.choices:
-                is_list = modules.parameters[module].get(option) == "list"
+                is_list = modules.parameters[module].get(option) in ("list", "ints")
                 value = as_list(node.get(name)) if is_list else node.get(name)
                 task.mistakes += wrong_choices(value, name, known, known.choices[option])
 

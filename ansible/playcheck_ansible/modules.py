@@ -45,6 +45,9 @@ PASSED_OVER = {
 # Ansible's further parameters that do.
 CHANGES_FLOW = {"setup": {"filter", "fact_path", "gather_timeout"}, "debug": {"verbosity"}}
 FREE_FORM = ("command", "shell")
+# Documented modules whose arguments may be one text, with the parameter that it is.
+FREE_TEXTS = {"raw": "free_form", "script": "free_form", "ansible.windows.win_command": "free_form",
+              "ansible.windows.win_shell": "free_form", "win_command": "free_form", "win_shell": "free_form"}
 INCLUDES = ("include", "include_tasks", "import_tasks", "include_role", "import_role", "import_playbook")
 # Modules that may set names or groups which the book doesn't show.
 SETS_UNSEEN = ("include_vars", "package_facts", "service_facts", "set_stats", "gather_facts", "add_host", "group_by")
@@ -75,6 +78,7 @@ class Modules:
         self.aliases = {name: dict(given) for name, given in ALIASES.items()}
         self.asked = {name: set(given) for name, given in PASSED_OVER.items()}
         self.written = {}  # Ansible's name of a module to the one that it is declared under
+        self.open = set()  # modules that take any parameter
         self.documented = {}  # of a module whose signature comes of its documentation: Documented
         for module in self.declared:
             params = module.get("params", {})
@@ -88,6 +92,7 @@ class Modules:
             self.written[further.get("name", name)] = name
             self.aliases[name] = dict(further.get("aliases") or {})
             self.asked[name] = set(further.get("asked") or [])
+            self.open |= {name} if further.get("open") else set()
             self.documented[name] = Documented(further.get("name", name), set(module.get("ok") or {}),
                                                further.get("choices") or {}, further.get("required") or [])
 
@@ -115,7 +120,9 @@ def kind_of(param):
     kind = param.get("kind") if isinstance(param, dict) else None
     if isinstance(kind, str):
         return kind
-    return "list" if isinstance(kind, dict) and "list" in kind else "rec"
+    if isinstance(kind, dict) and "list" in kind:
+        return "ints" if kind["list"] == "int" else "list"
+    return "rec"
 
 
 def read_signatures(paths):

@@ -5,7 +5,7 @@ import re
 from .books import is_module
 from .loops import dict_loops, loop_variables, loops
 from .mistakes import documented_values
-from .modules import CHANGES_FLOW, FREE_FORM, SETS_UNSEEN, short_name
+from .modules import CHANGES_FLOW, FREE_FORM, FREE_TEXTS, SETS_UNSEEN, short_name
 from .nodes import Mapping, Scalar, Sequence, has_template, is_literal, is_nothing, is_text, made, plain, texts_of
 from .values import arguments_of, as_bool, as_int, converted, is_whole
 
@@ -18,7 +18,7 @@ FLOW = ("run_once", "any_errors_fatal", "ignore_unreachable", "delegate_facts", 
         "module_defaults", "max_fail_percentage")
 TRUTHS = ("ignore_errors", "run_once", "any_errors_fatal", "ignore_unreachable", "delegate_facts", "check_mode",
           "gather_facts", "force_handlers")
-EMPTY = {"text": "", "bool": False, "int": 0, "list": []}
+EMPTY = {"text": "", "bool": False, "int": 0, "list": [], "ints": []}
 PATH = re.compile(r"[A-Za-z_][\w.'\"\[\]]*")
 ENDS = ("end_host", "end_play", "end_batch", "end_role")
 NO_FLOW = ("noop", "reset_connection")
@@ -104,6 +104,10 @@ def name_value_texts(task, modules):
     module = task.module()
     node = task.words.get(module) if module else None
     if not is_text(node) or module in FREE_FORM or module == "meta" or not modules.has(module):
+        return
+    known = modules.documented.get(module)
+    if known is not None and known.name in FREE_TEXTS:
+        task.words.put(module, Mapping({FREE_TEXTS[known.name]: node}, node.place))
         return
     found = arguments_of(node.value)
     if found:
@@ -245,7 +249,10 @@ def parameters(task, modules):
         words = [str(plain(item)) for item in node.take("argv").items]
         node.put("cmd", made(" ".join(words), node.place))
     rename(node, modules.aliases.get(module, {}))
-    pass_over_parameters(task, node, modules.asked.get(module, ()))
+    passed = modules.asked.get(module, ())
+    if module in modules.open:
+        passed = {*passed, *node.pairs} - set(modules.parameters[module])
+    pass_over_parameters(task, node, sorted(passed))
     for name, kind in modules.parameters.get(module, {}).items():
         if name not in node:
             continue

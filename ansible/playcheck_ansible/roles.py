@@ -1,5 +1,6 @@
 # Roles with literal names put in place: their tasks, handlers, defaults and variables.
 import os
+import re
 from dataclasses import dataclass, field
 
 from .books import items_of
@@ -49,12 +50,26 @@ def role_of(node, context, is_include=False):
 
 def role_folder(name, context):
     base = context.book_folder
-    for start in (os.path.join(base, "roles"), base, os.path.join(base, "..", "roles"),
-                  os.path.dirname(os.path.dirname(os.path.dirname(context.file))) or "."):
-        path = os.path.normpath(os.path.join(start, name))
+    places = [os.path.join(start, name) for start in (
+        os.path.join(base, "roles"), base, os.path.join(base, "..", "roles"),
+        os.path.dirname(os.path.dirname(os.path.dirname(context.file))) or ".")]
+    for path in map(os.path.normpath, [*places, *collection_places(name, context)]):
         if any(os.path.isdir(os.path.join(path, part)) for part in ("tasks", "handlers", "defaults", "vars", "meta")):
             return path
     return None
+
+
+def collection_places(name, context):
+    """Where a role of a collection may lie: beside the book, in the collections round it, and where Ansible looks."""
+    parts = name.split(".")
+    if len(parts) != 3 or not all(re.fullmatch(r"\w+", part) for part in parts):
+        return []
+    above = os.path.abspath(context.file).split(os.sep)
+    roots = [os.sep.join(above[:at]) for at, folder in enumerate(above) if folder == "ansible_collections"]
+    named = os.environ.get("ANSIBLE_COLLECTIONS_PATH") or os.environ.get("ANSIBLE_COLLECTIONS_PATHS") or ""
+    roots += [os.path.join(context.book_folder, "collections"), *filter(None, named.split(os.pathsep)),
+              os.path.expanduser("~/.ansible/collections"), "/usr/share/ansible/collections"]
+    return [os.path.join(root, "ansible_collections", parts[0], parts[1], "roles", parts[2]) for root in roots]
 
 
 def read_role(name, folder, words, start):

@@ -18,13 +18,15 @@ TOP = Path(__file__).resolve().parent.parent
 sys.path.insert(0, str(TOP / "ansible"))
 sys.dont_write_bytecode = True
 
+from playcheck_ansible.books import Play  # noqa: E402
 from playcheck_ansible.checking import Options, report_of, settled  # noqa: E402
 from playcheck_ansible.command import is_book  # noqa: E402
 from playcheck_ansible.documented import documentation, signatures_of  # noqa: E402
 from playcheck_ansible.loading import load_book  # noqa: E402
 from playcheck_ansible.looking_up import NAME, used_modules  # noqa: E402
 from playcheck_ansible.modules import PROFILE, Modules  # noqa: E402
-from playcheck_ansible.problems import Problem  # noqa: E402
+from playcheck_ansible.nodes import made, texts_of  # noqa: E402
+from playcheck_ansible.problems import Place, Problem  # noqa: E402
 from playcheck_ansible.unjudged import CUT  # noqa: E402
 
 PACKAGES = "usr/lib/python3/dist-packages"
@@ -45,6 +47,7 @@ class Tally:
     ends: Counter = field(default_factory=Counter)  # of each book: whole, partly or not at all judged, and its verdict
     causes: Counter = field(default_factory=Counter)  # of each task that isn't judged
     problems: Counter = field(default_factory=Counter)
+    notes: Counter = field(default_factory=Counter)  # of each book: what isn't asked in it
     tasks: dict = field(default_factory=dict)  # the place of a task to whether it is judged wherever it is put in place
     tracebacks: list = field(default_factory=list)
     slowest: tuple = (0.0, "")
@@ -83,6 +86,7 @@ def judge(path, options, tally):
     covered = "whole" if report.judged == report.tasks else "partly" if report.judged else "none"
     code = report.findings[0].code if report.findings else "accepted"
     tally.ends[f"{covered} {code}"] += 1
+    tally.notes.update({bare(what) for _, what in settler.notes})
     for task in settler.tasks:
         is_judged = not task.reason or task.reason.startswith(CUT)
         place = str(task.place)
@@ -92,19 +96,23 @@ def judge(path, options, tally):
     return report
 
 
-def inventory_of(book, folder):
-    """An inventory in which each group that a book names has two hosts."""
-    names = set()
+def hosts_of(book):
+    """The texts of a book's `hosts`."""
     for play in book.plays:
-        hosts = getattr(play, "words", {}).get("hosts")
-        for text in getattr(hosts, "items", [hosts]):
-            value = getattr(text, "value", None)
-            names |= set(re.findall(r"[A-Za-z_][\w-]*", value)) if isinstance(value, str) and "{" not in value else set()
+        node = play.words.get("hosts") if isinstance(play, Play) else None
+        yield from (text.value for text in texts_of(node)) if node is not None else ()
+
+
+def inputs_of(book, folder):
+    """What a user gives to such a book: two hosts for each group that it names, and `all` for a variable in `hosts`."""
+    texts = list(hosts_of(book))
+    variables = {name for text in texts for name in re.findall(r"\{\{\s*([A-Za-z_]\w*)", text)}
+    names = {name for text in texts if "{" not in text for name in re.findall(r"[A-Za-z_][\w-]*", text)}
     names -= {"all", "localhost", "ungrouped"}
     groups = {name: {"hosts": [f"{name}-1", f"{name}-2"]} for name in sorted(names)}
     path = os.path.join(folder, "hosts.json")
     Path(path).write_text(json.dumps({"all": {"hosts": ["h1", "h2"]}, **groups}), encoding="utf-8")
-    return path
+    return path, {name: made("all", Place("-e")) for name in variables}
 
 
 def playbooks(root):
@@ -186,10 +194,10 @@ def judge_all(name, books, modules, folder):
     tally = Tally(name)
     for number, path in enumerate(books, 1):
         try:
-            inventory = inventory_of(load_book(path), folder)
+            inventory, extra = inputs_of(load_book(path), folder)
         except Problem:
-            inventory = "h1,h2"
-        judge(path, Options([inventory], modules), tally)
+            inventory, extra = "h1,h2", {}
+        judge(path, Options([inventory], modules, extra), tally)
         if number % 100 == 0:
             print(f"{name}: {number} of {len(books)}", file=sys.stderr)
     return tally
@@ -200,7 +208,8 @@ def told(tally, causes):
     print(f"{tally.name}: {tally.books} books, {tally.answered} answered, {whole} judged whole, {partly} partly, "
           f"{tally.count('none')} not at all, {len(tally.tracebacks)} tracebacks; slowest {tally.slowest[0]:.1f} s")
     print(f"  tasks: {len(tally.tasks)} at places of their own, {sum(tally.tasks.values())} judged ({tally.share():.1f} %)")
-    for what, counter in (("verdicts", tally.ends), ("not read", tally.problems), ("causes", tally.causes)):
+    for what, counter in (("verdicts", tally.ends), ("not read", tally.problems), ("books", tally.notes),
+                          ("causes", tally.causes)):
         for cause, number in counter.most_common(causes):
             print(f"  {what}: {number} {cause}")
     for one in tally.tracebacks:

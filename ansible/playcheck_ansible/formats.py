@@ -1,7 +1,7 @@
 # Prints reports: for people with the place and a caret, and as JSON; pipelines.py has the other formats.
 import json
 
-from .pipelines import github_format, gitlab_format, junit_format, sarif_format
+from .pipelines import github_format, sarif_format
 from .wording import message_of, verdict_of
 
 RED, BOLD, PLAIN = "\033[31m", "\033[1m", "\033[0m"
@@ -75,6 +75,18 @@ def json_of(report):
 def place_json(one):
     return {"file": one.place.file, "line": one.place.line, "column": one.place.column, "name": one.name,
             "reason": one.reason}
+
+
+def gitlab_format(reports, has_colour):
+    from .gitlab_junit import gitlab_format as printed  # read where it is wanted: it takes as long as all the rest
+
+    return printed(reports, has_colour)
+
+
+def junit_format(reports, has_colour):
+    from .gitlab_junit import junit_format as printed
+
+    return printed(reports, has_colour)
 
 
 FORMATS = {"text": text_format, "json": json_format, "sarif": sarif_format, "github": github_format,

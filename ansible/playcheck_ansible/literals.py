@@ -19,30 +19,39 @@ WORDS = {"true": True, "True": True, "false": False, "False": False}
 
 def run_literal_passes(book, inventory):
     values = Values(book, inventory)
+
+    def change(expression):
+        for one in LITERAL_PASSES:
+            expression = one(expression, values)
+        return expression
+
     for play in book.plays:
         if isinstance(play, Raw):
             continue
         for one in [play, *(step for step in play.steps() if isinstance(step, (Block, Task)))]:
-            for change in LITERAL_PASSES:
-                rewrite_words(one.words, lambda text: change(text, values))
-                one.asked = [changed_texts(node, lambda text: change(text, values)) for node in one.asked]
+            rewrite_words(one.words, change)
+            one.asked = [changed_texts(node, change) for node in one.asked]
 
 
 class Values:
     """The literal values that anything gives a name: None where another value is possible too."""
 
     def __init__(self, book, inventory):
+        self.book, self.inventory = book, inventory
+        self.of_names = None  # found where it is first asked for
+
+    def find(self):
         self.of_names = {}
-        for name, value in inventory.variables():
+        for name, value in self.inventory.variables():
             self.add(name, value, not is_opaque(value))
-        for play in book.plays:
+        for play in self.book.plays:
             if isinstance(play, Raw):
                 continue
             for step in [play, *(step for step in play.steps() if isinstance(step, (Block, Task)))]:
                 self.add_vars(step)
             for name in play.prompted:
                 self.of_names[name] = None
-        for task in book.tasks():
+        for task in self.book.tasks():
             self.add_task(task)
 
     def add(self, name, value, is_known):
@@ -65,6 +74,8 @@ class Values:
 
     def known(self, name):
         """All values that a name may have, or None where they aren't known; a name that nothing gives has none."""
+        if self.of_names is None:
+            self.find()
         is_outside = name in KNOWN or name in MAGIC or name.startswith("ansible_")
         return None if is_outside else self.of_names.get(name, [])
 

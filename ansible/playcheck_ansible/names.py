@@ -72,8 +72,14 @@ FORMS = ((FILTER, "the filter `{}`"), (TEST, "the test `{}`"), (METHOD, "the cal
          (re.compile(r"[\w)\]]\s*([+*/%~])"), "arithmetic (`{}`)"))
 
 
+# What each of these forms has a sign of.
+SUSPECT = re.compile(r"[|(\[+*/%~]|\bi[sf]\b")
+
+
 def outside_form(expression):
     """What an expression has that the profile lacks, where that shows at once; else nothing."""
+    if not SUSPECT.search(expression):
+        return ""
     bare = without_texts(expression)
     for pattern, what in FORMS:
         found = pattern.search(bare)

@@ -86,7 +86,7 @@ class Composer:
                 documents += 1
                 if documents > 1:
                     raise Problem(self.place(event), "a second document; one is wanted")
-            elif isinstance(event, yaml.NodeEvent) or isinstance(event, yaml.CollectionEndEvent):
+            elif isinstance(event, (yaml.NodeEvent, yaml.CollectionEndEvent)):
                 ended = self.step(event)
                 found = ended if ended is not None and not self.open else found
         return found if found is not None else Scalar(None, Place(self.path, 1, 1))

@@ -27,7 +27,7 @@ def changed_assert(node, change):
 
 def changed_texts(node, change):
     """The node with each expression in its templates changed."""
-    return changed(node, lambda text: TEMPLATE.sub(lambda found: change(found[0]), text))
+    return changed(node, lambda text: TEMPLATE.sub(lambda found: change(found[0]), text) if "{{" in text else text)
 
 
 def changed(node, change):

@@ -136,7 +136,7 @@ def steps_below(steps):
 
 
 def is_module(key):
-    return key not in TASK_WORDS and not key.startswith("with_")
+    return key not in TASK_WORDS and key[:5] != "with_"
 
 
 def items_of(node):

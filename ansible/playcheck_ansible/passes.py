@@ -89,11 +89,11 @@ def action_words(task, modules):
 
 def plain_module_names(task, modules):
     """A built-in module with its collection's name is the same; a short name is looked for in the collections first."""
-    for key in list(task.words.pairs):
+    for key in [key for key in task.words.pairs if is_module(key)]:
         longer = [f"{one}.{key}" for one in task.collections if "." not in key]
         name = next((one for one in longer if one in modules.written), short_name(key))
         name = modules.written.get(name, name)
-        if name != key and is_module(key):
+        if name != key:
             node, place = task.words.take(key), task.words.keys.get(key)
             task.words.put(name, node)
             task.words.keys[name] = place or node.place

@@ -6,6 +6,7 @@ from .books import is_module
 from .loops import dict_loops, loop_variables, loops
 from .mistakes import documented_values
 from .modules import CHANGES_FLOW, FREE_FORM, FREE_TEXTS, SETS_UNSEEN, short_name
+from .names import mentioned
 from .nodes import Mapping, Scalar, Sequence, has_template, is_literal, is_nothing, is_text, made, plain, texts_of
 from .values import arguments_of, as_bool, as_int, converted, is_whole
 
@@ -134,6 +135,27 @@ def merged_args(task, modules):
         task.leave("`args` beside arguments that are one text", given.place)
         return
     task.words.put(module, merged)
+
+
+def unread_vars(task, modules):
+    """A name of a task's `vars` that holds `omit` and that nothing reads is dropped: it is never evaluated."""
+    given = task.words.get("vars")
+    if not isinstance(given, Mapping):
+        return
+    kept = given.copy()
+    for name, node in given.pairs.items():
+        if not any("omit" in text.value for text in texts_of(node)):
+            continue
+        others = Mapping({**task.words.pairs, "vars": without(kept, name)}, task.place)
+        if name not in mentioned(others, task.asked) | task.outer_names:
+            kept.take(name)
+    task.words.put("vars", kept)
+    if not kept.pairs:
+        task.words.take("vars")
+
+
+def without(words, name):
+    return Mapping({key: part for key, part in words.pairs.items() if key != name}, words.place)
 
 
 def flow_words(task, modules):
@@ -294,5 +316,5 @@ def facts(node, task):
 
 
 TASK_PASSES = (plain_keywords, plain_conditions, action_words, plain_module_names, flow_words, name_value_texts,
-               merged_args, passed_words, messages, dict_loops, loop_variables, loops, known_module, meta_actions,
-               documented_values, parameters)
+               merged_args, passed_words, messages, unread_vars, dict_loops, loop_variables, loops, known_module,
+               meta_actions, documented_values, parameters)

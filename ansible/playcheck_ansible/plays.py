@@ -35,8 +35,8 @@ def run_book_passes(book, modules, extra):
 
 
 def note_outer_names(play):
-    """Tells the tasks with a loop variable of their own which names are mentioned round them."""
-    tasks = [task for task in play.tasks() if "loop_control" in task.words]
+    """Tells the tasks with `vars` or a loop variable of their own which names are mentioned round them."""
+    tasks = [task for task in play.tasks() if "loop_control" in task.words or "vars" in task.words]
     if tasks:
         holders = [play, *(step for step in play.steps() if isinstance(step, Block))]
         names = set().union(*(mentioned(holder.words, holder.asked) for holder in holders))

@@ -2,18 +2,19 @@
 import json
 import os
 import re
-import subprocess
 import sys
 import tempfile
 from pathlib import Path
 
+from ansible_formats import wrong_gitlab, wrong_junit, wrong_sarif, wrong_strict
+from ansible_lookups import wrong_lookups, wrong_time_limit
+from ansible_pipelines import lost_words, wrong_action, wrong_completion, wrong_gitlab_job
+from ansible_rewritings import wrong_rewritings
+from ansible_tools import SECONDS, TOOL, TOP, run_tool
 from check import Check, outcome_of
 
-TOP = Path(__file__).resolve().parent.parent
 CASES = TOP / "tests" / "ansible"
-TOOL = TOP / "playcheck-ansible"
 MEGABYTES = 700
-SECONDS = 30
 INVENTORY = '{"all": {"hosts": ["h1"]}}'
 
 
@@ -28,10 +29,7 @@ def transcripts():
 
 
 def wrong_transcript(folder, words, said, told, status):
-    # In `bin` stand programs in the place of those of ansible-core.
-    environment = {**os.environ, "PATH": f"{folder / 'bin'}:{os.environ['PATH']}"}
-    done = subprocess.run([TOOL, *words], cwd=folder, capture_output=True, text=True, check=False, timeout=SECONDS,
-                          stdin=subprocess.DEVNULL, env=environment)
+    done = run_tool(words, folder, folder / "bin")
     found = (done.stdout.splitlines(), done.stderr.splitlines(), done.returncode)
     if found == (said, told, status):
         return ""
@@ -95,8 +93,8 @@ def wrong_conversion():
     folder = CASES / "converted"
     wanted = json.loads((folder / "wanted.json").read_text(encoding="utf-8"))
     with tempfile.TemporaryDirectory() as made:
-        words = [TOOL, "convert", "book.yml", "-i", "../inventory.yml", "-o", made]
-        done = subprocess.run(words, cwd=folder, capture_output=True, check=False, timeout=SECONDS)
+        words = ["convert", "book.yml", "-i", "../inventory.yml", "-o", made]
+        done = run_tool(words, folder)
         found = {path.stem: json.loads(path.read_text(encoding="utf-8")) for path in Path(made).glob("*.json")}
     if done.returncode or found != wanted:
         yield f"convert: status {done.returncode}, wanted {json.dumps(wanted)}, found {json.dumps(found)}"
@@ -105,10 +103,8 @@ def wrong_conversion():
 def wrong_signatures():
     """What `signatures` writes out of the documentation, and what it says of the modules that can't be declared."""
     folder = CASES / "documented"
-    environment = {**os.environ, "PATH": f"{folder / 'bin'}:{os.environ['PATH']}"}
-    done = subprocess.run([TOOL, "signatures", "book.yml", "gone"], cwd=folder, env=environment, capture_output=True,
-                          text=True, check=False, timeout=SECONDS)
-    told = ["playcheck-ansible: the module gone isn't declared: ansible-doc does not know it",
+    done = run_tool(["signatures", "book.yml", "gone"], folder, folder / "bin")
+    told = ["playcheck-ansible: the module gone isn't declared: ansible-doc doesn't know it",
             "playcheck-ansible: the module package_facts isn't declared: it sets facts"]
     wanted = json.loads((folder / "signatures.json").read_text(encoding="utf-8"))
     if done.returncode or done.stderr.splitlines() != told or json.loads(done.stdout) != wanted:
@@ -124,24 +120,32 @@ def lost_hook():
 
 
 def lost_titles():
-    """The titles of the codes are those of docs/REFUSALS.md."""
+    """The titles of the codes are those of the pages."""
     sys.path.insert(0, str(TOP / "ansible"))
     sys.dont_write_bytecode = True
-    from playcheck_ansible.codes import PAGE, TITLES
+    from playcheck_ansible.codes import OWN_PAGE, OWN_TITLES, PAGE, TITLES
 
-    page = dict(re.findall(r"^### ([A-Z]\d\d): (.*)$", PAGE.read_text(encoding="utf-8"), re.M))
-    return [f"{code}: {page.get(code)!r} on the page, {TITLES.get(code)!r} in codes.py"
-            for code in sorted({*page, *TITLES}) if page.get(code) != TITLES.get(code)]
+    text = PAGE.read_text(encoding="utf-8") + OWN_PAGE.read_text(encoding="utf-8")
+    page = dict(re.findall(r"^### ([A-Z]\d\d|A-[a-z]+): (.*)$", text, re.M))
+    titles = {**TITLES, **OWN_TITLES}
+    return [f"{code}: {page.get(code)!r} on the page, {titles.get(code)!r} in codes.py"
+            for code in sorted({*page, *titles}) if page.get(code) != titles.get(code)]
 
 
 def lost_passes():
     """Each pass is named in docs/FROM_ANSIBLE.md."""
+    from playcheck_ansible.literals import LITERAL_PASSES
     from playcheck_ansible.passes import TASK_PASSES
     from playcheck_ansible.plays import PLAY_PASSES
 
     page = (TOP / "docs" / "FROM_ANSIBLE.md").read_text(encoding="utf-8")
-    return [f"docs/FROM_ANSIBLE.md doesn't name {one.__name__}" for one in (*TASK_PASSES, *PLAY_PASSES)
+    return [f"docs/FROM_ANSIBLE.md doesn't name {one.__name__}" for one in (*TASK_PASSES, *PLAY_PASSES, *LITERAL_PASSES)
             if f"`{one.__name__}`" not in page]
+
+
+SEARCHES = (lost_titles, lost_passes, lost_hook, wrong_conversion, wrong_signatures, wrong_gitlab, wrong_junit,
+            wrong_strict, wrong_sarif, wrong_lookups, wrong_time_limit, wrong_rewritings, wrong_completion, lost_words,
+            wrong_action, wrong_gitlab_job)
 
 
 def main():
@@ -152,8 +156,7 @@ def main():
         print("0 passed, 0 failed")
         return 0
     os.environ["PLAYCHECK"] = str(Path(sys.argv[1]).resolve())
-    results = ["\n".join(search()) for search in (lost_titles, lost_passes, lost_hook, wrong_conversion,
-                                                      wrong_signatures)]
+    results = ["\n".join(search()) for search in SEARCHES]
     results += [wrong_transcript(*one) for one in transcripts()]
     results += [wrong_hostile(*one) for one in hostile()]
     for wrong in results:

@@ -33,6 +33,9 @@ class Task:
     sets_unseen: bool = False  # it may set names that the book doesn't show
     forgets: bool = False  # it may bring hosts back that failed, or take variables away
     ends_host: bool = False  # it may end the play for a host that goes on with the next one
+    outer_names: set = field(default_factory=set)  # those that `vars` and words round it mention
+    collections: list = field(default_factory=list)  # those in which a short name of its module is looked for
+    mistakes: list = field(default_factory=list)  # what the documentation of its module forbids
 
     def __post_init__(self):
         self.written = self.words.copy()
@@ -60,6 +63,7 @@ class Block:
     parts: dict  # block, rescue, always to their steps
     asked: list = field(default_factory=list)
     defaults: dict = field(default_factory=dict)  # what a role gives where nothing else does
+    is_role: bool = False  # the collections of its play aren't its
     may_be_passed: bool = False  # an include that sets nothing where its condition doesn't hold
     lost: dict = field(default_factory=dict)  # names of `vars` that the profile can't have, with the reason
 
@@ -94,6 +98,7 @@ class Play:
     defaults: dict = field(default_factory=dict)  # what roles give where nothing else does
     unseen_files: list = field(default_factory=list)  # files of variables that couldn't be read
     lost: dict = field(default_factory=dict)  # names of `vars` that the profile can't have, with the reason
+    prompted: set = field(default_factory=set)  # names whose values are asked for at the start
 
     def __post_init__(self):
         self.written = self.words.copy()
@@ -131,7 +136,7 @@ def steps_below(steps):
 
 
 def is_module(key):
-    return key not in TASK_WORDS and not key.startswith("with_")
+    return key not in TASK_WORDS and key[:5] != "with_"
 
 
 def items_of(node):

@@ -2,11 +2,12 @@
 from dataclasses import dataclass, field
 
 from .books import Block, Play, Raw
-from .codes import TITLES
+from .codes import OWN_TITLES, TITLES
 from .facts import trust_facts
 from .hints import hint
 from .hosts import host_patterns, with_localhost
 from .inventory import read_inventories
+from .literals import run_literal_passes
 from .loading import load_book
 from .plays import leave_all, run_book_passes
 from .problems import Place
@@ -66,15 +67,15 @@ class Options:
     trusts_facts: bool = False
 
 
-def prepared(path, options):
+def prepared(path, options, book):
     """The book with its passes run, and the inventory that it is judged with."""
-    book = load_book(path)
     inventory = read_inventories(options.inventories, path)
     plays = [play for play in book.plays if isinstance(play, Play)]
     for play in plays:
         for holder in [play, *(step for step in play.steps() if isinstance(step, Block))]:
             put_defaults(holder, play, inventory)
     run_book_passes(book, options.modules, options.extra)
+    run_literal_passes(book, inventory)
     if options.trusts_facts:
         trust_facts(book)
     added = with_localhost(inventory, plays)
@@ -85,23 +86,24 @@ def prepared(path, options):
     return book, inventory
 
 
-def settled(path, options):
+def settled(path, options, book=None):
     """The book as it was judged last, with the inventory that it was judged with."""
-    book, inventory = prepared(path, options)
+    book, inventory = prepared(path, options, book or load_book(path))
     with Asker(inventory.json(), options.modules.signatures(book)) as asker:
         settler = Settler(book, options.modules, inventory, asker)
+        settler.take_mistakes(finding_of_mistake)
         settler.settle(finding_of, options.go_on)
     return settler, inventory
 
 
-def check_book(path, options):
-    return report_of(path, settled(path, options)[0])
+def check_book(path, options, book=None):
+    return report_of(path, settled(path, options, book)[0])
 
 
 def report_of(path, settler):
     tasks = settler.tasks
     report = Report(path, tasks=len(tasks))
-    report.findings = sorted((found for _, found in settler.findings), key=lambda found: found.number)
+    report.findings = numbered(settler)
     refused = {id(line.step) for line, _ in settler.findings if line is not None and line.step is not None}
     for task in tasks:
         if task.reason and id(task) not in refused:
@@ -111,6 +113,15 @@ def report_of(path, settler):
     report.judged = sum(not task.reason or task.reason.startswith(CUT) for task in tasks)
     report.budget = settler.answer.budget
     return report
+
+
+def numbered(settler):
+    """The findings in the order of their counted lines; those of the front end itself get theirs now."""
+    numbers = {id(line.step): number for number, line in enumerate(settler.numbered.lines) if line is not None}
+    for line, found in settler.findings:
+        if line is not None and not found.number:
+            found.number = numbers[id(line.step)]
+    return sorted((found for _, found in settler.findings), key=lambda found: found.number)
 
 
 def finding_of(answer, line, settler):
@@ -126,3 +137,7 @@ def finding_of(answer, line, settler):
                    found.detail, found.help, answer.line)
 
 
+def finding_of_mistake(mistake, line):
+    """The finding of what the front end sees itself."""
+    return Finding(mistake.code, OWN_TITLES[mistake.code], mistake.place, "", line.name, line.play.name, line.kind,
+                   mistake.detail)

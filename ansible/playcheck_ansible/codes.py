@@ -1,10 +1,13 @@
-# The titles of the codes, as docs/REFUSALS.md has them (a test compares), and the section of a code.
+# The titles of the codes, as the pages have them (a test compares), and the section of a code.
 import re
 from pathlib import Path
 
 from .problems import Problem
 
-PAGE = Path(__file__).resolve().parent.parent.parent / "docs" / "REFUSALS.md"
+PAGES = Path(__file__).resolve().parent.parent.parent / "docs"
+PAGE = PAGES / "REFUSALS.md"
+# The page of the codes that the front end itself tells.
+OWN_PAGE = PAGES / "FROM_ANSIBLE.md"
 TITLES = {
     "S01": "the signatures aren't JSON",
     "S02": "the signatures have another form",
@@ -43,15 +46,21 @@ TITLES = {
     "A02": "the answers have another form",
     "A03": "the answers are too long",
 }
+OWN_TITLES = {
+    "A-alias": "a parameter that is given by two names",
+    "A-choice": "a value that is none of the parameter's choices",
+    "A-required": "a parameter that has to be there",
+}
 
 
 def section_of(code):
-    """The section of docs/REFUSALS.md on a code."""
+    """The section of a page on a code."""
+    page = OWN_PAGE if code.startswith("A-") else PAGE
     try:
-        text = PAGE.read_text(encoding="utf-8")
+        text = page.read_text(encoding="utf-8")
     except OSError as error:
-        raise Problem(None, f"{PAGE} can't be read: {error.strerror}") from None
-    found = re.search(rf"^### {re.escape(code)}: .*?(?=^##|\Z)", text, re.M | re.S)
+        raise Problem(None, f"{page} can't be read: {error.strerror}") from None
+    found = re.search(rf"^### {re.escape(code)}: .*?(?=^##|\Z)", text, re.M | re.S | re.I)
     if not found:
-        raise Problem(None, f"there is no code {code}; there are {' '.join(TITLES)}")
+        raise Problem(None, f"there is no code {code}; there are {' '.join([*TITLES, *OWN_TITLES])}")
     return found[0].rstrip() + "\n"

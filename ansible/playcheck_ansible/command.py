@@ -2,18 +2,18 @@
 import argparse
 import json
 import os
+import shutil
 import sys
 
-from .books import is_module
 from .checking import Options, check_book, settled
 from .codes import section_of
 from .converting import write_converted
 from .formats import FORMATS
 from .documented import documentation, signatures_of
 from .loading import load_book
-from .modules import INCLUDES, PROFILE, Modules, read_signatures, short_name
+from .looking_up import UNKNOWN, looked_up, used_modules
+from .modules import PROFILE, read_signatures, short_name
 from .nodes import Mapping, is_nothing, made
-from .passes import action_words, plain_module_names
 from .positions import node_of, read_file
 from .problems import Place, Problem
 from .values import arguments_of
@@ -60,6 +60,8 @@ def add_inputs(words):
     words.add_argument("-e", "--extra-vars", action="append", default=[], metavar="VARS",
                        help="variables: name=value, an object in braces, or @FILE")
     words.add_argument("--trust-facts", action="store_true", help="all six facts are there where facts are gathered")
+    words.add_argument("--no-lookup", action="store_true",
+                       help="looks no modules up by ansible-doc, where ansible-core is installed")
     words.add_argument("--vars", action="append", default=[], metavar="FILE", help="a file of variables")
 
 
@@ -90,7 +92,8 @@ def explain(words):
 
 
 def convert(words):
-    settler, inventory = settled(words.book, options_of(words))
+    options = options_of(words)
+    settler, inventory = settled(words.book, options, *with_lookup([words.book], options, words))
     write_converted(words.output, settler, inventory)
     return 0
 
@@ -105,20 +108,10 @@ def signatures(words):
     found = {module["ansible"]["name"] for module in declared}
     for name in names:
         if name not in found:
-            told(f"the module {name} isn't declared: {left.get(name, 'ansible-doc does not know it')}")
+            told(f"the module {name} isn't declared: {left.get(name, UNKNOWN)}")
     json.dump(declared, sys.stdout, indent=1)
     sys.stdout.write("\n")
     return 0 if declared or not names else BAD_WORDS
-
-
-def used_modules(book):
-    """The keys of a book's tasks that are modules, those of `action` too."""
-    found = []
-    for task in book.tasks():
-        plain_module_names(task, Modules())
-        action_words(task, Modules())
-        found += [short_name(key) for key in task.words.pairs if is_module(key) and key not in INCLUDES]
-    return found
 
 
 def options_of(words):
@@ -152,12 +145,27 @@ def variables_in(node, path):
     return node.pairs
 
 
+def with_lookup(paths, options, words):
+    """Looks the modules of books up, and answers the book where it is one alone, since it is read by now."""
+    names, read = [], []
+    for path in paths if not words.no_lookup and shutil.which("ansible-doc") else ():
+        try:
+            read = [load_book(path)]
+        except Problem:
+            continue  # it is told when the book is checked
+        names += used_modules(read[0])
+    options.modules = looked_up(names, options.modules, told)
+    return read if len(paths) == 1 else []
+
+
 def check(words):
     options = options_of(words)
     reports, statuses = [], [0]
-    for path in books_of(words.books):
+    paths = list(books_of(words.books))
+    book = with_lookup(paths, options, words)
+    for path in paths:
         try:
-            report = check_book(path, options)
+            report = check_book(path, options, *book)
         except Problem as problem:
             told(problem)
             statuses.append(problem.status)

@@ -2,12 +2,14 @@
 import json
 import re
 import shutil
-import subprocess
 
-from .modules import BOOL_FIELD, FAILURE, PROFILE
+from .modules import BOOL_FIELD, FAILURE, PROFILE, are_choices
 from .problems import Problem
+from .processes import run_within
 
 SECONDS = 300
+MOST_UNDOCUMENTED = 4
+UNDOCUMENTED = re.compile(r"module (\S+) missing documentation")
 MOST_PARAMETERS = 64
 MOST_ITEMS = 65536
 TEXTS = ("str", "path", "sid", "bytes", "bits", "float", "json", "jsonarg")
@@ -16,30 +18,39 @@ NAME = re.compile(r"[a-z][a-z0-9_.]{0,63}")
 # When the documentation promises a field in each answer that isn't failed.
 ALWAYS = re.compile(r"(always|success|on success|when successful|changed or success|success or changed)\.?", re.I)
 # What the documentation calls required, and the module that is called in the end has a default for.
-NOT_REQUIRED = {("package", "state")}
+NOT_REQUIRED = {("package", "state"), ("package", "name"), ("dnf", "name")}
+# Modules that take parameters which their documentation doesn't list: variables of a host, what another module has.
+OPEN = ("add_host", "package")
+# `package` hands its parameters on: all that it calls know this other name.
+FURTHER_ALIASES = {"package": {"pkg": "name"}}
+# Where the description of a parameter takes back that it is required.
+NOT_ALWAYS = re.compile(r"\boptional\b|\benvironment\b|\benv\b|\bif (not|un)\s?\w*(set|specified|given|provided|defined)\b"
+                        r"|\bnot required\b|\b(required|mandatory|needed) (if|when|only|for|unless)\b", re.I)
+# A choice that stands for many, as `0-6`: such lists can't be compared.
+RANGE = re.compile(r"-?\d+\s*(-|\.\.+|to)\s*\d+|.*[<>*].*")
 NOT_FIELDS = ("failed", "skipped", "skip_reason", "results", "unreachable", "changed")
 
 
-def documentation(names):
-    """What ansible-doc has on these modules; those that it doesn't know are left out."""
+def documentation(names, seconds=SECONDS, again=MOST_UNDOCUMENTED):
+    """What ansible-doc has on these modules; those that it doesn't know or that have no documentation are left out."""
     found = shutil.which("ansible-doc")
     if not found:
         raise Problem(None, "`ansible-doc` isn't installed; it comes with ansible-core")
-    read = {}
-    for start in range(0, len(names), 200):
-        read.update(asked(found, names[start:start + 200]))
-    return read
-
-
-def asked(command, names):
+    said, told, status = run_within([found, "-t", "module", "--json", *names], seconds)
+    if status and not said.strip():
+        # It prints nothing on all the others where one has no documentation: the call is made again without that one.
+        without = UNDOCUMENTED.search(told)
+        if without and without[1] in names and again:
+            others = [name for name in names if name != without[1]]
+            return documentation(others, seconds, again - 1) if others else {}
+        raise Problem(None, f"ansible-doc ended with status {status}: {' '.join(told.split())[-200:]}")
     try:
-        done = subprocess.run([command, "-t", "module", "--json", *names], capture_output=True, text=True, check=False,
-                              stdin=subprocess.DEVNULL, timeout=SECONDS)
-        return json.loads(done.stdout) if done.stdout.strip() else {}
-    except (OSError, subprocess.TimeoutExpired) as error:
-        raise Problem(None, f"ansible-doc couldn't be run: {error}") from None
-    except ValueError as error:
+        read = json.loads(said or "{}")
+    except (ValueError, RecursionError) as error:
         raise Problem(None, f"ansible-doc printed no JSON: {error}") from None
+    if not isinstance(read, dict) or not all(isinstance(document, dict) for document in read.values()):
+        raise Problem(None, "ansible-doc printed no object of modules")
+    return read
 
 
 def signatures_of(documents):
@@ -72,23 +83,47 @@ def declared_name(name):
 
 
 def signature_of(name, document):
-    params, unkinded, aliases = {}, [], {}
-    for option, given in sorted((document["doc"].get("options") or {}).items()):
-        kind = kind_of(given)
-        for alias in given.get("aliases") or []:
-            aliases[alias] = option
+    params, unkinded = {}, []
+    options = dict(sorted((document["doc"].get("options") or {}).items()))
+    required = [option for option, given in options.items() if is_required(name, option, given)]
+    for option, given in options.items():
+        kind = kind_of(given) if name != "package" else None
         if kind is None or not VARIABLE.fullmatch(option) or len(params) >= MOST_PARAMETERS:
             unkinded.append(option)
         else:
-            is_required = given.get("required") is True and (name, option) not in NOT_REQUIRED
-            params[option] = {"kind": kind, "required": is_required}
+            params[option] = {"kind": kind, "required": option in required}
     ok = {"changed": BOOL_FIELD}
     for option, given in sorted((document.get("return") or {}).items()):
         kind = kind_of(given) if isinstance(given, dict) else None
         if kind is not None and VARIABLE.fullmatch(option) and option not in NOT_FIELDS and len(ok) < MOST_PARAMETERS:
             ok[option] = {"kind": kind, "always": bool(ALWAYS.fullmatch(str(given.get("returned", "")).strip()))}
     return {"name": declared_name(name), "params": params, "ok": ok, "failure": FAILURE,
-            "ansible": {"name": name, "aliases": aliases, "asked": unkinded}}
+            "ansible": {"name": name, "aliases": aliases_of(name, options), "asked": unkinded, "required": required,
+                        **({"open": True} if name in OPEN else {}),
+                        "choices": {option: choices_of(given) for option, given in options.items()
+                                    if choices_of(given)}}}
+
+
+def is_required(name, option, given):
+    if given.get("required") is not True or option in ("free_form", "free-form") or (name, option) in NOT_REQUIRED:
+        return False
+    told = given.get("description") or ""
+    return not NOT_ALWAYS.search(" ".join(map(str, told)) if isinstance(told, list) else str(told))
+
+
+def aliases_of(name, options):
+    found = {alias: option for option, given in options.items() for alias in given.get("aliases") or []}
+    return {**found, **FURTHER_ALIASES.get(name, {})}
+
+
+def choices_of(given):
+    """The choices of a parameter that can be compared: those of its own kind."""
+    choices = list(given.get("choices") or [])
+    if any(RANGE.fullmatch(str(choice)) for choice in choices):
+        return []
+    kind = given.get("elements", "str") if given.get("type") == "list" else given.get("type", "str")
+    wanted = {"str": str, "int": int}.get(kind)
+    return choices if wanted and are_choices(choices) and choices and isinstance(choices[0], wanted) else []
 
 
 def kind_of(given):

@@ -2,8 +2,7 @@
 import re
 
 from .books import Block, Raw, Task
-from .names import CONDITIONS
-from .nodes import Mapping, Scalar, Sequence, is_text
+from .rewriting import rewrite_words
 
 TEXTS = ("os_family", "distribution")
 NUMBERS = ("processor_vcpus", "memtotal_mb")
@@ -14,40 +13,16 @@ NAMES = "|".join(INSTEAD)
 FACT = re.compile(rf"(?<![\w.])(?:ansible_facts\.|ansible_facts\['|ansible_)({NAMES})('\])?(?![\w.\[])"
                   r"(?!\s*(?:is\s+(?:not\s+)?(?:un)?defined|\|\s*default))")
 QUOTED = re.compile(r"(\['\w+'\])|('(?:[^'\\]|\\.)*'|\"(?:[^\"\\]|\\.)*\")")
-TEMPLATE = re.compile(r"\{\{.*?\}\}", re.S)
 
 
 def trust_facts(book):
     for play in book.plays:
         if isinstance(play, Raw):
             continue
-        trust_words(play.words)
+        rewrite_words(play.words, trusted)
         for step in play.steps():
             if isinstance(step, (Block, Task)):
-                trust_words(step.words)
-
-
-def trust_words(words):
-    for key, node in words.pairs.items():
-        if key in CONDITIONS:
-            words.pairs[key] = changed(node, trusted)
-        elif key == "assert" and isinstance(node, Mapping) and "that" in node:
-            node.pairs["that"] = changed(node.get("that"), trusted)
-        elif key not in ("name", "notify", "listen", "register"):
-            words.pairs[key] = changed(node, in_templates)
-
-
-def changed(node, change):
-    """The node with each of its texts changed; places stay."""
-    if isinstance(node, Mapping):
-        return Mapping({key: changed(part, change) for key, part in node.pairs.items()}, node.place, node.keys)
-    if isinstance(node, Sequence):
-        return Sequence([changed(item, change) for item in node.items], node.place)
-    return Scalar(change(node.value), node.place, node.text, node.is_quoted) if is_text(node) else node
-
-
-def in_templates(text):
-    return TEMPLATE.sub(lambda found: trusted(found[0]), text)
+                rewrite_words(step.words, trusted)
 
 
 def trusted(expression):

@@ -1,33 +1,10 @@
-# Prints reports: for people with the place and a caret, as JSON, as SARIF 2.1.0, and as commands of GitHub's actions.
+# Prints reports: for people with the place and a caret, and as JSON; pipelines.py has the other formats.
 import json
 
-from .codes import TITLES
+from .pipelines import github_format, sarif_format
+from .wording import message_of, verdict_of
 
-SARIF_SCHEMA = "https://json.schemastore.org/sarif-2.1.0.json"
 RED, BOLD, PLAIN = "\033[31m", "\033[1m", "\033[0m"
-
-
-def message_of(finding):
-    """`task 'Show version', host web1: a field that is perhaps missing: ..`."""
-    who = f"{finding.kind} '{finding.name}'" if finding.name else finding.kind
-    who = ", ".join(part for part in (who, f"host {finding.host}" if finding.host else "") if part)
-    parts = [part for part in (who, finding.title, finding.detail) if part]
-    return ": ".join(parts)
-
-
-def count_of(report):
-    return f"{report.judged} of {report.tasks} tasks judged"
-
-
-def verdict_of(report):
-    """The last line on a book; `accepted` never stands without the count."""
-    if report.findings:
-        found = "1 finding" if len(report.findings) == 1 else f"{len(report.findings)} findings"
-        return f"{report.book}: refused, {found}, {count_of(report)}"
-    if not report.is_accepted:
-        return f"{report.book}: refused by --strict, {count_of(report)}"
-    budget = f", at most {report.budget} module calls" if report.is_whole else ""
-    return f"{report.book}: accepted, {count_of(report)}{budget}"
 
 
 def excerpt(place, lines):
@@ -100,46 +77,17 @@ def place_json(one):
             "reason": one.reason}
 
 
-def sarif_format(reports, has_colour):
-    used = sorted({one.code for report in reports for one in report.findings})
-    rules = [{"id": code, "shortDescription": {"text": TITLES.get(code, code)}} for code in used]
-    rules.append({"id": "not-judged", "shortDescription": {"text": "a task that isn't judged"}})
-    results = []
-    for report in reports:
-        for one in report.findings:
-            results.append(sarif_result(one.code, "error", message_of(one), one.place))
-        for one in [*report.unjudged, *report.notes]:
-            results.append(sarif_result("not-judged", "note", one.reason, one.place))
-    run = {"tool": {"driver": {"name": "playcheck", "rules": rules}}, "results": results}
-    return json.dumps({"$schema": SARIF_SCHEMA, "version": "2.1.0", "runs": [run]}, indent=2) + "\n"
+def gitlab_format(reports, has_colour):
+    from .gitlab_junit import gitlab_format as printed  # read where it is wanted: it takes as long as all the rest
+
+    return printed(reports, has_colour)
 
 
-def sarif_result(code, level, text, place):
-    location = {"artifactLocation": {"uri": place.file.replace("\\", "/")}}
-    if place.line:
-        location["region"] = {"startLine": place.line, "startColumn": place.column}
-    return {"ruleId": code, "level": level, "message": {"text": text},
-            "locations": [{"physicalLocation": location}]}
+def junit_format(reports, has_colour):
+    from .gitlab_junit import junit_format as printed
+
+    return printed(reports, has_colour)
 
 
-def github_format(reports, has_colour):
-    printed = []
-    for report in reports:
-        for one in report.findings:
-            printed.append(f"::error {github_place(one.place)},title={one.code}::{github_text(message_of(one))}")
-        for one in [*report.unjudged, *report.notes]:
-            printed.append(f"::notice {github_place(one.place)},title=not judged::{github_text(one.reason)}")
-        printed.append(verdict_of(report))
-    return "".join(line + "\n" for line in printed)
-
-
-def github_place(place):
-    file = github_text(place.file).replace(":", "%3A").replace(",", "%2C")
-    return f"file={file},line={place.line},col={place.column}" if place.line else f"file={file}"
-
-
-def github_text(text):
-    return text.replace("%", "%25").replace("\r", "%0D").replace("\n", "%0A")
-
-
-FORMATS = {"text": text_format, "json": json_format, "sarif": sarif_format, "github": github_format}
+FORMATS = {"text": text_format, "json": json_format, "sarif": sarif_format, "github": github_format,
+           "gitlab": gitlab_format, "junit": junit_format}

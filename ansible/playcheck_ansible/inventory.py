@@ -3,11 +3,11 @@ import json
 import os
 import re
 import shutil
-import subprocess
 
 from .nodes import Mapping, Scalar, Sequence, has_template, is_nothing, is_text, plain
 from .positions import node_of, read_file, read_text
 from .problems import Place, Problem
+from .processes import run_within
 
 RANGE = re.compile(r"\[(\w+):(\w+)(?::(\d+))?\]")
 SUFFIXES = ("", ".yml", ".yaml", ".json")
@@ -145,16 +145,12 @@ def listed_by_ansible(path, what):
     if not found:
         raise Problem(Place(path), f"this inventory is {what}, which `ansible-inventory` alone reads, and that isn't "
                                    "installed; a YAML or JSON inventory is read without it")
+    said, told, status = run_within([found, "-i", path, "--list"], INVENTORY_SECONDS, Place(path))
+    if status:
+        raise Problem(Place(path), f"ansible-inventory: {told.strip()[:400]}")
     try:
-        done = subprocess.run([found, "-i", path, "--list"], capture_output=True, text=True, check=False,
-                              stdin=subprocess.DEVNULL, timeout=INVENTORY_SECONDS)
-    except (OSError, subprocess.TimeoutExpired) as error:
-        raise Problem(Place(path), f"ansible-inventory couldn't be run: {error}") from None
-    if done.returncode:
-        raise Problem(Place(path), f"ansible-inventory: {done.stderr.strip()[:400]}")
-    try:
-        return json.loads(done.stdout)
-    except ValueError as error:
+        return json.loads(said)
+    except (ValueError, RecursionError) as error:
         raise Problem(Place(path), f"ansible-inventory printed no JSON: {error}") from None
 
 

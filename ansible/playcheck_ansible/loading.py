@@ -6,6 +6,7 @@ from .books import PARTS, SECTIONS, Block, Book, Play, Raw, Task, items_of, step
 from .modules import INCLUDES, short_name
 from .names import expression_names, given_names
 from .nodes import Mapping, Scalar, Sequence, has_template, is_nothing, is_text, plain, texts_of
+from .looking_up import note_collections
 from .positions import read_file
 from .problems import Place, Problem
 from .roles import block_words, put_handlers, put_play_variables, role_of
@@ -50,6 +51,7 @@ def load_book(path):
     steps = sum(1 for play in book.plays if isinstance(play, Play) for _ in play.steps())
     if steps > MOST_STEPS:
         raise Problem(Place(path), f"more than {MOST_STEPS:,} tasks and blocks, with what its aliases stand for")
+    note_collections(book)
     return book
 
 
@@ -161,7 +163,7 @@ def role_block(role, place, context, is_seen_by_all):
             steps.append(role_block(needed, node.place, inside, is_seen_by_all))
     steps += steps_of(role.tasks, inside)
     context.roles.append((role, is_seen_by_all))
-    block = Block(block_words(role, place), place, {"block": steps})
+    block = Block(block_words(role, place), place, {"block": steps}, is_role=True)
     block.defaults = {} if is_seen_by_all else dict(role.defaults)
     return block
 

@@ -45,6 +45,9 @@ PASSED_OVER = {
 # Ansible's further parameters that do.
 CHANGES_FLOW = {"setup": {"filter", "fact_path", "gather_timeout"}, "debug": {"verbosity"}}
 FREE_FORM = ("command", "shell")
+# Documented modules whose arguments may be one text, with the parameter that it is.
+FREE_TEXTS = {"raw": "free_form", "script": "free_form", "ansible.windows.win_command": "free_form",
+              "ansible.windows.win_shell": "free_form", "win_command": "free_form", "win_shell": "free_form"}
 INCLUDES = ("include", "include_tasks", "import_tasks", "include_role", "import_role", "import_playbook")
 # Modules that may set names or groups which the book doesn't show.
 SETS_UNSEEN = ("include_vars", "package_facts", "service_facts", "set_stats", "gather_facts", "add_host", "group_by")
@@ -54,17 +57,29 @@ MOST_DECLARED = 256
 
 
 @dataclass
+class Documented:
+    """What Ansible's documentation says of a module beside its signature."""
+
+    name: str  # Ansible's own
+    fields: set = field(default_factory=set)  # those of an answer that have a kind
+    choices: dict = field(default_factory=dict)  # a parameter to the values that it may have
+    required: list = field(default_factory=list)
+
+
+@dataclass
 class Modules:
     """The modules that a book may call: the profile's, and those of a file of signatures."""
 
     declared: list = field(default_factory=list)
+    unknown: dict = field(default_factory=dict)  # modules that were looked up in vain, with the reason
 
     def __post_init__(self):
         self.parameters = dict(PROFILE)
         self.aliases = {name: dict(given) for name, given in ALIASES.items()}
         self.asked = {name: set(given) for name, given in PASSED_OVER.items()}
         self.written = {}  # Ansible's name of a module to the one that it is declared under
-        self.documented = {}  # the fields of a module whose signature comes of its documentation
+        self.open = set()  # modules that take any parameter
+        self.documented = {}  # of a module whose signature comes of its documentation: Documented
         for module in self.declared:
             params = module.get("params", {})
             self.parameters[module["name"]] = {name: kind_of(param) for name, param in params.items()}
@@ -77,7 +92,9 @@ class Modules:
             self.written[further.get("name", name)] = name
             self.aliases[name] = dict(further.get("aliases") or {})
             self.asked[name] = set(further.get("asked") or [])
-            self.documented[name] = set(module.get("ok") or {})
+            self.open |= {name} if further.get("open") else set()
+            self.documented[name] = Documented(further.get("name", name), set(module.get("ok") or {}),
+                                               further.get("choices") or {}, further.get("required") or [])
 
     def has(self, name):
         return name in self.parameters
@@ -91,10 +108,10 @@ class Modules:
 
     def signatures(self, book):
         """The signatures that the program is given, and that of the module in a task's place."""
-        declared = [{key: part for key, part in module.items() if key != "ansible"} for module in self.declared]
-        if len(declared) >= MOST_DECLARED:
-            used = {key for task in book.tasks() for key in task.words.pairs}
-            declared = [module for module in declared if module["name"] in used]
+        used = {key for task in book.tasks() for key in task.words.pairs}
+        are_many = len(self.declared) >= MOST_DECLARED
+        declared = [{key: part for key, part in module.items() if key != "ansible"} for module in self.declared
+                    if module["name"] in used or not are_many and "ansible" not in module]
         return [*declared, {"name": self.unjudged_name(), "params": {}, "ok": {"changed": BOOL_FIELD},
                             "failure": FAILURE}]
 
@@ -103,7 +120,9 @@ def kind_of(param):
     kind = param.get("kind") if isinstance(param, dict) else None
     if isinstance(kind, str):
         return kind
-    return "list" if isinstance(kind, dict) and "list" in kind else "rec"
+    if isinstance(kind, dict) and "list" in kind:
+        return "ints" if kind["list"] == "int" else "list"
+    return "rec"
 
 
 def read_signatures(paths):
@@ -119,8 +138,29 @@ def read_signatures(paths):
         if not isinstance(found, list) or not all(isinstance(module, dict) and isinstance(module.get("name"), str)
                                                   and isinstance(module.get("params"), dict) for module in found):
             raise Problem(Place(path), "a list of modules with `name` and `params` is wanted")
+        for module in found:
+            if not is_documentation(module.get("ansible", {})):
+                raise Problem(Place(path), f"the field `ansible` of the module {module['name']} has another form")
         declared += found
     return Modules(declared)
+
+
+def is_documentation(further):
+    """Whether the field that only playcheck-ansible reads has its form."""
+    return (isinstance(further, dict) and isinstance(further.get("name", ""), str)
+            and is_names(further.get("asked", [])) and is_names(further.get("required", []))
+            and isinstance(further.get("aliases", {}), dict) and is_names(list(further.get("aliases", {}).values()))
+            and isinstance(further.get("choices", {}), dict)
+            and all(map(are_choices, further.get("choices", {}).values())))
+
+
+def is_names(found):
+    return isinstance(found, list) and all(isinstance(name, str) for name in found)
+
+
+def are_choices(found):
+    """Whether these are choices that are compared: texts alone, or whole numbers alone."""
+    return is_names(found) or isinstance(found, list) and all(type(one) is int for one in found)
 
 
 def short_name(key):

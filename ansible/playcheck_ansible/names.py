@@ -7,6 +7,8 @@ NAME = re.compile(r"[A-Za-z_][A-Za-z0-9_]*")
 READ = re.compile(r"(?<![A-Za-z0-9_.])(?<!\.\s)[A-Za-z_][A-Za-z0-9_]*")
 TEMPLATE = re.compile(r"\{\{(.*?)\}\}|\{%(.*?)%\}", re.S)
 FACT = re.compile(r"\bansible_facts\s*(?:\.\s*|\[\s*['\"])([A-Za-z_]\w*)")
+# A text in an expression, with its quotes.
+TEXT = re.compile(r"'(?:[^'\\]|\\.)*'|\"(?:[^\"\\]|\\.)*\"")
 CONDITIONS = ("when", "changed_when", "failed_when", "until")
 FACTS = ("ansible_hostname", "ansible_system", "ansible_os_family", "ansible_distribution", "ansible_processor_vcpus",
          "ansible_memtotal_mb")
@@ -33,7 +35,7 @@ def expression_names(text):
 
 def without_texts(text):
     """An expression with its texts blanked, but for those that are steps of a path."""
-    return re.sub(r"'(?:[^'\\]|\\.)*'|\"(?:[^\"\\]|\\.)*\"", lambda found: " " * len(found[0]), text)
+    return TEXT.sub(lambda found: " " * len(found[0]), text)
 
 
 def read_places(words, asked=()):
@@ -65,13 +67,19 @@ METHOD = re.compile(r"\.([A-Za-z_]\w*)\(")
 # An index that is no text, but for hosts and groups.
 INDEX = re.compile(r"(?<![\w.\]])(?!(?:hostvars|groups)\b)[A-Za-z_]\w*(?:\.\w+|\[\s*\])*\[\s*(-?\d+|[A-Za-z_]\w*)\s*\]")
 FORMS = ((FILTER, "the filter `{}`"), (TEST, "the test `{}`"), (METHOD, "the call `.{}()`"),
-         (INDEX, "the index `[{}]`"),
+         (INDEX, "the index `[{}]`"), (re.compile(r"\|\s*default\([^()]*,"), "`default` with a second value"),
          (re.compile(r"[^\w.]if\s+(?=[\w(])"), "an inline `if`"),
          (re.compile(r"[\w)\]]\s*([+*/%~])"), "arithmetic (`{}`)"))
 
 
+# What each of these forms has a sign of.
+SUSPECT = re.compile(r"[|(\[+*/%~]|\bi[sf]\b")
+
+
 def outside_form(expression):
     """What an expression has that the profile lacks, where that shows at once; else nothing."""
+    if not SUSPECT.search(expression):
+        return ""
     bare = without_texts(expression)
     for pattern, what in FORMS:
         found = pattern.search(bare)

@@ -75,15 +75,19 @@ def has_template(text):
 
 
 def texts_of(node):
-    """Each text in the node that isn't a key, with its place."""
-    if isinstance(node, Mapping):
-        for part in node.pairs.values():
-            yield from texts_of(part)
-    elif isinstance(node, Sequence):
-        for item in node.items:
-            yield from texts_of(item)
-    elif node is not None and isinstance(node.value, str):
-        yield node
+    """Each text in the node that isn't a key, with its place, in the order of the file."""
+    if isinstance(node, Scalar):
+        return [node] if isinstance(node.value, str) else []
+    found, waiting = [], [node]
+    while waiting:
+        one = waiting.pop()
+        if isinstance(one, Mapping):
+            waiting += reversed(one.pairs.values())
+        elif isinstance(one, Sequence):
+            waiting += reversed(one.items)
+        elif one is not None and isinstance(one.value, str):
+            found.append(one)
+    return found
 
 
 def is_literal(node):

@@ -3,9 +3,12 @@
 import re
 
 from .books import is_module
-from .modules import CHANGES_FLOW, FREE_FORM, SETS_UNSEEN, short_name
+from .loops import dict_loops, loop_variables, loops
+from .mistakes import documented_values
+from .modules import CHANGES_FLOW, FREE_FORM, FREE_TEXTS, SETS_UNSEEN, short_name
+from .names import mentioned
 from .nodes import Mapping, Scalar, Sequence, has_template, is_literal, is_nothing, is_text, made, plain, texts_of
-from .values import WHOLE, arguments_of, as_bool, as_int, converted
+from .values import arguments_of, as_bool, as_int, converted, is_whole
 
 # Words that change neither the flow nor the variables.
 PASSED = ("tags", "become", "become_exe", "become_flags", "become_method", "become_user", "environment", "no_log",
@@ -16,7 +19,7 @@ FLOW = ("run_once", "any_errors_fatal", "ignore_unreachable", "delegate_facts", 
         "module_defaults", "max_fail_percentage")
 TRUTHS = ("ignore_errors", "run_once", "any_errors_fatal", "ignore_unreachable", "delegate_facts", "check_mode",
           "gather_facts", "force_handlers")
-EMPTY = {"text": "", "bool": False, "int": 0, "list": []}
+EMPTY = {"text": "", "bool": False, "int": 0, "list": [], "ints": []}
 PATH = re.compile(r"[A-Za-z_][\w.'\"\[\]]*")
 ENDS = ("end_host", "end_play", "end_batch", "end_role")
 NO_FLOW = ("noop", "reset_connection")
@@ -86,11 +89,12 @@ def action_words(task, modules):
 
 
 def plain_module_names(task, modules):
-    """A built-in module with its collection's name is the same module."""
-    for key in list(task.words.pairs):
-        name = short_name(key)
+    """A built-in module with its collection's name is the same; a short name is looked for in the collections first."""
+    for key in [key for key in task.words.pairs if is_module(key)]:
+        longer = [f"{one}.{key}" for one in task.collections if "." not in key]
+        name = next((one for one in longer if one in modules.written), short_name(key))
         name = modules.written.get(name, name)
-        if name != key and is_module(key):
+        if name != key:
             node, place = task.words.take(key), task.words.keys.get(key)
             task.words.put(name, node)
             task.words.keys[name] = place or node.place
@@ -101,6 +105,10 @@ def name_value_texts(task, modules):
     module = task.module()
     node = task.words.get(module) if module else None
     if not is_text(node) or module in FREE_FORM or module == "meta" or not modules.has(module):
+        return
+    known = modules.documented.get(module)
+    if known is not None and known.name in FREE_TEXTS:
+        task.words.put(module, Mapping({FREE_TEXTS[known.name]: node}, node.place))
         return
     found = arguments_of(node.value)
     if found:
@@ -127,6 +135,27 @@ def merged_args(task, modules):
         task.leave("`args` beside arguments that are one text", given.place)
         return
     task.words.put(module, merged)
+
+
+def unread_vars(task, modules):
+    """A name of a task's `vars` that holds `omit` and that nothing reads is dropped: it is never evaluated."""
+    given = task.words.get("vars")
+    if not isinstance(given, Mapping):
+        return
+    kept = given.copy()
+    for name, node in given.pairs.items():
+        if not any("omit" in text.value for text in texts_of(node)):
+            continue
+        others = Mapping({**task.words.pairs, "vars": without(kept, name)}, task.place)
+        if name not in mentioned(others, task.asked) | task.outer_names:
+            kept.take(name)
+    task.words.put("vars", kept)
+    if not kept.pairs:
+        task.words.take("vars")
+
+
+def without(words, name):
+    return Mapping({key: part for key, part in words.pairs.items() if key != name}, words.place)
 
 
 def flow_words(task, modules):
@@ -158,52 +187,15 @@ def passed_words(task, modules):
         task.asked.append(node)
 
 
-def loops(task, modules):
-    """`with_list`, and `with_items` one level flat, are `loop`; a label of `loop_control` is asked."""
-    if "with_list" in task.words:
-        task.words.put("loop", task.words.take("with_list"))
-    if "with_items" in task.words:
-        node = task.words.take("with_items")
-        flat = flat_items(node)
-        if flat is None:
-            task.leave("`with_items` with a list in a template beside others", node.place)
-            return
-        task.words.put("loop", flat)
-    for key in task.words.pairs:
-        if key.startswith("with_"):
-            task.leave(f"`{key}`", task.words.keys.get(key))
-            return
-    control = task.words.take("loop_control")
-    if control is None or is_nothing(control):
-        return
-    if not isinstance(control, Mapping) or set(control.pairs) - {"label", "pause"}:
-        task.leave("`loop_control` with more than `label` and `pause`", control.place)
-        return
-    task.asked += control.pairs.values()
-
-
-def flat_items(node):
-    """The items of `with_items`, or None where a template among them may be a list."""
-    if not isinstance(node, Sequence):
-        return node
-    items = []
-    for item in node.items:
-        if isinstance(item, Sequence):
-            items += item.items
-        elif is_whole(item):
-            return None
-        else:
-            items.append(item)
-    return Sequence(items, node.place)
-
-
 def known_module(task, modules):
     """A task with another module than those of the profile and of the signatures isn't judged; its texts are asked."""
     keys = [key for key in task.words.pairs if is_module(key)]
     if len(keys) != 1 or modules.has(keys[0]):
         return
     module, node = keys[0], task.words.get(keys[0])
-    task.leave(f"the module `{module}` is neither built in nor declared", task.words.keys.get(module) or node.place)
+    why = f": {modules.unknown[module]}" if module in modules.unknown else ""
+    told = f"the module `{module}` is neither built in nor declared{why}"
+    task.leave(told, task.words.keys.get(module) or node.place)
     if not task.is_handler and module not in SETS_UNSEEN:
         task.is_still_asked = True
         task.asked += [converted(text, "omitted") for text in texts_of(node)]
@@ -279,7 +271,10 @@ def parameters(task, modules):
         words = [str(plain(item)) for item in node.take("argv").items]
         node.put("cmd", made(" ".join(words), node.place))
     rename(node, modules.aliases.get(module, {}))
-    pass_over_parameters(task, node, modules.asked.get(module, ()))
+    passed = modules.asked.get(module, ())
+    if module in modules.open:
+        passed = {*passed, *node.pairs} - set(modules.parameters[module])
+    pass_over_parameters(task, node, sorted(passed))
     for name, kind in modules.parameters.get(module, {}).items():
         if name not in node:
             continue
@@ -289,10 +284,6 @@ def parameters(task, modules):
             node.put(name, made(EMPTY.get(kind, ""), node.get(name).place))
         else:
             node.put(name, converted(node.get(name), kind, name))
-
-
-def is_whole(node):
-    return is_text(node) and WHOLE.fullmatch(node.value) is not None
 
 
 def rename(node, names):
@@ -325,4 +316,5 @@ def facts(node, task):
 
 
 TASK_PASSES = (plain_keywords, plain_conditions, action_words, plain_module_names, flow_words, name_value_texts,
-               merged_args, passed_words, loops, known_module, meta_actions, messages, parameters)
+               merged_args, passed_words, messages, unread_vars, dict_loops, loop_variables, loops, known_module,
+               meta_actions, documented_values, parameters)

@@ -2,6 +2,7 @@
 import re
 
 from .books import SECTIONS, Block, Raw, Task, steps_below
+from .names import mentioned
 from .nodes import Mapping, Scalar, Sequence, has_template, is_nothing, is_text, made, plain
 from .passes import FLOW, PASSED, TRUTHS, run_passes, without_braces
 from .values import as_bool, as_int
@@ -22,6 +23,7 @@ def run_book_passes(book, modules, extra):
             continue
         for one in PLAY_PASSES:
             one(play, extra)
+        note_outer_names(play)
         for step in play.steps():
             if isinstance(step, Block):
                 block_words(step, extra)
@@ -30,6 +32,16 @@ def run_book_passes(book, modules, extra):
                 run_passes(step, modules)
         if play.reason:
             leave_all(play.tasks(), play.reason)
+
+
+def note_outer_names(play):
+    """Tells the tasks with `vars` or a loop variable of their own which names are mentioned round them."""
+    tasks = [task for task in play.tasks() if "loop_control" in task.words or "vars" in task.words]
+    if tasks:
+        holders = [play, *(step for step in play.steps() if isinstance(step, Block))]
+        names = set().union(*(mentioned(holder.words, holder.asked) for holder in holders))
+        for task in tasks:
+            task.outer_names = names
 
 
 def leave_all(tasks, reason):
@@ -106,6 +118,8 @@ def prompted_variables(play, extra):
         name = item.get("name") if isinstance(item, Mapping) else None
         if is_text(name):
             merged.put(name.value, made("", name.place))
+            if name.value not in extra:
+                play.prompted.add(name.value)
     play.words.put("vars", merged)
 
 

@@ -81,33 +81,39 @@ class Composer:
     def document(self):
         found = None
         documents = 0
+        enders = {yaml.ScalarEvent: self.single, yaml.MappingEndEvent: self.end, yaml.SequenceEndEvent: self.end,
+                  yaml.AliasEvent: self.alias}
         for event in self.events:
-            if isinstance(event, yaml.DocumentStartEvent):
+            ender = enders.get(type(event))
+            if ender is not None:
+                node = ender(event)
+                if self.open:
+                    self.put(node)
+                else:
+                    found = node
+            elif isinstance(event, yaml.CollectionStartEvent):
+                self.begin(event)
+            elif isinstance(event, yaml.DocumentStartEvent):
                 documents += 1
                 if documents > 1:
                     raise Problem(self.place(event), "a second document; one is wanted")
-            elif isinstance(event, yaml.NodeEvent) or isinstance(event, yaml.CollectionEndEvent):
-                ended = self.step(event)
-                found = ended if ended is not None and not self.open else found
         return found if found is not None else Scalar(None, Place(self.path, 1, 1))
 
     def place(self, event):
-        return place_of(event.start_mark, self.path)
+        mark = event.start_mark
+        return Place(self.path, mark.line + 1, mark.column + 1)
 
-    def step(self, event):
-        """Takes an event, and answers the node that it ends, where it ends one."""
-        if isinstance(event, yaml.CollectionEndEvent):
-            node, anchor, before, _ = self.open.pop()
-            self.keep(anchor, node, self.nodes - before)
-        elif isinstance(event, yaml.CollectionStartEvent):
-            return self.begin(event)
-        elif isinstance(event, yaml.AliasEvent):
-            node = self.alias(event)
-        else:
-            self.count(1, event)
-            node = self.scalar(event)
-            self.keep(event.anchor, node, 1)
-        self.put(node)
+    def end(self, event):
+        """The list or the mapping that ends."""
+        node, anchor, before, _ = self.open.pop()
+        self.keep(anchor, node, self.nodes - before)
+        return node
+
+    def single(self, event):
+        """A single value."""
+        self.count(1, event)
+        node = self.scalar(event)
+        self.keep(event.anchor, node, 1)
         return node
 
     def begin(self, event):
@@ -121,7 +127,6 @@ class Composer:
         if event.anchor:
             self.anchors[event.anchor] = (None, 0)
         self.open.append([node, event.anchor, self.nodes - 1, None])
-        return None
 
     def keep(self, anchor, node, nodes):
         if anchor:
@@ -142,8 +147,6 @@ class Composer:
             raise Problem(self.place(event), f"more than {MOST_NODES:,} values, with what its aliases stand for")
 
     def put(self, node):
-        if not self.open:
-            return
         frame = self.open[-1]
         parent, _, _, key = frame
         if isinstance(parent, Sequence):

@@ -1,9 +1,8 @@
 # What goes wrong before a verdict: a file that can't be read, a form that can't be put into JSON.
-from dataclasses import dataclass
+from typing import NamedTuple
 
 
-@dataclass(frozen=True)
-class Place:
+class Place(NamedTuple):
     """A place of a file; lines and columns are counted from 1, and line 0 is the whole file."""
 
     file: str

@@ -44,7 +44,7 @@ class Asker:
     def write(self, name, value):
         path = os.path.join(self.folder.name, name)
         with open(path, "w", encoding="utf-8") as file:
-            json.dump(value, file)
+            file.write(json.dumps(value))
         return path
 
     def ask(self, book):

@@ -1,5 +1,6 @@
 # Roles with literal names put in place: their tasks, handlers, defaults and variables.
 import os
+import re
 from dataclasses import dataclass, field
 
 from .books import items_of
@@ -49,12 +50,26 @@ def role_of(node, context, is_include=False):
 
 def role_folder(name, context):
     base = context.book_folder
-    for start in (os.path.join(base, "roles"), base, os.path.join(base, "..", "roles"),
-                  os.path.dirname(os.path.dirname(os.path.dirname(context.file))) or "."):
-        path = os.path.normpath(os.path.join(start, name))
+    places = [os.path.join(start, name) for start in (
+        os.path.join(base, "roles"), base, os.path.join(base, "..", "roles"),
+        os.path.dirname(os.path.dirname(os.path.dirname(context.file))) or ".")]
+    for path in map(os.path.normpath, [*places, *collection_places(name, context)]):
         if any(os.path.isdir(os.path.join(path, part)) for part in ("tasks", "handlers", "defaults", "vars", "meta")):
             return path
     return None
+
+
+def collection_places(name, context):
+    """Where a role of a collection may lie: beside the book, in the collections round it, and where Ansible looks."""
+    parts = name.split(".")
+    if len(parts) != 3 or not all(re.fullmatch(r"\w+", part) for part in parts):
+        return []
+    above = os.path.abspath(context.file).split(os.sep)
+    roots = [os.sep.join(above[:at]) for at, folder in enumerate(above) if folder == "ansible_collections"]
+    named = os.environ.get("ANSIBLE_COLLECTIONS_PATH") or os.environ.get("ANSIBLE_COLLECTIONS_PATHS") or ""
+    roots += [os.path.join(context.book_folder, "collections"), *filter(None, named.split(os.pathsep)),
+              os.path.expanduser("~/.ansible/collections"), "/usr/share/ansible/collections"]
+    return [os.path.join(root, "ansible_collections", parts[0], parts[1], "roles", parts[2]) for root in roots]
 
 
 def read_role(name, folder, words, start):
@@ -68,6 +83,8 @@ def read_role(name, folder, words, start):
     meta = role_file(folder, "meta", "main")
     node = read_file(meta) if meta else None
     role.needs = items_of(node.get("dependencies")) or [] if isinstance(node, Mapping) else []
+    if isinstance(node, Mapping) and "collections" in node and "collections" not in words:
+        words.put("collections", node.get("collections"))
     return role
 
 
@@ -123,6 +140,8 @@ def put_handlers(play, role, handlers):
                 other.leave(f"two handlers have the name '{handler.name}'")
             continue
         give_variables(handler, own_variables(role))
+        if "collections" not in handler.words:
+            handler.words.put("collections", role.words.get("collections") or made([], handler.place))
         if handler.name:
             topics = handler.words.get("listen")
             topics = topics.items if isinstance(topics, Sequence) else [topics] if topics is not None else []

@@ -3,7 +3,7 @@ import re
 
 from .books import Block, Play, Raw, Task, is_module, steps_below
 from .hints import culprit, nearest
-from .lines import Printer
+from .lines import Line, Printer
 from .modules import CHANGES_FLOW, PROFILE, SETS_UNSEEN
 from .names import (FACTS, KNOWN, MAGIC, given_names, mentioned, names_of_vars, outside_form,
                     outside_node, read_places, without_texts)
@@ -186,6 +186,16 @@ class Settler(Scope):
             if not go_on or not self.cut(answer):
                 return
 
+    def take_mistakes(self, finding):
+        """Makes findings of what documentation shows, and cuts these tasks, before the program is asked."""
+        for task in self.tasks:
+            play = self.holders[id(task)][-1]
+            if task.mistakes and not play.reason:
+                line = Line("handler" if task.is_handler else "task", play, task)
+                self.findings += [(line, finding(mistake, line)) for mistake in task.mistakes]
+                task.reason, task.reason_place = f"{CUT}{task.mistakes[0].code}", task.place
+                task.is_still_asked = False
+
     def line(self, answer):
         lines = self.numbered.lines
         return lines[answer.line] if 0 < answer.line < len(lines) else None
@@ -294,7 +304,7 @@ class Settler(Scope):
             for name, field in re.findall(r"(?<![\w.])([A-Za-z_]\w*)\.([A-Za-z_]\w*)", without_texts(expression)):
                 giver = self.giver(name)
                 known = self.modules.documented.get(giver.module()) if giver is not None else None
-                if known is not None and field not in known | RESULT_FIELDS:
+                if known is not None and field not in known.fields | RESULT_FIELDS:
                     return f"it reads '{name}.{field}', of which the module's documentation gives no kind"
         return ""
 

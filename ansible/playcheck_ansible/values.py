@@ -9,8 +9,13 @@ FALSE_WORDS = ("no", "off", "0", "false", "f", "n")
 WHOLE = re.compile(r"\s*\{\{(?:(?!\}\}).)*\}\}\s*", re.S)
 OMITTED = re.compile(r"(\|\s*default\()\s*omit\s*(?:,\s*[Tt]rue\s*)?\)(\s*\}\})")
 # What stands for a parameter that `default(omit)` leaves out.
-INSTEAD = {"omitted": "''", "text": "''", "bool": "false", "list": "[]", "int": "0"}
+INSTEAD = {"ints": "[]", "omitted": "''", "text": "''", "bool": "false", "list": "[]", "int": "0"}
 OPENING = {"{{": "}}", "{%": "%}", "{#": "#}"}
+
+
+def is_whole(node):
+    """Whether a node is a text that is one template."""
+    return is_text(node) and WHOLE.fullmatch(node.value) is not None
 
 
 def split_words(text):
@@ -63,6 +68,8 @@ def converted(node, kind, name=""):
         return as_bool(node)
     if kind == "int":
         return as_int(node)
+    if kind == "ints":
+        return as_ints(node)
     return as_list(node) if kind == "list" else node
 
 
@@ -118,3 +125,11 @@ def as_list(node):
     if isinstance(node, Sequence):
         return Sequence([as_text(item, "") if isinstance(item, Scalar) else item for item in node.items], node.place)
     return node
+
+
+def as_ints(node):
+    """A list of whole numbers, of one number or of a text with commas too."""
+    found = as_list(node)
+    if not isinstance(found, Sequence):
+        return found
+    return Sequence([as_int(item) if isinstance(item, Scalar) else item for item in found.items], found.place)

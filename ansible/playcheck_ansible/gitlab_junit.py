@@ -1,0 +1,85 @@
+# Prints reports as GitLab's report of code quality and as JUnit's XML.
+import hashlib
+import json
+import re
+import xml.etree.ElementTree as xml
+
+from .pipelines import NOT_JUDGED, left_of
+from .wording import message_of, verdict_of
+
+# Places in texts, which move with lines that are put in before them.
+MOVING = re.compile(r"lines? \d+(?:, \d+)*|:\d+(?::\d+)?")
+# What no file of XML 1.0 may hold, also not escaped.
+NO_XML = re.compile("[^\t\n\r\x20-\ud7ff\ue000-\ufffd\U00010000-\U0010ffff]")
+
+
+def uri_of(place):
+    path = place.file.replace("\\", "/")
+    return path[2:] if path.startswith("./") else path
+
+
+def gitlab_format(reports, has_colour):
+    """A list of issues; a finding keeps its fingerprint where only its line has moved."""
+    issues, seen = [], {}
+    for report in reports:
+        found = [(one.code, "critical", message_of(one), one) for one in report.findings]
+        severity = "major" if report.is_strict else "info"
+        found += [(NOT_JUDGED, severity, not_judged_text(one), one) for one in left_of(report)]
+        for code, severity, text, one in found:
+            key = (report.book, code, uri_of(one.place), MOVING.sub("", text))
+            seen[key] = seen.get(key, 0) + 1
+            issues.append({"description": text, "check_name": code, "severity": severity,
+                           "fingerprint": fingerprint((*key, seen[key])),
+                           "location": {"path": uri_of(one.place), "lines": {"begin": max(one.place.line, 1)}}})
+    return json.dumps(issues, indent=2) + "\n"
+
+
+def fingerprint(parts):
+    return hashlib.sha256(json.dumps(parts).encode()).hexdigest()
+
+
+def not_judged_text(one):
+    return f"not judged: {one.kind} '{one.name}': {one.reason}" if one.name else f"not judged: {one.reason}"
+
+
+def junit_format(reports, has_colour):
+    """A suite for each book: a case for each finding and each task that isn't judged, and one where it is accepted."""
+    suites = xml.Element("testsuites", name="playcheck")
+    for report in reports:
+        suite = xml.SubElement(suites, "testsuite", name=xml_text(report.book))
+        for one in report.findings:
+            add_case(suite, report, one, f"{one.code} {message_of(one)}", "failure", one.code)
+        for one in left_of(report):
+            outcome = "failure" if report.is_strict else "skipped"
+            add_case(suite, report, one, not_judged_text(one), outcome, NOT_JUDGED)
+        if report.is_accepted:
+            name = verdict_of(report)[len(report.book) + 2:]
+            xml.SubElement(suite, "testcase", name=xml_text(name), classname=xml_text(report.book))
+        xml.SubElement(suite, "system-out").text = xml_text(verdict_of(report))
+        count_cases(suite, suite)
+    count_cases(suites, suites)
+    xml.indent(suites)
+    return f'<?xml version="1.0" encoding="UTF-8"?>\n{xml.tostring(suites, encoding="unicode")}\n'
+
+
+def add_case(suite, report, one, text, outcome, code):
+    case = xml.SubElement(suite, "testcase", name=xml_text(text), classname=xml_text(report.book),
+                          file=xml_text(one.place.file))
+    if one.place.line:
+        case.set("line", str(one.place.line))
+    told = xml.SubElement(case, outcome, message=xml_text(text))
+    if outcome == "failure":
+        told.set("type", code)
+        told.text = xml_text(f"{one.place}: {text}")
+
+
+def count_cases(element, below):
+    element.set("tests", str(len(list(below.iter("testcase")))))
+    element.set("failures", str(len(list(below.iter("failure")))))
+    element.set("errors", "0")
+    element.set("skipped", str(len(list(below.iter("skipped")))))
+
+
+def xml_text(text):
+    """A text with a sign in the place of each letter that XML can't have."""
+    return NO_XML.sub("\ufffd", text)

@@ -1,0 +1,153 @@
+# The passes that follow from literal values: `bool` and `default(.., true)` where all values of a name are known.
+import re
+
+from .books import Block, Raw, Task
+from .inventory import is_opaque
+from .names import KNOWN, MAGIC, TEXT, given_names
+from .nodes import Mapping, is_literal, plain
+from .rewriting import changed_texts, rewrite_words
+
+# What Ansible's filter `bool` takes as true; any other text is false.
+TRUTHS = ("yes", "on", "1", "true")
+DEFAULT = r"\s*\|\s*default\(\s*(?P<default>[^(),]*?)\s*(?P<falsy>,\s*(?:boolean\s*=\s*)?[Tt]rue\s*)?\)"
+NAME = r"(?<![\w.\])])(?<!\.\s)(?P<name>[A-Za-z_]\w*)"
+BOOL = re.compile(NAME + rf"(?:{DEFAULT})?\s*\|\s*bool\b(?:\(\s*\))?(?!\s*[|.\[(])")
+FALSY = re.compile(NAME + DEFAULT)
+QUOTED_TRUE, QUOTED_FALSE = "'true'", "'false'"
+WORDS = {"true": True, "True": True, "false": False, "False": False}
+
+
+def run_literal_passes(book, inventory):
+    values = Values(book, inventory)
+
+    def change(expression):
+        for one in LITERAL_PASSES:
+            expression = one(expression, values)
+        return expression
+
+    for play in book.plays:
+        if isinstance(play, Raw):
+            continue
+        for one in [play, *(step for step in play.steps() if isinstance(step, (Block, Task)))]:
+            rewrite_words(one.words, change)
+            one.asked = [changed_texts(node, change) for node in one.asked]
+
+
+class Values:
+    """The literal values that anything gives a name: None where another value is possible too."""
+
+    def __init__(self, book, inventory):
+        self.book, self.inventory = book, inventory
+        self.of_names = None  # found where it is first asked for
+
+    def find(self):
+        self.of_names = {}
+        for name, value in self.inventory.variables():
+            self.add(name, value, not is_opaque(value))
+        for play in self.book.plays:
+            if isinstance(play, Raw):
+                continue
+            for step in [play, *(step for step in play.steps() if isinstance(step, (Block, Task)))]:
+                self.add_vars(step)
+            for name in play.prompted:
+                self.of_names[name] = None
+        for task in self.book.tasks():
+            self.add_task(task)
+
+    def add(self, name, value, is_known):
+        known = self.of_names.get(name, [])
+        self.of_names[name] = [*known, value] if is_known and known is not None else None
+
+    def add_vars(self, holder):
+        given = holder.words.get("vars")
+        for name, node in given.pairs.items() if isinstance(given, Mapping) else ():
+            self.add(name, plain(node), is_literal(node))
+        for name in getattr(holder, "lost", ()):
+            self.of_names[name] = None
+
+    def add_task(self, task):
+        node = task.words.get("set_fact")
+        facts = node.pairs if isinstance(node, Mapping) else {}
+        for name in given_names(task):
+            part = facts.get(name)
+            self.add(name, plain(part) if part is not None else None, part is not None and is_literal(part))
+
+    def known(self, name):
+        """All values that a name may have, or None where they aren't known; a name that nothing gives has none."""
+        if self.of_names is None:
+            self.find()
+        is_outside = name in KNOWN or name in MAGIC or name.startswith("ansible_")
+        return None if is_outside else self.of_names.get(name, [])
+
+
+def plain_truths(expression, values):
+    """`x | bool` is `x` where each value that `x` may have is a truth value, and a comparison where each is a text."""
+    return replaced(expression, BOOL, lambda found, text: truth(found, text, values))
+
+
+def truth(found, text, values):
+    name = found["name"]
+    known, default = values.known(name), None
+    if found["default"] is None and name in WORDS:
+        return name
+    if found["default"] is not None:
+        written = literal(text(found, "default"))
+        default = None if written is None else is_true(written)
+        if default is None or found["falsy"] and default and not all(known or ()):
+            return None
+    if known is None or not known and default is None:
+        return None
+    if all(isinstance(value, bool) for value in known):
+        return name + default_text(default, "true", "false")
+    if all(isinstance(value, str) for value in known):
+        words = sorted({"true", *(value for value in known if is_true(value))})
+        listed = ", ".join(f"'{word}'" for word in words)
+        return f"({name}{default_text(default, QUOTED_TRUE, QUOTED_FALSE)} in [{listed}])"
+    return None
+
+
+def is_true(value):
+    """What Ansible's filter `bool` makes of a value."""
+    return value if isinstance(value, bool) else str(value).lower() in TRUTHS
+
+
+def default_text(default, when_true, when_false):
+    return "" if default is None else f" | default({when_true if default else when_false})"
+
+
+def plain_defaults(expression, values):
+    """`default(x, true)` is `default(x)` where no value that stands before it may be empty or false."""
+    return replaced(expression, FALSY, lambda found, text: unconditional(found, text, values))
+
+
+def unconditional(found, text, values):
+    known = values.known(found["name"])
+    if not found["falsy"] or known is None or not all(known):
+        return None
+    return f"{found['name']} | default({text(found, 'default')})"
+
+
+def replaced(expression, pattern, change):
+    """The expression with what a pattern finds outside of its texts replaced, where `change` answers something."""
+    if "|" not in expression:
+        return expression
+    parts, at = [], 0
+    for found in pattern.finditer(TEXT.sub(lambda text: "'" * len(text[0]), expression)):
+        new = change(found, lambda match, group: expression[match.start(group):match.end(group)].strip())
+        if new is not None:
+            parts += [expression[at:found.start()], new]
+            at = found.end()
+    return "".join([*parts, expression[at:]])
+
+
+def literal(text):
+    """The value of a literal as an expression writes it, or None where it is something else."""
+    if text in WORDS:
+        return WORDS[text]
+    if re.fullmatch(r"-?\d{1,18}", text):
+        return int(text)
+    quoted = re.fullmatch(r"'([^'\\]*)'|\"([^\"\\]*)\"", text)
+    return (quoted[1] if quoted[1] is not None else quoted[2]) if quoted else None
+
+
+LITERAL_PASSES = (plain_truths, plain_defaults)

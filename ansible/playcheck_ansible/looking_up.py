@@ -1,0 +1,75 @@
+# Looks up the modules of books in Ansible's documentation: one call for all that are neither built in nor declared.
+import re
+import shutil
+
+from .books import Block, Play, Task, is_module
+from .documented import documentation, signatures_of
+from .modules import INCLUDES, PREFIXES, Modules, short_name
+from .nodes import Mapping, is_text, texts_of
+from .problems import Problem
+
+SECONDS = 60
+# What is no name of a module isn't asked: it might be taken for an option.
+NAME = re.compile(r"[A-Za-z_][A-Za-z0-9_]*(\.[A-Za-z_][A-Za-z0-9_]*)*")
+MOST_COLLECTIONS = 16
+UNKNOWN = "ansible-doc doesn't know it"
+
+
+def note_collections(book):
+    """Tells each task the collections in which the short name of its module is looked for: the innermost given ones."""
+    for play in book.plays:
+        if isinstance(play, Play):
+            for section in play.sections.values():
+                note_below(section, collections_of(play, []))
+
+
+def note_below(steps, outer):
+    for step in steps:
+        if isinstance(step, Task):
+            step.collections = collections_of(step, outer)
+        elif isinstance(step, Block):
+            for part in step.parts.values():
+                note_below(part, collections_of(step, [] if step.is_role else outer))
+
+
+def collections_of(holder, outer):
+    node = holder.words.get("collections")
+    if node is None:
+        return outer
+    return [text.value for text in texts_of(node) if text.value + "." not in PREFIXES][:MOST_COLLECTIONS]
+
+
+def used_modules(book):
+    """The modules that a book's tasks may name, those of `action` too; of a short name those of the collections too."""
+    for task in book.tasks():
+        for name in named_modules(task):
+            yield name
+            if "." not in name:
+                yield from (f"{one}.{name}" for one in task.collections)
+
+
+def named_modules(task):
+    for key in task.words.pairs:
+        if is_module(key) and short_name(key) not in INCLUDES:
+            yield short_name(key)
+    for node in (task.words.get(key) for key in ("action", "local_action")):
+        named = node.get("module") if isinstance(node, Mapping) else node
+        if is_text(named) and named.value.split():
+            yield short_name(named.value.split()[0])
+
+
+def looked_up(names, modules, told):
+    """The modules with those of these names that Ansible's documentation has; what fails is told."""
+    wanted = sorted({name for name in names if NAME.fullmatch(name) and not modules.has(name)
+                     and name not in modules.written})
+    if not wanted or not shutil.which("ansible-doc"):
+        return modules
+    try:
+        documents = documentation(wanted, SECONDS)
+    except Problem as problem:
+        told(f"modules aren't looked up: {problem}")
+        return modules
+    declared, left = signatures_of({name: documents[name] for name in wanted if name in documents})
+    found = {module["ansible"]["name"] for module in declared}
+    unknown = {name: left.get(name, UNKNOWN) for name in wanted if name not in found}
+    return Modules([*modules.declared, *declared], unknown)

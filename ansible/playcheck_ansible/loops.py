@@ -1,0 +1,130 @@
+# The passes over loops: `with_dict`, `with_list` and `with_items`, a loop variable with a name of its own, labels.
+import re
+
+from .names import (GRAMMAR, KNOWN, MAGIC, TEXT, expression_names, expressions_of, given_names, mentioned,
+                    names_of_vars, read_places, without_texts)
+from .nodes import Mapping, Sequence, has_template, is_nothing, is_text, made, texts_of
+from .rewriting import changed_texts, rewrite_words
+from .values import is_whole
+
+VARIABLE = re.compile(r"[A-Za-z_][A-Za-z0-9_]{0,127}")
+
+
+def dict_loops(task, modules):
+    """`with_dict` of literal mappings is a list of their pairs."""
+    node = task.words.get("with_dict")
+    dicts = node.items if isinstance(node, Sequence) else [node]
+    if node is None or not all(isinstance(one, Mapping) for one in dicts):
+        return
+    if any(has_template(key) for one in dicts for key in one.pairs):
+        return
+    items = [made({"key": key, "value": part}, one.keys.get(key) or part.place)
+             for one in dicts for key, part in one.pairs.items()]
+    task.words.put("loop", Sequence(items, node.place))
+    task.words.take("with_dict")
+
+
+def loop_variables(task, modules):
+    """A loop variable with a name of its own is `item`, where nothing else of the task has one of the two names."""
+    control = task.words.get("loop_control")
+    named = control.get("loop_var") if isinstance(control, Mapping) else None
+    if named is None:
+        return
+    lists = [key for key in task.words.pairs if key == "loop" or key.startswith("with_")]
+    if lists and not (is_text(named) and named.value == "item"):
+        reason = loop_variable_bar(task, named, lists)
+        if reason:
+            task.leave(f"`loop_var`: {reason}", named.place)
+            return
+        rewrite_words(task.words, renaming(named.value), lists)
+        task.asked = [changed_texts(node, renaming(named.value)) for node in task.asked]
+        control = task.words.get("loop_control")
+    control = control.copy()
+    control.take("loop_var")
+    task.words.put("loop_control", control)
+
+
+def loop_variable_bar(task, named, lists):
+    """Why a loop variable can't be `item`; nothing where it can."""
+    if not is_text(named) or not VARIABLE.fullmatch(named.value):
+        return "it isn't a name"
+    name = named.value
+    if name in KNOWN | GRAMMAR | MAGIC or name.startswith("ansible_"):
+        return f"'{name}' is a name that Ansible gives"
+    both = {name, "item"}
+    of_list = [expression for key in lists for expression, _ in expressions_of(task.words.get(key), False)]
+    others = given_names(task) | names_of_vars(task.words) | task.outer_names
+    if both & set().union(others, *map(expression_names, of_list)):
+        return f"'{name}' or 'item' is used elsewhere too"
+    inside = Mapping({key: part for key, part in task.words.pairs.items() if key not in lists}, task.place)
+    if "item" in mentioned(inside, task.asked):
+        return "'item' is read too"
+    texts = [text.value for node in [*task.words.pairs.values(), *task.asked] for text in texts_of(node)]
+    notified = [text.value for text in texts_of(task.words.get("notify"))]
+    if any("{%" in text for text in texts) or any(name in text for text in notified):
+        return "it may be read where it can't be followed"
+    if any(is_hidden(name, expression) for expression, _ in read_places(inside, task.asked)):
+        return "it may be read where it can't be followed"
+    return ""
+
+
+def is_hidden(name, expression):
+    """Whether an expression may name a variable otherwise than by a plain read of it."""
+    quoted = " ".join(TEXT.findall(expression))
+    by_text = "vars" in expression or "lookup" in expression or "query" in expression
+    return by_text and name in quoted or re.search(rf"\b{name}\s*=(?!=)", without_texts(expression)) is not None
+
+
+def renaming(name):
+    """A change of expressions: each read of the name becomes one of `item`."""
+    read = re.compile(rf"(?<![A-Za-z0-9_.])(?<!\.\s){name}(?![A-Za-z0-9_])")
+
+    def change(expression):
+        parts, at = [], 0
+        for found in read.finditer(without_texts(expression)):
+            parts += [expression[at:found.start()], "item"]
+            at = found.end()
+        return "".join([*parts, expression[at:]])
+
+    return change
+
+
+def loops(task, modules):
+    """`with_list`, and `with_items` one level flat, are `loop`; a label of `loop_control` is asked."""
+    if "with_list" in task.words:
+        task.words.put("loop", task.words.take("with_list"))
+    if "with_items" in task.words:
+        node = task.words.take("with_items")
+        flat = flat_items(node)
+        if flat is None:
+            task.leave("`with_items` with a list in a template beside others", node.place)
+            return
+        task.words.put("loop", flat)
+    for key in task.words.pairs:
+        if key.startswith("with_"):
+            task.leave(f"`{key}`", task.words.keys.get(key))
+            return
+    control = task.words.take("loop_control")
+    if control is None or is_nothing(control):
+        return
+    if not isinstance(control, Mapping) or set(control.pairs) - {"label", "pause"}:
+        task.leave("`loop_control` with more than `label`, `loop_var` and `pause`", control.place)
+        return
+    task.asked += control.pairs.values()
+
+
+def flat_items(node):
+    """The items of `with_items`, or None where a template among them may be a list."""
+    if not isinstance(node, Sequence):
+        return node
+    if len(node.items) == 1 and is_whole(node.items[0]):
+        return node.items[0]
+    items = []
+    for item in node.items:
+        if isinstance(item, Sequence):
+            items += item.items
+        elif is_whole(item):
+            return None
+        else:
+            items.append(item)
+    return Sequence(items, node.place)

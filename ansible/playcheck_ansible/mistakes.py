@@ -1,0 +1,78 @@
+# Mistakes that Ansible's own documentation of a module shows, before the program is asked: in literal values alone.
+from dataclasses import dataclass
+
+from .hints import nearest
+from .nodes import Mapping, Scalar, Sequence, has_template, is_nothing, is_text
+from .problems import Place
+from .values import FALSE_WORDS, TRUE_WORDS, as_int, as_list
+
+MOST_CHOICES = 12
+BACK = {"True": TRUE_WORDS, "False": FALSE_WORDS}
+
+
+@dataclass
+class Mistake:
+    code: str
+    place: Place
+    detail: str
+
+
+def documented_values(task, modules):
+    """What the documentation of a task's module forbids: values, missing parameters, a parameter by two names."""
+    module = task.module()
+    known = modules.documented.get(module)
+    node = task.words.get(module) if module else None
+    if known is None:
+        return
+    place = task.words.keys.get(module) or task.place
+    if is_nothing(node):
+        node = Mapping({}, place)
+    if not isinstance(node, Mapping):
+        return
+    given = {}  # the parameters, each with the names by which it is given
+    for name in node.pairs:
+        given.setdefault(modules.aliases[module].get(name, name), []).append(name)
+    for option in known.required:
+        if option not in given:
+            task.mistakes.append(Mistake("A-required", place, f"`{option}` of {known.name} is missing"))
+    for option, names in given.items():
+        if len(names) > 1:
+            place = node.keys.get(names[1]) or node.place
+            told = f"`{names[0]}` and `{names[1]}` of {known.name} are one"
+            task.mistakes.append(Mistake("A-alias", place, told))
+        for name in names:
+            if option in known.choices:
+                is_list = modules.parameters[module].get(option) in ("list", "ints")
+                value = as_list(node.get(name)) if is_list else node.get(name)
+                task.mistakes += wrong_choices(value, name, known, known.choices[option])
+
+
+def wrong_choices(node, name, known, choices):
+    """The values of a parameter that are literal and none of its choices."""
+    for value in values_of(node):
+        if not is_choice(value, choices):
+            word = str(value.value)
+            near = nearest(word, choices) if isinstance(choices[0], str) else ""
+            meant = f" Did you mean '{near}'?" if near else ""
+            listed = " ".join(map(str, choices[:MOST_CHOICES])) + (" .." if len(choices) > MOST_CHOICES else "")
+            told = f"'{word}' is no choice of `{name}` of {known.name}.{meant} Choices: {listed}"
+            yield Mistake("A-choice", value.place, told)
+
+
+def values_of(node):
+    """The single values of a parameter: of a list its items."""
+    if isinstance(node, Sequence):
+        return [item for item in node.items if isinstance(item, Scalar)]
+    return [node] if isinstance(node, Scalar) else []
+
+
+def is_choice(node, choices):
+    """Whether a value may be one of the choices, as Ansible converts it to their kind: a template may be any."""
+    if not choices or is_nothing(node) or is_text(node) and has_template(node.value):
+        return True
+    if isinstance(choices[0], int):
+        number = as_int(node).value
+        return isinstance(number, bool) or not isinstance(number, int) or number in choices
+    text = str(node.value)
+    # YAML makes truth values of words as `yes`: Ansible takes the one choice that is such a word.
+    return text in choices or len(set(BACK.get(text, ())) & set(choices)) == 1

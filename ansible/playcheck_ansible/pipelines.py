@@ -1,0 +1,55 @@
+# Prints reports for pipelines: GitHub's commands, and SARIF 2.1.0; gitlab_junit.py has two more formats.
+import json
+
+from .codes import OWN_TITLES, TITLES
+from .wording import message_of, verdict_of
+
+SARIF_SCHEMA = "https://json.schemastore.org/sarif-2.1.0.json"
+NOT_JUDGED = "not-judged"
+
+
+def left_of(report):
+    """What a report doesn't judge or ask."""
+    return [*report.unjudged, *report.notes]
+
+
+def sarif_format(reports, has_colour):
+    used = sorted({one.code for report in reports for one in report.findings})
+    rules = [{"id": code, "shortDescription": {"text": {**TITLES, **OWN_TITLES}.get(code, code)}} for code in used]
+    rules.append({"id": NOT_JUDGED, "shortDescription": {"text": "a task that isn't judged"}})
+    results = []
+    for report in reports:
+        for one in report.findings:
+            results.append(sarif_result(one.code, "error", message_of(one), one.place))
+        for one in left_of(report):
+            results.append(sarif_result(NOT_JUDGED, "note", one.reason, one.place))
+    run = {"tool": {"driver": {"name": "playcheck", "rules": rules}}, "results": results}
+    return json.dumps({"$schema": SARIF_SCHEMA, "version": "2.1.0", "runs": [run]}, indent=2) + "\n"
+
+
+def sarif_result(code, level, text, place):
+    location = {"artifactLocation": {"uri": place.file.replace("\\", "/")}}
+    if place.line:
+        location["region"] = {"startLine": place.line, "startColumn": place.column}
+    return {"ruleId": code, "level": level, "message": {"text": text},
+            "locations": [{"physicalLocation": location}]}
+
+
+def github_format(reports, has_colour):
+    printed = []
+    for report in reports:
+        for one in report.findings:
+            printed.append(f"::error {github_place(one.place)},title={one.code}::{github_text(message_of(one))}")
+        for one in left_of(report):
+            printed.append(f"::notice {github_place(one.place)},title=not judged::{github_text(one.reason)}")
+        printed.append(verdict_of(report))
+    return "".join(line + "\n" for line in printed)
+
+
+def github_place(place):
+    file = github_text(place.file).replace(":", "%3A").replace(",", "%2C")
+    return f"file={file},line={place.line},col={place.column}" if place.line else f"file={file}"
+
+
+def github_text(text):
+    return text.replace("%", "%25").replace("\r", "%0D").replace("\n", "%0A")

@@ -1,0 +1,44 @@
+# Changes the expressions in a task's or a play's words, wherever they stand; places stay.
+import re
+
+from .names import CONDITIONS
+from .nodes import Mapping, Scalar, Sequence, is_text
+
+TEMPLATE = re.compile(r"\{\{.*?\}\}", re.S)
+NO_TEMPLATES = ("name", "notify", "listen", "register")
+
+
+def rewrite_words(words, change, but=()):
+    """Gives each expression of the words to `change`, and puts what that answers in its place."""
+    for key, node in words.pairs.items():
+        if key in CONDITIONS:
+            words.pairs[key] = changed(node, change)
+        elif key == "assert" and isinstance(node, Mapping):
+            words.pairs[key] = changed_assert(node, change)
+        elif key not in NO_TEMPLATES and key not in but:
+            words.pairs[key] = changed_texts(node, change)
+
+
+def changed_assert(node, change):
+    pairs = {name: changed(part, change) if name == "that" else changed_texts(part, change)
+             for name, part in node.pairs.items()}
+    return Mapping(pairs, node.place, node.keys)
+
+
+def changed_texts(node, change):
+    """The node with each expression in its templates changed."""
+    return changed(node, lambda text: TEMPLATE.sub(lambda found: change(found[0]), text) if "{{" in text else text)
+
+
+def changed(node, change):
+    """The node with each of its texts changed; itself where none is."""
+    if isinstance(node, Mapping):
+        pairs = {key: changed(part, change) for key, part in node.pairs.items()}
+        is_same = all(pairs[key] is part for key, part in node.pairs.items())
+        return node if is_same else Mapping(pairs, node.place, node.keys)
+    if isinstance(node, Sequence):
+        items = [changed(item, change) for item in node.items]
+        is_same = all(item is before for item, before in zip(items, node.items))
+        return node if is_same else Sequence(items, node.place)
+    text = change(node.value) if is_text(node) else None
+    return Scalar(text, node.place, node.text, node.is_quoted) if is_text(node) and text != node.value else node

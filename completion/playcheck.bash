@@ -1,0 +1,90 @@
+# Completion of bash for playcheck and playcheck-ansible: `source completion/playcheck.bash`.
+
+_playcheck_words() {
+    mapfile -t COMPREPLY < <(compgen -W "$1" -- "$2")
+}
+
+_playcheck_files() {
+    mapfile -t COMPREPLY < <(compgen -f -- "$1")
+    compopt -o filenames 2>/dev/null
+}
+
+_playcheck_folders() {
+    mapfile -t COMPREPLY < <(compgen -d -- "$1")
+    compopt -o filenames 2>/dev/null
+}
+
+# Sets the word that is completed, the one before it, and the command; bash makes a word of `=` in `--format=json`.
+_playcheck_place() {
+    word=${COMP_WORDS[COMP_CWORD]}
+    before=${COMP_WORDS[COMP_CWORD - 1]}
+    command=${COMP_WORDS[1]}
+    if [ "$word" = = ]; then
+        word=
+    elif [ "$before" = = ]; then
+        before=${COMP_WORDS[COMP_CWORD - 2]}
+    fi
+}
+
+_playcheck() {
+    local word before command
+    _playcheck_place
+    if [ "$COMP_CWORD" = 1 ]; then
+        _playcheck_words "check run help --help --version" "$word"
+        return
+    fi
+    case $before in
+    -f | --forks)
+        COMPREPLY=()
+        return
+        ;;
+    --modules)
+        _playcheck_folders "$word"
+        return
+        ;;
+    esac
+    case $command:$word in
+    check:-*) _playcheck_words "-i --inventory -s --signatures -h --help" "$word" ;;
+    run:-*)
+        _playcheck_words "-i --inventory -s --signatures -f --forks --answers --modules -h --help" "$word"
+        ;;
+    help:*) _playcheck_words "check run help" "$word" ;;
+    *) _playcheck_files "$word" ;;
+    esac
+}
+
+_playcheck_ansible() {
+    local word before command
+    local inputs="-i --inventory -s --signatures -e --extra-vars --trust-facts --no-lookup --vars -h --help"
+    _playcheck_place
+    if [ "$COMP_CWORD" = 1 ]; then
+        _playcheck_words "check convert signatures explain -h --help" "$word"
+        return
+    fi
+    case $before in
+    --format)
+        _playcheck_words "text json sarif github gitlab junit" "$word"
+        return
+        ;;
+    --color)
+        _playcheck_words "auto always never" "$word"
+        return
+        ;;
+    -o | --output)
+        _playcheck_folders "$word"
+        return
+        ;;
+    esac
+    case $command:$word in
+    check:-*) _playcheck_words "$inputs --format --color --strict --all" "$word" ;;
+    convert:-*) _playcheck_words "$inputs -o --output" "$word" ;;
+    explain:*)
+        _playcheck_words "S01 S02 S03 S04 S05 I01 I02 I03 I04 I05 P01 P02 P03 P04 P05 P06 P07 P08 P09 V01 V02 V03 V04
+            V05 V06 V07 V08 V09 V10 V11 V12 V13 N00 A01 A02 A03 A-alias A-choice A-required" "$word"
+        ;;
+    *) _playcheck_files "$word" ;;
+    esac
+}
+
+complete -F _playcheck playcheck
+complete -F _playcheck_ansible playcheck-ansible

@@ -1,0 +1,110 @@
+# Tries the formats for pipelines that playcheck-ansible prints, against what their publishers want of each file.
+import json
+import tempfile
+import xml.etree.ElementTree as xml
+from pathlib import Path
+
+from ansible_tools import run_tool
+
+HOSTS = '{"all": {"hosts": ["h1", "h2"]}}'
+PLAY = "- hosts: all\n  gather_facts: false\n  tasks:\n"
+GOOD = PLAY + '    - debug: {msg: "a & b"}\n'
+# Two tasks with one fault, whose names hold what XML has to escape, or can't have, and a task that isn't judged.
+BAD = PLAY + '''    - name: "a \\x01\\x1b[31m <b> & \\"c\\" ]]> \\ufffe"
+      debug: {msg: "{{ prot }}"}
+    - name: "a \\x01\\x1b[31m <b> & \\"c\\" ]]> \\ufffe"
+      debug: {msg: "{{ prot }}"}
+    - name: "<unknown>"
+      apt: {name: nginx}
+'''
+NAME = 'a \ufffd\ufffd[31m <b> & "c" ]]> \ufffd'
+TITLE = "a variable that is perhaps undefined"
+DETAIL = "'prot' is set nowhere: not in this book, not in the inventory"
+UNKNOWN = "not judged: task '<unknown>': the module `apt` is neither built in nor declared"
+# https://docs.gitlab.com/ci/testing/code_quality/#code-quality-report-format
+SEVERITIES = ("info", "minor", "major", "critical", "blocker")
+
+
+def printed(kind, *words, files=None):
+    with tempfile.TemporaryDirectory() as folder:
+        for name, text in (files or {"good.yml": GOOD, "bad.yml": BAD}).items():
+            Path(folder, name).write_text(text, encoding="utf-8")
+        Path(folder, "hosts.json").write_text(HOSTS, encoding="utf-8")
+        names = sorted(files or ("bad.yml", "good.yml"))
+        done = run_tool(["check", "--format", kind, *words, *names, "-i", "hosts.json"], folder)
+        return done.stdout.encode(), done.returncode
+
+
+def wrong_gitlab():
+    """A list of issues, each with the members that GitLab wants; its fingerprints are told apart and last."""
+    data, status = printed("gitlab", "--all")
+    issues = json.loads(data)
+    if data.startswith(b"\xef\xbb\xbf") or status != 1 or len(issues) != 3:
+        yield f"gitlab: status {status}, {len(issues)} issues, wanted 1, 3"
+    for issue in issues:
+        lines = issue["location"]["lines"]["begin"]
+        texts = (issue["description"], issue["check_name"], issue["fingerprint"], issue["location"]["path"])
+        if not all(isinstance(text, str) and text for text in texts) or issue["severity"] not in SEVERITIES:
+            yield f"gitlab: {issue}"
+        if not isinstance(lines, int) or lines < 1 or issue["location"]["path"].startswith(("./", "/")):
+            yield f"gitlab: {issue}"
+    found = [(issue["check_name"], issue["severity"], issue["location"]["lines"]["begin"]) for issue in issues]
+    if found != [("V01", "critical", 5), ("V01", "critical", 7), ("not-judged", "info", 9)]:
+        yield f"gitlab: {found}"
+    marks = [issue["fingerprint"] for issue in issues]
+    if len(set(marks)) != 3:
+        yield f"gitlab: fingerprints {marks}"
+    moved = json.loads(printed("gitlab", "--all", files={"bad.yml": "# one line more\n" + BAD})[0])
+    if [issue["fingerprint"] for issue in moved] != marks or moved[0]["location"]["lines"]["begin"] != 6:
+        yield f"gitlab: moved {moved}"
+    if json.loads(printed("gitlab", files={"good.yml": GOOD})[0]) != []:
+        yield "gitlab: an issue of a good book"
+
+
+def wrong_junit():
+    """A suite for each book with a case for each finding, of which each letter can stand in XML 1.0."""
+    data, status = printed("junit", "--all")
+    if any(byte < 32 and byte not in b"\t\n\r" for byte in data) or status != 1:
+        yield f"junit: status {status}, {data!r}"
+    suites = xml.fromstring(data)
+    found = [[suite.get(name) for name in ("name", "tests", "failures", "errors", "skipped")] for suite in suites]
+    if suites.tag != "testsuites" or found != [["bad.yml", "3", "2", "0", "1"], ["good.yml", "1", "0", "0", "0"]]:
+        yield f"junit: {found}"
+    if [suites.get(name) for name in ("tests", "failures", "errors", "skipped")] != ["4", "2", "0", "1"]:
+        yield f"junit: {suites.attrib}"
+    text = f"V01 task '{NAME}', host h1: {TITLE}: {DETAIL}"
+    wanted = [(text, "bad.yml", line, "failure", "V01", text) for line in ("5", "7")]
+    wanted.append((UNKNOWN, "bad.yml", "9", "skipped", None, UNKNOWN))
+    cases = [(case.get("name"), case.get("classname"), case.get("line"), case[0].tag, case[0].get("type"),
+              case[0].get("message")) for case in suites[0].iter("testcase")]
+    if cases != wanted:
+        yield f"junit: {cases}, wanted {wanted}"
+    good = suites[1].find("testcase")
+    if good.get("name") != "accepted, 1 of 1 tasks judged, at most 0 module calls" or len(good):
+        yield f"junit: {good.attrib}"
+    said = [suite.find("system-out").text for suite in suites]
+    if said[0] != "bad.yml: refused, 2 findings, 2 of 3 tasks judged" or not said[1].startswith("good.yml: accepted"):
+        yield f"junit: {said}"
+
+
+def wrong_strict():
+    """With --strict what isn't judged fails."""
+    book = {"book.yml": PLAY + "    - apt: {name: nginx}\n"}
+    data, status = printed("junit", "--strict", files=book)
+    cases = [case[0].tag for case in xml.fromstring(data).iter("testcase")]
+    severities = [issue["severity"] for issue in json.loads(printed("gitlab", "--strict", files=book)[0])]
+    if (status, cases, severities) != (1, ["failure"], ["major"]):
+        yield f"strict: {status}, {cases}, {severities}"
+
+
+def wrong_sarif():
+    """The members that SARIF 2.1.0 requires: `version`, `runs`, of each a `tool` with a named `driver`."""
+    log = json.loads(printed("sarif", "--all")[0])
+    run = log["runs"][0]
+    rules = {rule["id"] for rule in run["tool"]["driver"]["rules"]}
+    if log["version"] != "2.1.0" or run["tool"]["driver"]["name"] != "playcheck" or len(run["results"]) != 3:
+        yield f"sarif: {log}"
+    for result in run["results"]:
+        region = result["locations"][0]["physicalLocation"]["region"]
+        if not result["message"]["text"] or result["ruleId"] not in rules or region["startLine"] < 1:
+            yield f"sarif: {result}"

@@ -1,0 +1,32 @@
+# The front end as the tests run it: with no program of ansible-core on the PATH but those that a test puts there.
+import os
+import shutil
+import subprocess
+import sys
+import tempfile
+from pathlib import Path
+
+TOP = Path(__file__).resolve().parent.parent
+TOOL = TOP / "playcheck-ansible"
+SECONDS = 30
+NEEDED = ("bash", "cat", "dirname", "env", "find", "readlink", "sh", "sleep")
+FOLDER = tempfile.TemporaryDirectory(prefix="playcheck-tools-")
+
+
+def make_tools():
+    """A folder with the few programs that the front end and the tests' own programs need."""
+    for name in NEEDED:
+        found = shutil.which(name)
+        if found and not os.path.exists(os.path.join(FOLDER.name, name)):
+            os.symlink(found, os.path.join(FOLDER.name, name))
+    python = Path(FOLDER.name, "python3")
+    python.write_text(f'#!/bin/sh\nexec "{sys.executable}" "$@"\n')
+    python.chmod(0o755)
+    return FOLDER.name
+
+
+def run_tool(words, folder, program_folder=None):
+    """Runs the front end in a folder; in a further one stand programs in the place of those of ansible-core."""
+    path = os.pathsep.join(str(one) for one in (program_folder, make_tools()) if one)
+    return subprocess.run([TOOL, *words], cwd=folder, capture_output=True, text=True, check=False, timeout=SECONDS,
+                          stdin=subprocess.DEVNULL, env={**os.environ, "PATH": path})

@@ -34,7 +34,7 @@ pub struct Ground<'s, O: Outlook> {
     /// The task's place in running order.
     pub place: u32,
     /// In how many `rescue` parts it stands.
-    pub depth: u32,
+    pub depth: usize,
     ghost over: { is_over space.now at ≡ true },
     ghost short: { any_too_long (in_scope vars.now) (in_scope vars.now) ≡ false },
 }

@@ -1,0 +1,2 @@
+-- The words of this crate that the contracts of others cite, from one place.
+pub use Rattle.pb_steps.specs.Outlines.{PlayPlan, outline, outline_view, plan_view, play_plan}

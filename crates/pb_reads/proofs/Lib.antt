@@ -1,0 +1,5 @@
+pub mod Behind
+pub mod Reached
+pub mod Whole
+pub mod NameSets
+pub mod Gathered

@@ -1,0 +1,5 @@
+pub mod Roots
+pub mod RootsView
+pub mod Round
+pub mod Reads
+pub mod Reached

@@ -1,0 +1,32 @@
+// The slots of names where values of `vars` are in scope.
+use crate::slots::Slots;
+use pb_syntax::SlotNames;
+use pb_vars::InScope;
+
+/// The slots of names as they are seen where those values of `vars` are in scope: a name of `vars`
+/// has none of the host's own.
+pub struct SlotsInScope<'s, 'p> {
+    /// The names that have slots.
+    pub slots: &'s Slots,
+    /// The values of `vars`.
+    pub scope: &'s InScope<'p>,
+}
+
+impl SlotNames for SlotsInScope<'_, '_> {
+    ghost use Rattle.pb_slots.specs.Slots.{slots_in_scope};
+    ghost use Rattle.pb_slots.specs.Words.{names_of_slots};
+    ghost use Rattle.pb_vars.specs.Words.{in_scope};
+
+    ghost slots = { λ s. slots_in_scope (names_of_slots s.slots.now) (in_scope s.scope.now) };
+
+    fn own(&self, name: &str) -> Option<u32> {
+        match self.scope.find(name) {
+            Some(_) => None,
+            None => self.slots.slot(name),
+        }
+    }
+
+    fn other(&self, name: &str) -> Option<u32> {
+        self.slots.slot(name)
+    }
+}

@@ -13,5 +13,5 @@ pub mod route;
 pub mod station;
 
 pub use gathering::gathering_task;
-pub use route::Route;
+pub use route::{Route, stations_of};
 pub use station::Station;

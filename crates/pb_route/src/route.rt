@@ -114,8 +114,12 @@ impl<'p> Route<'p> {
     }
 }
 
-// The tasks of the nodes, where they stand.
-fn stations_of<'p>(
+/// The tasks of the nodes of the play, where they stand.
+///
+/// # Errors
+///
+/// As of [`Route::of`].
+pub fn stations_of<'p>(
     alloc: Global,
     play: &'p Play,
     nodes: &[Node<'p>],

@@ -11,7 +11,7 @@ mod expressions;
 mod known;
 pub mod laws;
 mod names;
-mod notify;
+pub mod notify;
 pub mod others;
 mod parameters;
 mod pattern;
@@ -22,5 +22,6 @@ mod sites;
 mod steps;
 
 pub use broken::{Broken, Rule};
+pub use notify::is_named;
 pub use others::reads_others;
 pub use rules::first_broken;

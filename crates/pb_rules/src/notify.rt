@@ -47,7 +47,8 @@ fn names_some(handlers: &[Handler], text: &str) -> bool
     false
 }
 
-fn is_named(handler: &Handler, text: &str) -> bool
+/// Whether the text notifies the handler: it is its name or one of its topics.
+pub fn is_named(handler: &Handler, text: &str) -> bool
     ensures { result ≡ is_named text.now (names_of handler.now) }
 {
     has_name(handler, text) || has_topic(&handler.topics, text)

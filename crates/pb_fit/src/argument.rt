@@ -19,8 +19,7 @@ use pb_expr::{Known, Taught, Unfit, infer_kind};
 use pb_kind::Kind;
 use pb_kind::below::below;
 use pb_sig::Parameter;
-use pb_syntax::Expr;
-use pb_template::Entry;
+use pb_template::{Entry, value_named};
 use std::alloc::{AllocError, Global};
 
 // The first fault of the arguments of a call, each of which keeps its parameter's kind.
@@ -106,7 +105,7 @@ pub(crate) fn named_text_unfit<K: Known>(
         IfOk result (λ u. option_map fault_view u ≡ text_fault (scope_view b taught.now)
         (expanded_option b.trees (part_named name.now (entries_view arguments.now)))) }
 {
-    match argument_named(arguments, name) {
+    match value_named(arguments, name) {
         Some(text) => text_unfit(alloc, text, known, taught),
         None => Ok(None),
     }
@@ -124,20 +123,8 @@ pub(crate) fn named_value_unfit<K: Known>(
         IfOk result (λ u. option_map fault_view u ≡ value_fault (scope_view b taught.now)
         (expanded b.trees (argument_or (part_named name.now (entries_view arguments.now))))) }
 {
-    match argument_named(arguments, name) {
+    match value_named(arguments, name) {
         Some(value) => value_unfit(alloc, value, known, taught),
         None => Ok(None),
     }
-}
-
-fn argument_named<'a>(arguments: &'a [Entry], name: &str) -> Option<&'a Expr>
-    ensures { option_map (λ e. expr_view e.now) result
-        ≡ part_named name.now (entries_view arguments.now) }
-{
-    for argument in arguments {
-        if name == argument.name.as_str() {
-            return Some(&argument.value);
-        }
-    }
-    None
 }

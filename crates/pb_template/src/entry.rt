@@ -1,7 +1,9 @@
 // Records of values as names with expressions: arguments, and variables.
 ghost use Rattle.std.specs.Prelude.{◌≡◌, IfOk, Some, option_map, true};
 ghost use Rattle.pb_semantics.specs.Words.{Gives};
+ghost use Rattle.pb_language.specs.Expansion.{part_named};
 ghost use Rattle.pb_language.specs.Texts.{parts_of};
+ghost use Rattle.pb_syntax.specs.Words.{expr_view};
 ghost use Rattle.pb_value.specs.Words.{fields_view};
 ghost use Rattle.pb_template.specs.Entries.{are_ascending, but, entries_view, entry_names, is_that};
 ghost use Rattle.pb_template.specs.Faults.{refused};
@@ -45,6 +47,19 @@ pub fn entries_of(
         })?;
     }
     Ok(entries)
+}
+
+/// The expression of the first entry of that name.
+pub fn value_named<'e>(entries: &'e [Entry], name: &str) -> Option<&'e Expr>
+    ensures { option_map (λ e. expr_view e.now) result
+        ≡ part_named name.now (entries_view entries.now) }
+{
+    for entry in entries {
+        if name == entry.name.as_str() {
+            return Some(&entry.value);
+        }
+    }
+    None
 }
 
 // Whether it is that name, if there is one.

@@ -13,7 +13,7 @@ pub mod text;
 pub mod value;
 
 pub use condition::{are_conditions, are_short_conditions, conditions_in};
-pub use entry::{Entry, entries_of};
+pub use entry::{Entry, entries_of, value_named};
 pub use fault::TemplateFault;
 pub use limits::{LongText, are_values_within, is_list_within, is_text_within};
 pub use nesting::{Test, holds, some_field_holds};

@@ -1,5 +1,5 @@
 -- What stands round the steps of a part of a block.
-use Rattle.std.proofs.Common.{◌≡◌, ◌∙◌, ◌≤◌, ◌+◌, ℕ, List, [], ◌∷◌, ◌++◌, Bool, map, unwrap_or, Bor, vec_len, refl, ap, arith}
+use Rattle.std.proofs.Common.{◌≡◌, ◌∙◌, List, [], ◌∷◌, ◌++◌, Bool, map, unwrap_or, Bor, refl, ap}
 use Rattle.std.proofs.lemmas.List.{map-append}
 use Rattle.pb_language.specs.Expression.{Expressions, Parts, no_expressions}
 use Rattle.pb_language.specs.Book.{Registry}
@@ -8,7 +8,6 @@ use Rattle.pb_play.specs.Plays.{head_view}
 use Rattle.pb_play.specs.declared.play.BlockHead.{BlockHead}
 use Rattle.pb_syntax.specs.ExprView.{exprs_view}
 use Rattle.pb_template.specs.Entries.{entries_view}
-use Rattle.pb_flow.specs.Build.{IsInside}
 use Rattle.pb_flow.specs.Nodes.{around_view, conditions_after, scope_after}
 use Rattle.pb_flow.specs.declared.graph.Around.{Around}
 
@@ -27,7 +26,3 @@ around-inside ms vars a b h e i = at (map (λ x. x.now) b.blocks.items) b.ignore
   at : (bs : List BlockHead) (i : Bool) → bs ≡ map (λ x. x.now) a.blocks.items ++ h.now ∷ [] → i ≡ unwrap_or h.now.ignore_errors a.ignores
       → record { registry = ms; conditions = conditions_after no_expressions bs; scope = scope_after vars bs; ignores = i; rescued = b.rescued; depth = b.depth } ≡ record (inside (around_view ms vars a) (head_view h.now)) { rescued = b.rescued; depth = b.depth }
   at bs i e f = rw (e, f, conditions-push no_expressions (map (λ x. x.now) a.blocks.items) h.now, scope-push vars (map (λ x. x.now) a.blocks.items) h.now)
-
--- in one more block there is room for one more of a number that the blocks bound
-pub room-inside : (old same new : Around) (n : ℕ) → same ≡ old → n ≤ vec_len old.blocks → IsInside same new → n + 1 ≤ vec_len new.blocks
-room-inside old same new n e few deeper = omega (arith, ap (λ (a : Around). vec_len a.blocks) e, few, deeper.0)

@@ -9,7 +9,7 @@ use Rattle.pb_play.specs.declared.play.Block.{Block}
 use Rattle.pb_play.specs.declared.play.Step.{Step}
 use Rattle.pb_flow.specs.Build.{IsPut, block_alone, handlers_from, steps_row, tail_steps}
 use Rattle.pb_flow.specs.Nodes.{around_view}
-use Rattle.pb_flow.specs.declared.tail.Scene.{Scene}
+use Rattle.pb_flow.specs.declared.scene.Scene.{Scene}
 use Rattle.pb_flow.specs.declared.tail.Tail.{Tail}
 use Rattle.pb_flow.specs.declared.graph.Around.{Around}
 use Rattle.pb_machine.specs.Steps.{Target, holding, releasing, moving, saved_target}
@@ -29,6 +29,12 @@ pub same-put : (ms : Registry) (vars : Parts) (hs : ℕ → Handlers) (n : ℕ) 
     → IsPut ms vars (row_of hs n s p ss end) m ok failed old new at → IsPut ms vars (row_of hs n s' p' ss' end) m ok failed old new at
 same-put ms vars hs n s s' p p' ss ss' m ok failed old new at e f g h =
     subst (λ r. IsPut ms vars r m ok failed old new at) (ap (λ x. row_of hs n x p ss end) e ∙ ap (λ x. row_of hs n s' x ss end) f ∙ ap (λ x. row_of hs n s' p' x end) g) h
+
+-- the same stands round the steps, and as many failures are held there
+pub part-put : (ms : Registry) (vars : Parts) (scene : Scene) (a b : Around) (p : ℕ) (ss : Steps) (m k : ℕ) (ok failed : Target) (old new : Tail) (at : Target) → a ≡ b → m ≡ k
+    → IsPut ms vars (steps_row ms vars scene a p ss) m ok failed old new at → IsPut ms vars (steps_row ms vars scene b p ss) k ok failed old new at
+part-put ms vars scene a b p ss m k ok failed old new at e f h =
+    subst (λ (x : Around). IsPut ms vars (steps_row ms vars scene x p ss) k ok failed old new at) e (subst (λ i. IsPut ms vars (steps_row ms vars scene a p ss) i ok failed old new at) f h)
 
 module _ (ms : Registry) (vars : Parts) (scene : Scene) (around : Around) (b : Block Step) where
   pub block-put : (always rescue body : Around) (xs ys zs zs' : List Step) (m : ℕ) (ok failed : Target) (old one again two three new : Tail) (out last on fails entering saved at : Target)

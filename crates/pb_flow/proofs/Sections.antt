@@ -17,7 +17,7 @@ use Rattle.pb_flow.specs.Flow.{begins_at, end_node, row_links, tasks_of}
 use Rattle.pb_flow.specs.Nodes.{around_view, node_step, node_task, nodes_links}
 use Rattle.pb_flow.specs.declared.graph.Node.{Node}
 use Rattle.pb_flow.specs.Places.{section_places}
-use Rattle.pb_flow.specs.declared.tail.Scene.{Scene}
+use Rattle.pb_flow.specs.declared.scene.Scene.{Scene}
 use Rattle.pb_flow.specs.declared.tail.Tail.{Tail}
 use Rattle.pb_machine.specs.Joins.{joined}
 use Rattle.pb_machine.proofs.Joins.{step-tasks}
@@ -51,7 +51,7 @@ pub sections-put : (ms : Registry) (vars : Parts) (scene : Scene) (play : PlayDa
 sections-put ms vars scene play after old one two new x y at e f h i j =
     let hs = handlers_from ms vars scene in
     let n = length scene.handlers.now in
-    let s = around_view ms vars scene.around.value in
+    let s = around_view ms vars scene.part.around.value in
     let third : ℕ → Row = λ r. section_row hs n s play.forces r play.post_tasks (λ t. end) in
     let second : ℕ → Row = λ q. section_row hs n s play.forces q play.tasks third in
     let a = section_row hs n s play.forces new.place play.pre_tasks (λ t. end) in
@@ -63,13 +63,13 @@ sections-put ms vars scene play after old one two new x y at e f h i j =
 
 -- the gathering before the sections
 gathering-joined : (ms : Registry) (vars : Parts) (scene : Scene) (play : PlayData) (g : Option ℕ) → joined (gathering_row ms vars scene 0 g) (all_sections_row ms vars scene (gathering_steps g) play)
-    ≡ gathered_row (handlers_from ms vars scene) (length scene.handlers.now) (around_view ms vars scene.around.value) play g
+    ≡ gathered_row (handlers_from ms vars scene) (length scene.handlers.now) (around_view ms vars scene.part.around.value) play g
 gathering-joined ms vars scene play None = refl
 gathering-joined ms vars scene play (Some l) = refl
 
 -- that is the play's row
-own-row : (ms : Registry) (vars : Parts) (scene : Scene) (play : Play) → scene.handlers.now ≡ play.handlers.items → around_view ms vars scene.around.value ≡ play_surroundings ms (play_view play)
-    → gathered_row (handlers_from ms vars scene) (length scene.handlers.now) (around_view ms vars scene.around.value) (play_view play) play.gathering ≡ play_row ms (play_view play)
+own-row : (ms : Registry) (vars : Parts) (scene : Scene) (play : Play) → scene.handlers.now ≡ play.handlers.items → around_view ms vars scene.part.around.value ≡ play_surroundings ms (play_view play)
+    → gathered_row (handlers_from ms vars scene) (length scene.handlers.now) (around_view ms vars scene.part.around.value) (play_view play) play.gathering ≡ play_row ms (play_view play)
 own-row ms vars scene play e f =
     let s = play_surroundings ms (play_view play) in
     let n = length scene.handlers.now in
@@ -78,7 +78,7 @@ own-row ms vars scene play e f =
     ∙ ap (λ k. gathered_row (λ p. handlers_at s 0 p (map handler_view play.handlers.items)) k s (play_view play) play.gathering) (ap length e ∙ sym (length-map play.handlers.items handler_view))
 
 pub play-put : (ms : Registry) (vars : Parts) (scene : Scene) (play : Play) (to : Target) (old mid new : Tail) (x at : Target) → scene.handlers.now ≡ play.handlers.items
-    → around_view ms vars scene.around.value ≡ play_surroundings ms (play_view play) → new.place ≡ 0 → mid.place ≡ gathering_steps play.gathering
+    → around_view ms vars scene.part.around.value ≡ play_surroundings ms (play_view play) → new.place ≡ 0 → mid.place ≡ gathering_steps play.gathering
     → IsPut ms vars (all_sections_row ms vars scene mid.place (play_view play)) 0 to leaving old mid x
     → IsPut ms vars (gathering_row ms vars scene new.place play.gathering) 0 x leaving mid new at
     → IsPut ms vars (play_row ms (play_view play)) 0 to leaving old new at
@@ -102,6 +102,14 @@ node-links ms vars o (n ∷ ns) =
     let t = node_task ms vars n in
     ap₂ (λ ks ls. (ks ++ (link_to o t goes n.ok.to ++ link_to o t fails n.failed.to)) ++ ls) (passed-link n.handler o t n.ok.to) (node-links ms vars (suc o) ns)
 
+-- nodes that are the steps of a row
+module _ (ms : Registry) (vars : Parts) (row : Row) (ns : List Node) (steps : map (node_step ms vars) ns ≡ play_steps row) where
+  pub steps-tasks : map (node_task ms vars) ns ≡ tasks_of row
+  steps-tasks = node-tasks ms vars ns ∙ ap (map (λ (s : Step). s.task)) steps ∙ step-tasks row 0 1 (end_target row) leaving
+
+  pub steps-links : nodes_links ms vars 1 ns ≡ row_links row
+  steps-links = node-links ms vars 1 ns ∙ ap (steps_links 1) steps ∙ (steps_lead_along_links row).2
+
 module _ (ms : Registry) (vars : Parts) (play : PlayData) (old new : Tail) (at : Target) where
   front-one : old.front ≡ suc (steps_of play) → IsPut ms vars (play_row ms play) 0 (to_node old.front) leaving old new at → new.front ≡ 1
   front-one e p = omega (arith, p.room, play-nodes ms play)
@@ -121,13 +129,3 @@ module _ (ms : Registry) (vars : Parts) (play : PlayData) (old new : Tail) (at :
       let row = play_row ms play in
       p.steps ∙ ap (λ ns. row_steps row 0 new.front (to_node old.front) leaving ++ map (node_step ms vars) (reverse ns)) n
       ∙ append-nil (row_steps row 0 new.front (to_node old.front) leaving) ∙ ap (λ k. row_steps row 0 k (to_node old.front) leaving) (front-one e p) ∙ ap (λ k. row_steps row 0 1 (to_node k) leaving) (at-end e)
-
-  pub play-tasks : old.front ≡ suc (steps_of play) → old.nodes.items ≡ [] → IsPut ms vars (play_row ms play) 0 (to_node old.front) leaving old new at → map (node_task ms vars) (reverse new.nodes.items) ≡ tasks_of (play_row ms play)
-  play-tasks e n p =
-      node-tasks ms vars (reverse new.nodes.items) ∙ ap (map (λ (s : Step). s.task)) (play-has-steps e n p)
-      ∙ step-tasks (play_row ms play) 0 1 (end_target (play_row ms play)) leaving
-
-  pub play-links : old.front ≡ suc (steps_of play) → old.nodes.items ≡ [] → IsPut ms vars (play_row ms play) 0 (to_node old.front) leaving old new at
-      → nodes_links ms vars 1 (reverse new.nodes.items) ≡ row_links (play_row ms play)
-  play-links e n p =
-      node-links ms vars 1 (reverse new.nodes.items) ∙ ap (steps_links 1) (play-has-steps e n p) ∙ (steps_lead_along_links (play_row ms play)).2

@@ -14,12 +14,11 @@ use Rattle.pb_language.specs.Task.{Row, Task}
 use Rattle.pb_language.specs.Walk.{failing_from, going_from, walk}
 use Rattle.pb_language.specs.Wells.{WellExit, WellViews}
 use Rattle.pb_flow.specs.Ahead.{edge_to, flow_edges}
-use Rattle.pb_flow.specs.Flow.{begins_at, end_node, row_links}
-use Rattle.pb_flow.specs.Nodes.{node_task, nodes_links}
+use Rattle.pb_machine.specs.Steps.{play_steps}
+use Rattle.pb_flow.specs.Flow.{begins_at, end_node, row_links, tasks_of}
+use Rattle.pb_flow.specs.Nodes.{node_step, node_task, nodes_links}
 use Rattle.pb_flow.specs.declared.flow.Way.{Way}
 use Rattle.pb_flow.specs.declared.flow.Way.TheVariants.{Begins, Goes, Fails, Passes}
-use Rattle.pb_flow.specs.declared.graph.Node.{Node}
-use Rattle.pb_flow.specs.Nodes.{nodes_links}
 use Rattle.pb_flow.specs.declared.graph.Node.{Node}
 
 -- the edges of a play, the first from its start, and what becomes of an environment along each
@@ -49,6 +48,15 @@ SolutionIsWalk = (st : Setting) (row : Row) (e : Exit) (val : ℕ → Exit)
     × ValuesLe row (values_at val row 1) (values st row e)
     × ExitLe (walk st row e).well (val (end_node row))
     × ExitLe (val (end_node row)) (walk st row e).well
+
+-- nodes that are the steps of a row have its tasks, and lead along its links
+abbrev pub NodesHaveTasks : Type 0
+NodesHaveTasks = (ms : Registry) (vars : Parts) (row : Row) (ns : List Node)
+    → map (node_step ms vars) ns ≡ play_steps row → map (node_task ms vars) ns ≡ tasks_of row
+
+abbrev pub NodesHaveLinks : Type 0
+NodesHaveLinks = (ms : Registry) (vars : Parts) (row : Row) (ns : List Node)
+    → map (node_step ms vars) ns ≡ play_steps row → nodes_links ms vars 1 ns ≡ row_links row
 
 -- nodes that have the links of a row have the edges of its graph
 abbrev pub FlowsAreRows : Type 0

@@ -1,25 +1,25 @@
 // The nodes of a play, put one in front of the other, from its end to its start.
-ghost use Rattle.std.specs.Prelude.{◌*◌, ◌+◌, ◌<◌, ◌≡◌, ◌≤◌, ◌||◌, IfOk, None, OnOk};
-ghost use Rattle.std.specs.Prelude.{Option, Some, [], cond, false, length, suc, true, vec_len, ℕ};
+ghost use Rattle.std.specs.Prelude.{◌*◌, ◌+◌, ◌<◌, ◌≡◌, ◌≤◌, IfOk, None, OnOk, Option, Some, []};
+ghost use Rattle.std.specs.Prelude.{cond, false, length, true, ℕ};
 ghost use Rattle.pb_language.specs.Book.{Registry, no_steps};
 ghost use Rattle.pb_language.specs.Expression.{Parts};
-ghost use Rattle.pb_language.specs.Plays.{inside, is_given, places_in};
+ghost use Rattle.pb_language.specs.Plays.{is_given, places_in};
 ghost use Rattle.pb_language.specs.Sites.{gathering_steps, section_steps, sections_steps, steps_in};
 ghost use Rattle.pb_machine.specs.Steps.{Target as FlatTarget, leaving, saved_target};
-ghost use Rattle.pb_play.specs.Plays.{head_view, play_view, step_view, steps_view};
+ghost use Rattle.pb_play.specs.Plays.{play_view, step_view, steps_view};
 ghost use Rattle.pb_play.specs.Sound.{step_tasks, tasks_in};
-ghost use Rattle.pb_flow.specs.Build.{IsInside, IsPut, StaySound, all_sections_row, block_alone};
+ghost use Rattle.pb_flow.specs.Build.{IsPut, StaySound, all_sections_row, block_alone};
 ghost use Rattle.pb_flow.specs.Build.{block_tasks, ended_steps_row, flush_row, gathering_row};
 ghost use Rattle.pb_flow.specs.Build.{one_section_row, sections_tasks, steps_row};
-ghost use Rattle.pb_flow.specs.Nodes.{AreVisitedSound, around_view, target_view};
+ghost use Rattle.pb_flow.specs.Nodes.{AreVisitedSound, target_view};
 ghost use Rattle.pb_flow.specs.Places.{section_places, sections_places};
 
-use crate::graph::{Around, Move, Target, Visited};
+use crate::graph::{Move, Target, Visited};
+use crate::scene::{Part, Scene};
 use crate::steps::is_given;
-use crate::tail::{Scene, Tail};
-use pb_play::{Block, BlockHead, Play, Step};
+use crate::tail::Tail;
+use pb_play::{Block, Play, Step};
 use std::alloc::{AllocError, Global};
-use std::sync::Arc;
 
 // Puts the handlers of a flush in front, from the last to the first. Behind them a host goes on
 // there; where one fails it leaves.
@@ -42,19 +42,23 @@ fn put_flush<'p>(
     let mut next = after.copy()?;
     for index in (0..handlers.len()).rev() {
         let work = Visited::Task(&handlers[index].task);
-        next = tail.put(work, &scene.around, Some(index as u32), &next, &leaving)?;
+        next = tail.put(
+            work,
+            &scene.part.around,
+            Some(index as u32),
+            &next,
+            &leaving,
+        )?;
     }
     Ok(next)
 }
 
-// Puts steps in front, from the last to the first, and says where a host enters them. So many
-// failures are held by the `always` parts round them.
+// Puts steps in front, from the last to the first, and says where a host enters them.
 #[cycle(put)]
 fn put_steps<'p>(
     tail: &mut Tail<'p>,
     scene: &Scene<'p>,
-    around: &Arc<Around<'p>>,
-    held: usize,
+    part: &Part<'p>,
     steps: &'p [Step],
     ok: &Target,
     failed: &Target,
@@ -63,22 +67,20 @@ fn put_steps<'p>(
         ≤ tail.old.front }
     requires places { places_in (length scene.now.handlers.now) (steps_view steps.now)
         ≤ tail.old.place }
-    requires held { held ≤ vec_len around.now.value.blocks }
-    requires depth { around.now.value.depth ≤ vec_len around.now.value.blocks }
     ensures front { OnOk result (tail.new.front
         + steps_in (length scene.now.handlers.now) 0 (steps_view steps.now) ≡ tail.old.front) }
     ensures place { OnOk result (tail.new.place
         + places_in (length scene.now.handlers.now) (steps_view steps.now) ≡ tail.old.place) }
     ensures put { IfOk result (λ at. (ms : Registry) (vars : Parts)
-        → IsPut ms vars (steps_row ms vars scene.now around.now.value tail.new.place
-        (steps_view steps.now)) held
+        → IsPut ms vars (steps_row ms vars scene.now part.now.around.value tail.new.place
+        (steps_view steps.now)) part.now.held
         (target_view ok.now) (target_view failed.now) tail.old tail.new (target_view at)) }
     ensures sound { OnOk result
         (StaySound scene.now.handlers.now (tasks_in steps.now) tail.old tail.new) }
 {
     let mut next = ok.copy()?;
     for index in (0..steps.len()).rev() {
-        next = put_step(tail, scene, around, held, &steps[index], &next, failed)?;
+        next = put_step(tail, scene, part, &steps[index], &next, failed)?;
     }
     Ok(next)
 }
@@ -87,8 +89,7 @@ fn put_steps<'p>(
 fn put_step<'p>(
     tail: &mut Tail<'p>,
     scene: &Scene<'p>,
-    around: &Arc<Around<'p>>,
-    held: usize,
+    part: &Part<'p>,
     step: &'p Step,
     ok: &Target,
     failed: &Target,
@@ -97,8 +98,6 @@ fn put_step<'p>(
         ≤ tail.old.front }
     requires places { places_in (length scene.now.handlers.now) (step_view step.now no_steps)
         ≤ tail.old.place }
-    requires held { held ≤ vec_len around.now.value.blocks }
-    requires depth { around.now.value.depth ≤ vec_len around.now.value.blocks }
     ensures front { OnOk result (tail.new.front
         + steps_in (length scene.now.handlers.now) 0 (step_view step.now no_steps)
         ≡ tail.old.front) }
@@ -106,16 +105,16 @@ fn put_step<'p>(
         + places_in (length scene.now.handlers.now) (step_view step.now no_steps)
         ≡ tail.old.place) }
     ensures put { IfOk result (λ at. (ms : Registry) (vars : Parts)
-        → IsPut ms vars (steps_row ms vars scene.now around.now.value tail.new.place
-        (step_view step.now no_steps)) held
+        → IsPut ms vars (steps_row ms vars scene.now part.now.around.value tail.new.place
+        (step_view step.now no_steps)) part.now.held
         (target_view ok.now) (target_view failed.now) tail.old tail.new (target_view at)) }
     ensures sound { OnOk result
         (StaySound scene.now.handlers.now (step_tasks step.now) tail.old tail.new) }
 {
     match step {
-        Step::Task(task) => tail.put(Visited::Task(task), around, None, ok, failed),
+        Step::Task(task) => tail.put(Visited::Task(task), &part.around, None, ok, failed),
         Step::Flush(_) => put_flush(tail, scene, ok),
-        Step::Block(block) => put_block(tail, scene, around, held, block, ok, failed),
+        Step::Block(block) => put_block(tail, scene, part, block, ok, failed),
     }
 }
 
@@ -125,8 +124,7 @@ fn put_step<'p>(
 fn put_block<'p>(
     tail: &mut Tail<'p>,
     scene: &Scene<'p>,
-    around: &Arc<Around<'p>>,
-    held: usize,
+    part: &Part<'p>,
     block: &'p Block<Step>,
     ok: &Target,
     failed: &Target,
@@ -135,32 +133,30 @@ fn put_block<'p>(
         ≤ tail.old.front }
     requires places { places_in (length scene.now.handlers.now) (block_alone block.now)
         ≤ tail.old.place }
-    requires held { held ≤ vec_len around.now.value.blocks }
-    requires depth { around.now.value.depth ≤ vec_len around.now.value.blocks }
     ensures front { OnOk result (tail.new.front
         + steps_in (length scene.now.handlers.now) 0 (block_alone block.now) ≡ tail.old.front) }
     ensures place { OnOk result (tail.new.place
         + places_in (length scene.now.handlers.now) (block_alone block.now) ≡ tail.old.place) }
     ensures put { IfOk result (λ at. (ms : Registry) (vars : Parts)
-        → IsPut ms vars (steps_row ms vars scene.now around.now.value tail.new.place
-        (block_alone block.now)) held
+        → IsPut ms vars (steps_row ms vars scene.now part.now.around.value tail.new.place
+        (block_alone block.now)) part.now.held
         (target_view ok.now) (target_view failed.now) tail.old tail.new (target_view at)) }
     ensures sound { OnOk result
         (StaySound scene.now.handlers.now (block_tasks block.now) tail.old tail.new) }
 {
-    let always = around_always(scene.alloc, around, block)?;
-    let rescue = around_rescue(scene.alloc, around, block)?;
-    let body = around_body(scene.alloc, around, block)?;
-    let deeper = held + 1;
+    let hurt = part.always(block)?;
+    let always = hurt.released()?;
+    let rescue = part.rescue(block)?;
+    let body = part.body(block)?;
     let place = tail.place;
-    let out = failed.after(Move::Releasing(held))?;
-    let last = put_steps(tail, scene, &always, deeper, &block.always, &out, failed)?;
-    let fails = last.after(Move::Holding(held))?;
+    let out = failed.after(Move::Releasing(part.held))?;
+    let last = put_steps(tail, scene, &hurt, &block.always, &out, failed)?;
+    let fails = last.after(Move::Holding(part.held))?;
     tail.place = place;
-    let on = put_steps(tail, scene, &always, held, &block.always, ok, failed)?;
-    let inside = put_steps(tail, scene, &rescue, held, &block.rescue, &on, &fails)?;
-    let saved = failure_of(block, around.depth, &inside, &fails)?;
-    put_steps(tail, scene, &body, held, &block.body, &on, &saved)
+    let on = put_steps(tail, scene, &always, &block.always, ok, failed)?;
+    let inside = put_steps(tail, scene, &rescue, &block.rescue, &on, &fails)?;
+    let saved = failure_of(block, part.around.depth, &inside, &fails)?;
+    put_steps(tail, scene, &body, &block.body, &on, &saved)
 }
 
 // Where a failure of the body leads: into the `rescue`, if there is one.
@@ -181,86 +177,6 @@ fn failure_of(
     }
 }
 
-fn around_body<'p>(
-    alloc: Global,
-    around: &Around<'p>,
-    block: &'p Block<Step>,
-) -> Result<Arc<Around<'p>>, AllocError>
-    requires { around.now.depth ≤ vec_len around.now.blocks }
-    ensures surroundings { IfOk result (λ a. (ms : Registry) (vars : Parts)
-        → around_view ms vars a.value
-        ≡ record (inside (around_view ms vars around.now) (head_view block.now.head))
-        { rescued = around.now.rescued || is_given (steps_view block.now.rescue.items) }) }
-    ensures inner { IfOk result (λ a. IsInside around.now a.value) }
-{
-    let rescued = is_rescued(around, block);
-    around_part(alloc, around, &block.head, rescued, around.depth)
-}
-
-fn is_rescued(around: &Around, block: &Block<Step>) -> bool
-    ensures { result
-        ≡ around.now.rescued || is_given (steps_view block.now.rescue.items) }
-{
-    around.rescued || is_given(&block.rescue)
-}
-
-fn around_rescue<'p>(
-    alloc: Global,
-    around: &Around<'p>,
-    block: &'p Block<Step>,
-) -> Result<Arc<Around<'p>>, AllocError>
-    requires { around.now.depth ≤ vec_len around.now.blocks }
-    ensures surroundings { IfOk result (λ a. (ms : Registry) (vars : Parts)
-        → around_view ms vars a.value
-        ≡ record (inside (around_view ms vars around.now) (head_view block.now.head))
-        { depth = suc around.now.depth }) }
-    ensures inner { IfOk result (λ a. IsInside around.now a.value) }
-{
-    let depth = around.depth + 1;
-    around_part(alloc, around, &block.head, around.rescued, depth)
-}
-
-fn around_always<'p>(
-    alloc: Global,
-    around: &Around<'p>,
-    block: &'p Block<Step>,
-) -> Result<Arc<Around<'p>>, AllocError>
-    requires { around.now.depth ≤ vec_len around.now.blocks }
-    ensures surroundings { IfOk result (λ a. (ms : Registry) (vars : Parts)
-        → around_view ms vars a.value
-        ≡ inside (around_view ms vars around.now) (head_view block.now.head)) }
-    ensures inner { IfOk result (λ a. IsInside around.now a.value) }
-{
-    around_part(alloc, around, &block.head, around.rescued, around.depth)
-}
-
-// What stands round the steps in a part of a block.
-fn around_part<'p>(
-    alloc: Global,
-    around: &Around<'p>,
-    head: &'p BlockHead,
-    rescued: bool,
-    depth: usize,
-) -> Result<Arc<Around<'p>>, AllocError>
-    requires { depth ≤ suc (vec_len around.now.blocks) }
-    ensures surroundings { IfOk result (λ a. (ms : Registry) (vars : Parts)
-        → around_view ms vars a.value
-        ≡ record (inside (around_view ms vars around.now) (head_view head.now))
-        { rescued = rescued; depth = depth }) }
-    ensures inner { IfOk result (λ a. IsInside around.now a.value) }
-{
-    let mut blocks = Vec::new(alloc);
-    blocks.extend_from_slice(&around.blocks)?;
-    blocks.push(head)?;
-    let part = Around {
-        blocks,
-        ignores: head.ignore_errors.unwrap_or(around.ignores),
-        rescued,
-        depth,
-    };
-    Ok(Arc::new(alloc, part)?)
-}
-
 // Puts a section in front, with the flush at its end; where it is empty there is none.
 fn put_section<'p>(
     tail: &mut Tail<'p>,
@@ -273,7 +189,6 @@ fn put_section<'p>(
         (steps_view steps.now) ≤ tail.old.front }
     requires places { section_places (length scene.now.handlers.now) (steps_view steps.now)
         ≤ tail.old.place }
-    requires depth { scene.now.around.value.depth ≡ 0 }
     ensures front { OnOk result (tail.new.front
         + section_steps (length scene.now.handlers.now) (cond forces 2 1) (steps_view steps.now)
         ≡ tail.old.front) }
@@ -308,7 +223,6 @@ fn put_ended<'p>(
         + length scene.now.handlers.now ≤ tail.old.front }
     requires places { places_in (length scene.now.handlers.now) (steps_view steps.now)
         + length scene.now.handlers.now ≤ tail.old.place }
-    requires depth { scene.now.around.value.depth ≡ 0 }
     ensures front { OnOk result (tail.new.front
         + (steps_in (length scene.now.handlers.now) 0 (steps_view steps.now)
         + length scene.now.handlers.now) ≡ tail.old.front) }
@@ -324,7 +238,7 @@ fn put_ended<'p>(
 {
     let leaving = Target::leaving(scene.alloc);
     let flush = put_flush(tail, scene, after)?;
-    put_steps(tail, scene, &scene.around, 0, steps, &flush, &leaving)
+    put_steps(tail, scene, &scene.part, steps, &flush, &leaving)
 }
 
 // Puts steps in front of a flush that is forced: it stands there as it runs after a failure, and at
@@ -339,7 +253,6 @@ fn put_forced<'p>(
         + 2 * length scene.now.handlers.now ≤ tail.old.front }
     requires places { places_in (length scene.now.handlers.now) (steps_view steps.now)
         + length scene.now.handlers.now ≤ tail.old.place }
-    requires depth { scene.now.around.value.depth ≡ 0 }
     ensures front { OnOk result (tail.new.front
         + (steps_in (length scene.now.handlers.now) 0 (steps_view steps.now)
         + 2 * length scene.now.handlers.now) ≡ tail.old.front) }
@@ -358,7 +271,7 @@ fn put_forced<'p>(
     let failed = put_flush(tail, scene, &leaving)?;
     tail.place = behind;
     let ok = put_flush(tail, scene, after)?;
-    put_steps(tail, scene, &scene.around, 0, steps, &ok, &failed)
+    put_steps(tail, scene, &scene.part, steps, &ok, &failed)
 }
 
 // Puts the sections in front, the last one first.
@@ -372,7 +285,6 @@ pub(crate) fn put_sections<'p>(
         (cond play.now.force_handlers 2 1) (play_view play.now) ≤ tail.old.front }
     requires places { sections_places (length scene.now.handlers.now) (play_view play.now)
         ≤ tail.old.place }
-    requires depth { scene.now.around.value.depth ≡ 0 }
     ensures front { OnOk result (tail.new.front
         + sections_steps (length scene.now.handlers.now) (cond play.now.force_handlers 2 1)
         (play_view play.now) ≡ tail.old.front) }
@@ -414,7 +326,7 @@ pub(crate) fn put_gathering<'p>(
     match gathering {
         Some(line) => tail.put(
             Visited::Gathering(line),
-            &scene.around,
+            &scene.part.around,
             None,
             after,
             &leaving,

@@ -10,13 +10,14 @@ ghost use Rattle.pb_play.specs.Sound.{AreSound, play_tasks};
 ghost use Rattle.pb_template.specs.Entries.{entries_view};
 ghost use Rattle.pb_flow.specs.Ahead.{all_lead_on};
 ghost use Rattle.pb_flow.specs.Exits.{exits_at, line_at, node_at, place_at};
-ghost use Rattle.pb_flow.specs.Flow.{begins_at, row_links, tasks_of};
-ghost use Rattle.pb_flow.specs.Nodes.{AreVisitedSound, move_view, node_step, node_task};
-ghost use Rattle.pb_flow.specs.Nodes.{nodes_links, target_view, visited_view};
+ghost use Rattle.pb_flow.specs.Flow.{begins_at};
+ghost use Rattle.pb_flow.specs.Nodes.{AreVisitedSound, move_view, node_step, target_view};
+ghost use Rattle.pb_flow.specs.Nodes.{visited_view};
 
 use crate::build::{put_gathering, put_sections};
+use crate::scene::Scene;
 use crate::steps::count_of;
-use crate::tail::{Scene, Tail};
+use crate::tail::Tail;
 use pb_play::{BlockHead, Play};
 use pb_task::Task;
 use std::alloc::{AllocError, Global};
@@ -109,12 +110,6 @@ impl<'p> Graph<'p> {
         requires few { steps_of (play_view play.now) ≤ most_play_steps }
         ensures begin { IfOk result (λ g. (ms : Registry)
             → g.begin ≡ begins_at (play_row ms (play_view play.now))) }
-        ensures tasks { IfOk result (λ g. (ms : Registry)
-            → map (node_task ms (entries_view play.now.vars.items)) g.tasks.items
-            ≡ tasks_of (play_row ms (play_view play.now))) }
-        ensures links { IfOk result (λ g. (ms : Registry)
-            → nodes_links ms (entries_view play.now.vars.items) 1 g.tasks.items
-            ≡ row_links (play_row ms (play_view play.now))) }
         ensures steps { IfOk result (λ g. (ms : Registry)
             → map (node_step ms (entries_view play.now.vars.items)) g.tasks.items
             ≡ play_steps (play_row ms (play_view play.now))) }
@@ -189,12 +184,6 @@ fn nodes_of<'p>(alloc: Global, play: &'p Play) -> Result<(Option<u32>, Vec<Node<
     requires few { steps_of (play_view play.now) ≤ most_play_steps }
     ensures begin { IfOk result (λ g. (ms : Registry)
         → g.0 ≡ begins_at (play_row ms (play_view play.now))) }
-    ensures tasks { IfOk result (λ g. (ms : Registry)
-        → map (node_task ms (entries_view play.now.vars.items)) g.1.items
-        ≡ tasks_of (play_row ms (play_view play.now))) }
-    ensures links { IfOk result (λ g. (ms : Registry)
-        → nodes_links ms (entries_view play.now.vars.items) 1 g.1.items
-        ≡ row_links (play_row ms (play_view play.now))) }
     ensures steps { IfOk result (λ g. (ms : Registry)
         → map (node_step ms (entries_view play.now.vars.items)) g.1.items
         ≡ play_steps (play_row ms (play_view play.now))) }

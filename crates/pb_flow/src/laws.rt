@@ -7,6 +7,7 @@ ghost use Rattle.pb_language.specs.Sites.{steps_of};
 ghost use Rattle.pb_language.specs.Task.{Row};
 ghost use Rattle.pb_flow.specs.Flow.{AreRising, end_node, row_links, tasks_of};
 ghost use Rattle.pb_flow.specs.Solved.{FlowsAreRows, FlowsCarryRows, SolutionIsWalk};
+ghost use Rattle.pb_flow.specs.Solved.{NodesHaveLinks, NodesHaveTasks};
 
 /// A play has as many nodes, without its start and its end, as the rule on steps counts.
 pub fn steps_are_nodes()
@@ -16,6 +17,12 @@ pub fn steps_are_nodes()
 /// Each node has a task.
 pub fn nodes_have_tasks()
     ensures { (row : Row) → length (tasks_of row) ≡ size row }
+{}
+
+/// Nodes that are the steps of a play have its tasks, and lead along its edges.
+pub fn steps_have_tasks_and_links()
+    ensures tasks { NodesHaveTasks }
+    ensures links { NodesHaveLinks }
 {}
 
 /// Edges lead from a node to a higher one, and they stand in the order of their sources.

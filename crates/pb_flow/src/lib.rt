@@ -12,6 +12,7 @@ mod build;
 pub mod flow;
 pub mod graph;
 pub mod laws;
+mod scene;
 pub mod steps;
 mod tail;
 

@@ -1,29 +1,16 @@
-// The last nodes of a play, and what is the same in the whole play as nodes are put before them.
+// The last nodes of a play, before which more are put.
 ghost use Rattle.std.specs.Prelude.{◌<◌, ◌≡◌, ◌≤◌, ◌∷◌, IfOk, OnOk, Option, [], reverse, suc, ℕ};
 ghost use Rattle.pb_semantics.specs.Limits.{most_play_steps};
 ghost use Rattle.pb_language.specs.Book.{Registry};
 ghost use Rattle.pb_language.specs.Expression.{Parts};
-ghost use Rattle.pb_language.specs.Plays.{play_surroundings};
 ghost use Rattle.pb_machine.specs.Steps.{to_node};
-ghost use Rattle.pb_template.specs.Entries.{entries_view};
-ghost use Rattle.pb_play.specs.Plays.{play_view};
 ghost use Rattle.pb_flow.specs.Build.{tail_steps, task_of};
-ghost use Rattle.pb_flow.specs.Nodes.{AreVisitedSound, IsVisitedSound, around_view, target_view};
+ghost use Rattle.pb_flow.specs.Nodes.{AreVisitedSound, IsVisitedSound, target_view};
 
 use crate::graph::{Around, Node, Target, Visited};
 use crate::steps::Count;
-use pb_play::{Handler, Play};
 use std::alloc::{AllocError, Global};
 use std::sync::Arc;
-
-// What is the same in the whole play.
-#[derive(Drop)]
-pub(crate) struct Scene<'p> {
-    pub(crate) alloc: Global,
-    pub(crate) handlers: &'p [Handler],
-    // What stands round its sections and its handlers.
-    pub(crate) around: Arc<Around<'p>>,
-}
 
 // The last nodes of a play, in front of which more are put.
 #[derive(Drop)]
@@ -34,28 +21,6 @@ pub(crate) struct Tail<'p> {
     pub(crate) front: u32,
     // How many places there are before it.
     pub(crate) place: u32,
-}
-
-impl<'p> Scene<'p> {
-    pub(crate) fn of(alloc: Global, play: &'p Play) -> Result<Scene<'p>, AllocError>
-        ensures handlers { IfOk result (λ s. s.handlers.now ≡ play.now.handlers.items) }
-        ensures around { IfOk result (λ s. (ms : Registry)
-            → around_view ms (entries_view play.now.vars.items) s.around.value
-            ≡ play_surroundings ms (play_view play.now)) }
-        ensures depth { IfOk result (λ s. s.around.value.depth ≡ 0) }
-    {
-        let around = Around {
-            blocks: Vec::new(alloc),
-            ignores: false,
-            rescued: false,
-            depth: 0,
-        };
-        Ok(Scene {
-            alloc,
-            handlers: &play.handlers,
-            around: Arc::new(alloc, around)?,
-        })
-    }
 }
 
 impl<'p> Tail<'p> {

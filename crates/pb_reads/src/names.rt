@@ -17,6 +17,7 @@ use crate::roots::put_roots;
 use pb_syntax::{Expr, Root};
 use pb_template::Entry;
 use pb_vars::InScope;
+use pb_vars::laws::all_are_in_order;
 use std::alloc::{AllocError, Global};
 use std::collections::BTreeSet;
 
@@ -37,6 +38,7 @@ pub fn names_read<'p>(
         → (n : Name) → IsRead (in_scope scope.now) (roots_view roots.now) n
         → is_among n (names_in ns) ≡ true) }
 {
+    all_are_in_order();
     let order = scope.in_order(alloc)?;
     let all = reached_roots(alloc, scope, order.as_slice(), roots)?;
     names_told(alloc, scope, all.as_slice())

@@ -13,7 +13,9 @@ ghost use Rattle.pb_route.specs.Words.{IsStation, station_task};
 ghost use Rattle.pb_route.specs.Routes.{ArePaths, ArePathsOf, Gathers, IsDone};
 
 use crate::station::Station;
-use pb_flow::laws::{edges_are_those_of_the_row, edges_carry_what_the_row_does};
+use pb_flow::laws::{
+    edges_are_those_of_the_row, edges_carry_what_the_row_does, steps_have_tasks_and_links,
+};
 use pb_flow::{Graph, Node, Visited, Way};
 use pb_judgement::SharedResults;
 use pb_lattice::FlowGraph;
@@ -78,6 +80,7 @@ impl<'p> Route<'p> {
             → Gathers ms play.now.gathering (option_map (λ t. t.now) gathering.entry)
             → ArePathsOf (play_row ms (play_view play.now)) r) }
     {
+        steps_have_tasks_and_links();
         edges_are_those_of_the_row();
         edges_carry_what_the_row_does();
         let graph = Graph::of(alloc, play)?;

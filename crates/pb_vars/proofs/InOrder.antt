@@ -7,6 +7,7 @@ use Rattle.pb_semantics.proofs.Names.{same_name}
 use Rattle.pb_language.specs.Expression.{Name, Expression, Parts, no_parts, part}
 use Rattle.pb_language.specs.Expansion.{expanded, part_named, trees, chain_length}
 use Rattle.pb_syntax.specs.Aliases.{Trees, no_trees, with_tree, trees_after, trees_in, unknown_in, IsInOrder}
+use Rattle.pb_vars.specs.Order.{StandBehind}
 use Rattle.pb_vars.proofs.Whole.{same-expanded, trees-whole}
 
 -- the same names under a tree's roots make the same whole tree
@@ -44,6 +45,21 @@ in-order T scope whole seen f known (part m e ps) h n =
     let tree : Some (expanded f e) ≡ T m = ap Some (same-expanded f T (unknown_in scope seen) 0 known e h.1) ∙ sym (whole m ∙ ap (option_map (expanded T)) h.0) in
     in-order T scope whole (m ∷ seen) (with_tree f m (expanded f e))
     (λ p l. one-known f T scope seen m p (expanded f e) (bytes_eq p m) refl tree (known p) l) ps h.2 n
+
+-- names that stand behind those that they read are in order where each name of the scope is there
+one-there : (b a : Bool) (e : Expression) (t : Option Expression) → a || is_some (cond b (Some e) t) ≡ true → (b || a) || is_some t ≡ true
+one-there true a e t h = refl
+one-there false a e t h = h
+
+none-left : (a : Bool) → a || false ≡ true → a ≡ true
+none-left true h = refl
+none-left false h = h
+
+pub all-in-order : (scope : Parts) (seen : List Name) (ps : Parts) → StandBehind scope seen ps
+    → ((n : Name) → is_some (part_named n scope) ≡ true → is_among n seen || is_some (part_named n ps) ≡ true) → IsInOrder scope seen ps
+all-in-order scope seen no_parts h all = λ n i. none-left (is_among n seen) (all n i)
+all-in-order scope seen (part m e ps) h all =
+    (h.0, h.1, all-in-order scope (m ∷ seen) ps h.2 (λ n i. one-there (bytes_eq n m) (is_among n seen) e (part_named n ps) (all n i)))
 
 -- the trees of names in an order are those of the definitions
 pub trees-in-order : (scope ps : Parts) → ((n : Name) → chain_length 9 scope n ≤ 8) → IsInOrder scope [] ps → (n : Name) → trees_in ps n ≡ trees scope n

@@ -14,7 +14,7 @@ abbrev pub invariant-put_steps-loop-index : goal.invariant-put_steps-loop-index
 invariant-put_steps-loop-index l = record {
   front : l.tail.front + steps_in (length l.scene.handlers.now) 0 (steps_view (drop l.index l.steps)) ≡ l.initial.tail.front;
   place : l.tail.place + places_in (length l.scene.handlers.now) (steps_view (drop l.index l.steps)) ≡ l.initial.tail.place;
-  put : (ms : Registry) (vars : Parts) → IsPut ms vars (steps_row ms vars l.scene l.around.value l.tail.place (steps_view (drop l.index l.steps))) l.held (target_view l.ok) (target_view l.failed) l.initial.tail l.tail (target_view l.next);
+  put : (ms : Registry) (vars : Parts) → IsPut ms vars (steps_row ms vars l.scene l.part.around.value l.tail.place (steps_view (drop l.index l.steps))) l.part.held (target_view l.ok) (target_view l.failed) l.initial.tail l.tail (target_view l.next);
   sound : StaySound l.scene.handlers.now (tasks_in (drop l.index l.steps)) l.initial.tail l.tail;
 }
 

@@ -21,13 +21,14 @@ returns-clause-put c =
     let mid = c.put_flush.new.tail in
     let new = c.put_steps.new.tail in
     both-ok c.put_steps.result _ _ _ c.put_steps.ensures.put c.put_steps.ensures.place (λ at p e. λ ms vars.
-    let s = around_view ms vars scene.around.value in
+    let s = around_view ms vars scene.part.around.value in
     let hs = handlers_from ms vars scene in
     let at_flush : mid.place ≡ places_in n ss + new.place = omega arith in
     subst (λ r. IsPut ms vars r 0 (target_view c.args.after.now) leaving old new (target_view at)) (sym (row-joined hs n s new.place ss (flush (hs (places_in n ss + new.place)) end)))
     (put-joined ms vars (row_of hs n s new.place ss end) (flush (hs (places_in n ss + new.place)) end) 0 (target_view c.args.after.now) leaving old mid new (target_view c.in_ok-flush.flush) (target_view at)
     (subst (λ k. IsPut ms vars (flush (hs k) end) 0 (target_view c.args.after.now) leaving old mid (target_view c.in_ok-flush.flush)) at_flush (c.in_ok-flush.ensures.put ms vars 0 leaving))
-    (subst (λ t. IsPut ms vars (row_of hs n s new.place ss end) 0 (target_view c.in_ok-flush.flush) t mid new (target_view at)) c.leaving-leaving.ensures (p ms vars))))
+    (subst (λ t. IsPut ms vars (row_of hs n s new.place ss end) 0 (target_view c.in_ok-flush.flush) t mid new (target_view at)) c.leaving-leaving.ensures
+    (subst (λ k. IsPut ms vars (row_of hs n s new.place ss end) k (target_view c.in_ok-flush.flush) (target_view c.leaving-leaving.result) mid new (target_view at)) scene.outermost (p ms vars)))))
 
 pub returns-clause-sound : goal.returns-clause-sound
 returns-clause-sound c =

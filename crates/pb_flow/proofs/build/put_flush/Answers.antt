@@ -44,7 +44,7 @@ loop-index-preserved c =
       place = omega (arith, e.place);
       sound = stay-handler hs i l.index h c.args.tail.now l.tail c.put.new.self one lt c.index-handlers-index.is l.invariant.sound (λ ms line x. e.sound ms line (subst (λ (g : Handler). IsSound ms g.task) c.index-handlers-index.is x));
       put = λ ms vars m hurt.
-          let a = around_view ms vars c.args.scene.now.around.value in
+          let a = around_view ms vars c.args.scene.now.part.around.value in
           let rest = handlers_at a l.index l.tail.place (map handler_view (drop l.index hs)) in
           let all : handlers_at a i c.put.new.self.place (map handler_view (drop i hs)) ≡ handler i (task_at a c.put.new.self.place (handler_view h).work) rest =
           ap (λ xs. handlers_at a i c.put.new.self.place (map handler_view xs)) (drop-at hs i h lt c.index-handlers-index.is)
@@ -59,7 +59,7 @@ loop-index-preserved c =
 pub returns-clause-put : goal.returns-clause-put
 returns-clause-put c = λ ms vars m hurt.
     let e : c.loop-index.index ≡ 0 = omega arith in
-    subst (λ i. IsPut ms vars (flush (handlers_at (around_view ms vars c.args.scene.now.around.value) i c.loop-index.tail.place (map handler_view (drop i c.args.scene.now.handlers.now))) end) m (target_view c.args.after.now) hurt c.args.tail.now c.loop-index.tail (target_view c.loop-index.next)) e
+    subst (λ i. IsPut ms vars (flush (handlers_at (around_view ms vars c.args.scene.now.part.around.value) i c.loop-index.tail.place (map handler_view (drop i c.args.scene.now.handlers.now))) end) m (target_view c.args.after.now) hurt c.args.tail.now c.loop-index.tail (target_view c.loop-index.next)) e
     (c.loop-index.invariant.put ms vars m hurt)
 
 pub returns-clause-sound : goal.returns-clause-sound

@@ -13,7 +13,7 @@ abbrev pub invariant-loop-index : goal.invariant-loop-index
 invariant-loop-index l = record {
   front : l.tail.front + length l.handlers ≡ l.initial.tail.front + l.index;
   place : l.tail.place + length l.handlers ≡ l.initial.tail.place + l.index;
-  put : (ms : Registry) (vars : Parts) (m : ℕ) (hurt : Target) → IsPut ms vars (flush (handlers_at (around_view ms vars l.scene.around.value) l.index l.tail.place (map handler_view (drop l.index l.handlers))) end) m (target_view l.fn.after) hurt
+  put : (ms : Registry) (vars : Parts) (m : ℕ) (hurt : Target) → IsPut ms vars (flush (handlers_at (around_view ms vars l.scene.part.around.value) l.index l.tail.place (map handler_view (drop l.index l.handlers))) end) m (target_view l.fn.after) hurt
       l.initial.tail l.tail (target_view l.next);
   sound : StaySound (drop l.index l.handlers) [] l.initial.tail l.tail;
 }

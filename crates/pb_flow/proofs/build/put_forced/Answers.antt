@@ -23,7 +23,7 @@ returns-clause-put c =
     let two = c.put_flush-2.new.tail in
     let new = c.put_steps.new.tail in
     both-ok c.put_steps.result _ _ _ c.put_steps.ensures.put c.put_steps.ensures.place (λ at p e. λ ms vars.
-    let s = around_view ms vars scene.around.value in
+    let s = around_view ms vars scene.part.around.value in
     let hs = handlers_from ms vars scene in
     let at_first : one.place ≡ places_in n ss + new.place = omega (arith, c.in_ok-failed.ensures.place, c.in_ok-ok.ensures.place) in
     let at_second : two.place ≡ places_in n ss + new.place = omega arith in
@@ -31,7 +31,7 @@ returns-clause-put c =
     (subst (λ k. IsPut ms vars (flush (hs k) end) 0 leaving leaving old one (target_view c.in_ok-failed.failed)) at_first
     (subst (λ t. IsPut ms vars (flush (hs one.place) end) 0 t leaving old one (target_view c.in_ok-failed.failed)) c.leaving-leaving.ensures (c.in_ok-failed.ensures.put ms vars 0 leaving)))
     (subst (λ k. IsPut ms vars (flush (hs k) end) 0 (target_view c.args.after.now) leaving again two (target_view c.in_ok-ok.ok)) at_second (c.in_ok-ok.ensures.put ms vars 0 leaving))
-    (p ms vars))
+    (subst (λ k. IsPut ms vars (row_of hs n s new.place ss end) k (target_view c.in_ok-ok.ok) (target_view c.in_ok-failed.failed) two new (target_view at)) scene.outermost (p ms vars)))
 
 pub returns-clause-sound : goal.returns-clause-sound
 returns-clause-sound c =

@@ -8,10 +8,10 @@ use Rattle.pb_template.specs.Entries.{entries_view}
 use Rattle.pb_language.specs.Book.{Registry}
 use Rattle.pb_language.specs.Plays.{play_row}
 use Rattle.pb_flow.specs.Build.{IsPut, all_sections_row}
-use Rattle.pb_flow.specs.Nodes.{AreVisitedSound, node_step, node_task, nodes_links, target_view}
+use Rattle.pb_flow.specs.Nodes.{AreVisitedSound, node_step, target_view}
 use Rattle.pb_machine.specs.Steps.{leaving, to_node}
 use Rattle.pb_flow.specs.Places.{play_places, sections_places}
-use Rattle.pb_flow.proofs.Sections.{play-begins, play-has-steps, play-links, play-put, play-tasks}
+use Rattle.pb_flow.proofs.Sections.{play-begins, play-has-steps, play-put}
 use Rattle.pb_flow.proofs.Sizes.{play-few}
 use Rattle.pb_flow.proofs.Sounds.{play-handlers, play-sections, sound-reverse}
 use Rattle.pb_flow.proofs.graph.nodes_of.Goals as goal
@@ -54,16 +54,6 @@ ended c = omega (arith, c.requires.few, c.count_of.ensures.steps, c.behind-tail.
 pub returns-clause-begin : goal.returns-clause-begin
 returns-clause-begin c = λ ms.
     play-begins ms (entries_view c.args.play.now.vars.items) (play_view c.args.play.now) c.behind-tail.result c.put_gathering.new.tail (target_view c.in_ok-begin.begin) (ended c) (whole c ms)
-
-pub returns-clause-tasks : goal.returns-clause-tasks
-returns-clause-tasks c = λ ms.
-    ap (map (node_task ms (entries_view c.args.play.now.vars.items))) c.into_nodes.ensures
-    ∙ play-tasks ms (entries_view c.args.play.now.vars.items) (play_view c.args.play.now) c.behind-tail.result c.put_gathering.new.tail (target_view c.in_ok-begin.begin) (ended c) c.behind-tail.ensures.nodes (whole c ms)
-
-pub returns-clause-links : goal.returns-clause-links
-returns-clause-links c = λ ms.
-    ap (nodes_links ms (entries_view c.args.play.now.vars.items) 1) c.into_nodes.ensures
-    ∙ play-links ms (entries_view c.args.play.now.vars.items) (play_view c.args.play.now) c.behind-tail.result c.put_gathering.new.tail (target_view c.in_ok-begin.begin) (ended c) c.behind-tail.ensures.nodes (whole c ms)
 
 pub returns-clause-steps : goal.returns-clause-steps
 returns-clause-steps c = λ ms.

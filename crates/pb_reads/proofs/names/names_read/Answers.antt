@@ -24,4 +24,4 @@ returns-clause-whole c =
     let ps = borrowed_view c.in_ok-order.order.items in
     let all : roots_view c.as_slice-2.result.now ≡ reached scope ps rs =
     ap roots_view c.as_slice-2.ensures.value ∙ c.in_ok-all.ensures ∙ ap (λ es. reached scope (borrowed_view es) rs) c.as_slice.ensures.value in
-    IfOk-weaker c.names_told.result _ _ (λ ns told short n x. told n ∙ ap (λ xs. is_among n (told_names scope xs)) all ∙ read-is-told scope ps rs n (c.in_ok-order.ensures.order short) x) c.names_told.ensures
+    IfOk-weaker c.names_told.result _ _ (λ ns told short n x. told n ∙ ap (λ xs. is_among n (told_names scope xs)) all ∙ read-is-told scope ps rs n (c.all_are_in_order.ensures scope ps short c.in_ok-order.ensures.behind c.in_ok-order.ensures.short) x) c.names_told.ensures

@@ -6,6 +6,7 @@ use Rattle.pb_play.specs.Plays.{play_view}
 use Rattle.pb_template.specs.Entries.{entries_view}
 use Rattle.pb_flow.specs.Nodes.{node_task}
 use Rattle.pb_flow.proofs.Leads.{all-lead}
+use Rattle.pb_flow.proofs.Sections.{steps-links, steps-tasks}
 use Rattle.pb_flow.proofs.Sizes.{row-tasks}
 use Rattle.pb_flow.proofs.graph.Graph.of.Goals as goal
 
@@ -15,5 +16,7 @@ invariant_of-result c =
     let vars = entries_view play.vars.items in
     let row = play_row [] (play_view play) in
     let ns = c.in_ok-begin.tasks.items in
-    let number : length ns ≡ size row = sym (length-map ns (node_task [] vars)) ∙ ap length (c.in_ok-begin.ensures.tasks []) ∙ row-tasks row in
-    record { leads = all-lead [] vars row c.in_ok-begin.begin ns (c.in_ok-begin.ensures.begin []) (c.in_ok-begin.ensures.links []) number }
+    let tasks = steps-tasks [] vars row ns (c.in_ok-begin.ensures.steps []) in
+    let links = steps-links [] vars row ns (c.in_ok-begin.ensures.steps []) in
+    let number : length ns ≡ size row = sym (length-map ns (node_task [] vars)) ∙ ap length tasks ∙ row-tasks row in
+    record { leads = all-lead [] vars row c.in_ok-begin.begin ns (c.in_ok-begin.ensures.begin []) links number }

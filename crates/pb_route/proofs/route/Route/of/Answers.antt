@@ -23,6 +23,10 @@ returns c = λ ms sound gathers.
     let stations = c.in_ok-stations.stations in
     let visited = subst (AreVisitedSound ms play.gathering) (sym c.deref.ensures.value) (c.in_ok-graph.ensures.sound ms sound) in
     let told : map station_task stations.items ≡ map (node_task ms vars) graph.tasks.items = c.in_ok-stations.ensures.tasks ms visited gathers ∙ ap (map (node_task ms vars)) c.deref.ensures.value in
+    let row = play_row ms (play_view play) in
+    let steps = c.in_ok-graph.ensures.steps ms in
+    let tasks = c.steps_have_tasks_and_links.ensures.tasks ms vars row graph.tasks.items steps in
+    let links = c.steps_have_tasks_and_links.ensures.links ms vars row graph.tasks.items steps in
     are-of-row flow.graph flow.ways.items stations.items graph.begin graph.tasks.items c.in_ok-flow.ensures.graph c.in_ok-flow.ensures.ways
-    (c.in_ok-stations.ensures.number ∙ ap length c.deref.ensures.value) ms vars (play_row ms (play_view play)) c.edges_are_those_of_the_row.ensures c.edges_carry_what_the_row_does.ensures
-    (c.in_ok-graph.ensures.begin ms) (c.in_ok-graph.ensures.tasks ms) (c.in_ok-graph.ensures.links ms) told
+    (c.in_ok-stations.ensures.number ∙ ap length c.deref.ensures.value) ms vars row c.edges_are_those_of_the_row.ensures c.edges_carry_what_the_row_does.ensures
+    (c.in_ok-graph.ensures.begin ms) tasks links told

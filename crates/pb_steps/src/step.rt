@@ -1,11 +1,12 @@
 // The steps of a play, made of the nodes of its graph.
-ghost use Rattle.std.specs.Prelude.{[], ◌≡◌, ◌≤◌, IfOk, map};
+ghost use Rattle.std.specs.Prelude.{[], ◌≡◌, ◌≤◌, IfOk, map, true};
 ghost use Rattle.pb_semantics.specs.Limits.{most_play_steps};
 ghost use Rattle.pb_language.specs.Book.{Registry};
 ghost use Rattle.pb_language.specs.Expression.{Parts};
 ghost use Rattle.pb_language.specs.Sites.{steps_of};
 ghost use Rattle.pb_play.specs.Plays.{play_view};
 ghost use Rattle.pb_flow.specs.Words.{node_step, target_view, visited_view};
+ghost use Rattle.pb_steps.specs.Leads.{all_lead_on};
 ghost use Rattle.pb_steps.specs.Outlines.{outline, outline_view, plan_view, play_plan};
 
 use pb_flow::{Graph, Node, Target, Visited};
@@ -33,6 +34,8 @@ pub struct Step {
 pub struct PlaySteps {
     pub begin: Target,
     pub steps: Vec<Step>,
+    /// Each step leads to higher ones.
+    ghost leads: { all_lead_on begin steps.items ≡ true },
 }
 
 impl PlaySteps {

@@ -3,14 +3,16 @@ ghost use Rattle.std.specs.Prelude.{◌≡◌, ◌<◌, ◌==◌, ◌&&◌, ◌|
 ghost use Rattle.std.specs.Prelude.{All, IfOk, OnOk, get_or, length, option_map};
 ghost use Rattle.pb_language.specs.Machine.{innermost, is_marked, outermost};
 ghost use Rattle.pb_machine.specs.Hosts.{FlatHost, left_play, stands};
-ghost use Rattle.pb_flow.specs.Ahead.{all_lead_on, is_ahead, lead_on};
+ghost use Rattle.pb_flow.specs.Ahead.{is_ahead};
+ghost use Rattle.pb_steps.specs.Words.{all_lead_on, lead_on, leads_on};
 ghost use Rattle.pb_position.specs.Texts.{text_of, texts_of};
 ghost use Rattle.pb_position.specs.Positions.{IsAs, IsAt, handlers_of, location_view};
 ghost use Rattle.pb_position.specs.Calls.{Arrives, BeginsPlay, BeginsTask, GoesOn, Moves, Reaches};
 ghost use Rattle.pb_position.specs.Calls.{before_plays, emptied_at_end};
 
 use crate::texts::{all_copied, copied, innermost_of};
-use pb_flow::{Move, Node, Target};
+use pb_flow::{Move, Target};
+use pb_steps::Step;
 use std::alloc::{AllocError, Global};
 use std::sync::Arc;
 
@@ -98,7 +100,7 @@ impl Position {
         innermost_of(&self.rescues, depth)
     }
 
-    /// Where the host is once a play of so many handlers begins for it, at that node: nothing is
+    /// Where the host is once a play of so many handlers begins for it, at that target: nothing is
     /// notified, and of the texts the last failure's stays.
     ///
     /// # Errors
@@ -107,38 +109,32 @@ impl Position {
     pub fn begin(
         &self,
         alloc: Global,
-        nodes: &[Node<'_>],
-        begin: Option<u32>,
+        steps: &[Step],
+        begin: &Target,
         handlers: usize,
     ) -> Result<Position, AllocError>
-        requires leads { all_lead_on begin nodes.now ≡ true }
-        ensures host { IfOk result (λ p. BeginsPlay nodes.now begin self.now p) }
+        requires leads { all_lead_on begin.now steps.now ≡ true }
+        ensures host { IfOk result (λ p. BeginsPlay steps.now begin.now self.now p) }
         ensures handlers { IfOk result (λ p. handlers_of p ≡ handlers) }
     {
         let failure = copied(self.failure.as_ref())?;
         let mut position = Position::empty(alloc, handlers, failure)?;
-        position.reach(nodes, begin)?;
+        position.arrive(steps, begin)?;
         Ok(position)
     }
 
-    /// Where the host is after the task of the node, which came to that end: the handlers are
-    /// notified, and a failure's text is the last one; the host goes where the node leads, past
+    /// Where the host is after the task of the step, which came to that end: the handlers are
+    /// notified, and a failure's text is the last one; the host goes where the step leads, past
     /// the handlers that aren't notified. This position stays as it was.
     ///
     /// # Errors
     ///
     /// Want of memory.
-    pub fn go_on(
-        &self,
-        nodes: &[Node<'_>],
-        node: &Node<'_>,
-        end: TaskEnd,
-    ) -> Result<Position, AllocError>
-        requires ok { is_ahead 0 (suc (length nodes.now)) node.now.ok.to ≡ true }
-        requires failed { is_ahead 0 (suc (length nodes.now)) node.now.failed.to ≡ true }
-        requires leads { lead_on (suc (length nodes.now)) 1 nodes.now ≡ true }
+    pub fn go_on(&self, steps: &[Step], step: &Step, end: TaskEnd) -> Result<Position, AllocError>
+        requires step { leads_on (suc (length steps.now)) 0 step.now ≡ true }
+        requires leads { lead_on (suc (length steps.now)) 1 steps.now ≡ true }
         requires marks { All (λ n. n < handlers_of self.now) end.notified.items }
-        ensures host { IfOk result (λ p. GoesOn nodes.now node.now end self.now p) }
+        ensures host { IfOk result (λ p. GoesOn steps.now step.now end self.now p) }
         ensures handlers { IfOk result (λ p. handlers_of p ≡ handlers_of self.now) }
     {
         let TaskEnd {
@@ -150,10 +146,10 @@ impl Position {
         position.mark(&notified);
         if has_failed {
             position.failure = text;
-            position.arrive(nodes, &node.failed)?;
+            position.arrive(steps, &step.failed)?;
             Ok(position)
         } else {
-            position.arrive(nodes, &node.ok)?;
+            position.arrive(steps, &step.ok)?;
             Ok(position)
         }
     }
@@ -211,22 +207,22 @@ impl Position {
     }
 
     // Goes where the target leads, past the handlers that aren't notified.
-    fn arrive(&mut self, nodes: &[Node<'_>], target: &Target) -> Result<(), AllocError>
-        requires ahead { is_ahead 0 (suc (length nodes.now)) target.now.to ≡ true }
-        requires leads { lead_on (suc (length nodes.now)) 1 nodes.now ≡ true }
-        ensures host { OnOk result (Arrives nodes.now target.now self.old self.new) }
+    fn arrive(&mut self, steps: &[Step], target: &Target) -> Result<(), AllocError>
+        requires ahead { is_ahead 0 (suc (length steps.now)) target.now.to ≡ true }
+        requires leads { lead_on (suc (length steps.now)) 1 steps.now ≡ true }
+        ensures host { OnOk result (Arrives steps.now target.now self.old self.new) }
         ensures handlers { OnOk result (handlers_of self.new ≡ handlers_of self.old) }
     {
         self.make(&target.moves)?;
-        self.reach(nodes, target.to)?;
+        self.reach(steps, target.to)?;
         Ok(())
     }
 
-    // Goes to that node, or past it where it is a handler that isn't notified.
-    fn reach(&mut self, nodes: &[Node<'_>], first: Option<u32>) -> Result<(), AllocError>
-        requires ahead { is_ahead 0 (suc (length nodes.now)) first ≡ true }
-        requires leads { lead_on (suc (length nodes.now)) 1 nodes.now ≡ true }
-        ensures host { OnOk result (Reaches nodes.now first self.old self.new) }
+    // Goes to the step of that node, or past it where it is a handler that isn't notified.
+    fn reach(&mut self, steps: &[Step], first: Option<u32>) -> Result<(), AllocError>
+        requires ahead { is_ahead 0 (suc (length steps.now)) first ≡ true }
+        requires leads { lead_on (suc (length steps.now)) 1 steps.now ≡ true }
+        ensures host { OnOk result (Reaches steps.now first self.old self.new) }
         ensures handlers { OnOk result (handlers_of self.new ≡ handlers_of self.old) }
     {
         let mut to = first;
@@ -236,17 +232,17 @@ impl Position {
                 return Ok(());
             };
             let index = number as usize - 1;
-            if index >= nodes.len() {
+            if index >= steps.len() {
                 self.location = Location::End;
                 return Ok(());
             }
-            let node = &nodes[index];
-            if self.begins_task(node.handler) {
+            let step = &steps[index];
+            if self.begins_task(step.handler) {
                 self.location = Location::Node(number);
                 return Ok(());
             }
-            self.make(&node.ok.moves)?;
-            to = node.ok.to;
+            self.make(&step.ok.moves)?;
+            to = step.ok.to;
         }
     }
 

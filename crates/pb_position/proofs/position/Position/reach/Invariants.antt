@@ -6,10 +6,10 @@ use Rattle.pb_position.proofs.position.Position.reach.Given as goal
 
 abbrev pub invariant-loop-to : goal.invariant-loop-to
 invariant-loop-to l = record {
-  ahead : is_ahead 0 (suc (length l.nodes)) l.to ≡ true;
-  goes : Goes l.nodes l.fn.first l.fn.self l.to l.self;
+  ahead : is_ahead 0 (suc (length l.steps)) l.to ≡ true;
+  goes : Goes l.steps l.fn.first l.fn.self l.to l.self;
   handlers : handlers_of l.self ≡ handlers_of l.fn.self;
 }
 
 abbrev pub decreases-loop-to : goal.decreases-loop-to
-decreases-loop-to l = far (suc (length l.nodes)) l.to
+decreases-loop-to l = far (suc (length l.steps)) l.to

@@ -64,7 +64,7 @@ class Block:
     asked: list = field(default_factory=list)
     defaults: dict = field(default_factory=dict)  # what a role gives where nothing else does
     is_role: bool = False  # the collections of its play aren't its
-    may_be_passed: bool = False  # an include that sets nothing where its condition doesn't hold
+    is_include: bool = False  # it has tags of its own, and where its condition is false it sets nothing
     lost: dict = field(default_factory=dict)  # names of `vars` that the profile can't have, with the reason
 
     def __post_init__(self):
@@ -122,6 +122,7 @@ class Book:
     file: str
     plays: list
     node: Optional[object] = None  # the book itself, where it is no list
+    left_out: list = field(default_factory=list)  # tasks that a run passes by, by their tags
 
     def tasks(self):
         return [task for play in self.plays if isinstance(play, Play) for task in play.tasks()]

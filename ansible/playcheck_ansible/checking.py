@@ -9,10 +9,12 @@ from .hosts import host_patterns, with_localhost
 from .inventory import read_inventories
 from .literals import run_literal_passes
 from .loading import load_book
+from .magic import magic_variables
 from .plays import leave_all, run_book_passes
 from .problems import Place
 from .program import Asker
 from .roles import put_defaults
+from .tags import leave_out
 from .unjudged import CUT, Settler
 
 
@@ -46,6 +48,7 @@ class Report:
     notes: list = field(default_factory=list)  # words of plays and blocks that weren't asked
     tasks: int = 0
     judged: int = 0
+    left_out: int = 0  # tasks that a run passes by, by their tags
     budget: int = 0
     is_strict: bool = False  # what isn't judged is refused
 
@@ -65,11 +68,14 @@ class Options:
     extra: dict = field(default_factory=dict)
     go_on: bool = False
     trusts_facts: bool = False
+    tags: tuple = ()
+    skip_tags: tuple = ()
 
 
 def prepared(path, options, book):
     """The book with its passes run, and the inventory that it is judged with."""
     inventory = read_inventories(options.inventories, path)
+    leave_out(book, options.tags, options.skip_tags)
     plays = [play for play in book.plays if isinstance(play, Play)]
     for play in plays:
         for holder in [play, *(step for step in play.steps() if isinstance(step, Block))]:
@@ -79,6 +85,7 @@ def prepared(path, options, book):
     if options.trusts_facts:
         trust_facts(book)
     added = with_localhost(inventory, plays)
+    magic_variables(book, inventory, options.tags, options.skip_tags)
     for play in plays:
         host_patterns(play, inventory, added)
         if play.reason:
@@ -102,7 +109,7 @@ def check_book(path, options, book=None):
 
 def report_of(path, settler):
     tasks = settler.tasks
-    report = Report(path, tasks=len(tasks))
+    report = Report(path, tasks=len(tasks), left_out=len(settler.book.left_out))
     report.findings = numbered(settler)
     refused = {id(line.step) for line, _ in settler.findings if line is not None and line.step is not None}
     for task in tasks:

@@ -61,6 +61,7 @@ def json_of(report):
         "verdict": "accepted" if report.is_accepted else "refused",
         "tasks": report.tasks,
         "judged": report.judged,
+        "left_out": report.left_out,
         "budget": report.budget if report.is_accepted and report.is_whole else None,
         "findings": [{
             "code": one.code, "title": one.title, "file": one.place.file, "line": one.place.line,

@@ -5,11 +5,12 @@ from dataclasses import dataclass, field, replace
 from .books import PARTS, SECTIONS, Block, Book, Play, Raw, Task, items_of, steps_below
 from .modules import INCLUDES, short_name
 from .names import expression_names, given_names
-from .nodes import Mapping, Scalar, Sequence, has_template, is_nothing, is_text, plain, texts_of
 from .looking_up import note_collections
+from .nodes import Mapping, Scalar, Sequence, has_template, is_nothing, is_text, made, plain, texts_of
 from .positions import read_file
 from .problems import Place, Problem
 from .roles import block_words, put_handlers, put_play_variables, role_of
+from .tags import tags_of
 
 MOST_INCLUDES = 32
 MOST_FILES = 1000
@@ -107,6 +108,9 @@ def add_words(play, item, key):
             play.words.put("vars", merged)
         elif word == "when":
             play.reason = play.reason or "it is imported under a condition"
+        elif word == "tags":
+            tags = sorted(tags_of(item) | tags_of(play.words))
+            play.words.put("tags", made(tags, part.place))
         elif word not in (key, "name"):
             play.asked.append(part)
 
@@ -192,9 +196,7 @@ def included_role(task, kind, key, context):
         bars.append("when")
     if bars:
         return [left_whole(task, kind, bars[0], [block], names)]
-    outer = Block(words, task.place, {"block": [block]})
-    outer.may_be_passed = kind == "include_role" and "when" in words
-    return [outer]
+    return [included_block(task, kind, words, [block])]
 
 
 def left_include(task, what):
@@ -321,9 +323,15 @@ def put_in_place(task, kind, key, path, context):
         return [left_whole(task, kind, bars[0], steps, names)]
     if context.is_handlers or not set(words.pairs) - {"name"}:
         return steps
-    block = Block(words, task.place, {"block": steps})
-    block.may_be_passed = kind == "include_tasks" and "when" in words
-    return [block]
+    return [included_block(task, kind, words, steps)]
+
+
+def included_block(task, kind, words, steps):
+    """What stands in the place of a task that names a file or a role: of an include its words aren't its tasks'."""
+    block = Block(words, task.place, {"block": steps}, is_include=kind.startswith("include"))
+    if block.is_include:
+        words.take("ignore_errors")
+    return block
 
 
 def mentions_any(node, names):

@@ -170,9 +170,6 @@ def flow_words(task, modules):
         else:
             task.leave(f"`{key}` changes the flow", node.place)
             return
-    tags = task.words.get("tags")
-    if tags is not None and "never" in str(plain(tags)):
-        task.leave("with the tag `never` it is run only where it is asked for", tags.place)
 
 
 def passed_words(task, modules):

@@ -183,8 +183,6 @@ def play_words(play, extra):
             play.reason = play.reason or "`module_defaults` give parameters"
         elif word == "order" and node is not None and "serial" in play.words:
             play.reason = play.reason or "`order` decides which hosts are in a batch"
-        elif word == "tags" and node is not None and "never" in str(plain(node)):
-            play.reason = play.reason or "with the tag `never` it is run only where it is asked for"
         elif node is not None:
             play.asked.append(node)
     lost_variables(play)
@@ -241,9 +239,6 @@ def block_words(block, extra):
         node = words.take(word)
         if node is not None and not (isinstance(node, Scalar) and node.value in (False, None)):
             leave_all(below, f"`{word}` of its block changes the flow")
-    tags = words.get("tags")
-    if tags is not None and "never" in str(plain(tags)):
-        leave_all(below, "with the tag `never` its block is run only where it is asked for")
     for word in PASSED:
         node = words.take(word)
         if node is not None:

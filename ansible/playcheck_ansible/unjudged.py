@@ -4,8 +4,9 @@ import re
 from .books import Block, Play, Raw, Task, is_module, steps_below
 from .hints import culprit, nearest
 from .lines import Line, Printer
+from .magic import outside_names
 from .modules import CHANGES_FLOW, PROFILE, SETS_UNSEEN
-from .names import (FACTS, KNOWN, MAGIC, given_names, mentioned, names_of_vars, outside_form,
+from .names import (FACTS, KNOWN, given_names, mentioned, names_of_vars, outside_form,
                     outside_node, read_places, without_texts)
 from .nodes import Mapping, has_template, is_text, texts_of
 from .scope import Scope
@@ -29,6 +30,7 @@ class Settler(Scope):
         super().__init__(book, inventory)
         self.modules, self.asker = modules, asker
         self.opaque = inventory.opaque_names()
+        self.is_outside = outside_names(book)
         self.reads = {id(task): names_read(task) for task in self.tasks}
         self.findings = []
         # What isn't asked beside tasks: words of plays and blocks, and files of variables, with their places.
@@ -77,7 +79,7 @@ class Settler(Scope):
 
     def is_outside_fact(self, name):
         is_known = name in KNOWN or name in self.outside or name in self.given()
-        return not is_known and (name in MAGIC or name.startswith("ansible_"))
+        return not is_known and self.is_outside(name)
 
     def tainted(self):
         """The names that may hold what isn't judged, each with the reason."""
@@ -106,7 +108,7 @@ class Settler(Scope):
 
     def taint_passed(self, block, tainted):
         """An include under a condition runs whole or sets nothing; the tasks of a block are skipped one by one."""
-        for step in steps_below([block]) if block.may_be_passed else ():
+        for step in steps_below([block]) if block.is_include and "when" in block.words else ():
             for name in given_names(step) if isinstance(step, Task) else ():
                 tainted.setdefault(name, f"it is set by an include on line {block.place.line} that may be passed")
 

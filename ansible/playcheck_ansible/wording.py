@@ -10,7 +10,8 @@ def message_of(finding):
 
 
 def count_of(report):
-    return f"{report.judged} of {report.tasks} tasks judged"
+    left_out = f", {report.left_out} left out by tags" if report.left_out else ""
+    return f"{report.judged} of {report.tasks} tasks judged{left_out}"
 
 
 def verdict_of(report):

@@ -129,6 +129,9 @@ def role_books(root, folder):
         files = [str(role / part / "main.yml") for part in ("defaults", "vars")
                  if (role / part / "main.yml").is_file()]
         play = {"hosts": "all", "vars_files": files, "tasks": [{"import_tasks": str(path)}]}
+        collection = role.parts[-4:-2] if role.parts[-5] == "ansible_collections" else ()
+        if collection:
+            play["collections"] = [".".join(collection)]  # where a role of a collection looks first
         if (role / "handlers" / "main.yml").is_file() and path.name == "main.yml":
             play["handlers"] = [{"import_tasks": str(role / "handlers" / "main.yml")}]
         book = Path(folder, f"role{number}.yml")

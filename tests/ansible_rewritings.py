@@ -58,19 +58,20 @@ STOOD_IN = [
     ("x | count > 0", "x | length > 0"),
     ("x | lower", "([[x] | length] | join)"),
     ("x | lower in y", "([[x] | length] | join) in y"),
-    ("x | int + 1", "([x, 1] | length)"),
+    ("x | int + 1", "([x] | length)"),
+    ("x | regex_replace('\\\\.', '')", "([[x] | length] | join)"),
     ("x | basename", "([[x | length, [x] | join] | length] | join)"),
-    ("x ~ y ~ 'a'", "([[x, y, 'a'] | length] | join)"),
-    ("x is version('1.2', '>=')", "([x, '1.2', '>='] | length == 1)"),
-    ("x is search('^a')", "([x, '^a'] | length == 1)"),
-    ("x | float < 1.5", "([x, 1] | length == 1)"),
-    ("x.split('.')[0] == '1'", "([[x | length, [x] | join, '.'] | length] | join) == '1'"),
-    ("x.find('a') < 0", "([x | length, [x] | join, 'a'] | length) < 0"),
-    ("lookup('env', 'A')", "([['A'] | length] | join)"),
+    ("x ~ y ~ 'a'", "([[x, y] | length] | join)"),
+    ("x is version('1.2', '>=')", "([x] | length == 1)"),
+    ("x is search('^a')", "([x] | length == 1)"),
+    ("x | float < 1.5", "([x] | length == 1)"),
+    ("x.split('.')[0] == '1'", "([[x | length, [x] | join] | length] | join) == '1'"),
+    ("x.find('a') < 0", "([x | length, [x] | join] | length) < 0"),
+    ("lookup('env', 'A')", "([[] | length] | join)"),
     ("'a' if x else 'b'",
-     "([[x and ['a'] | length == 1 or not x and ['b'] | length == 1] | length] | join)"),
+     "([[x and [] | length == 1 or not x and [] | length == 1] | length] | join)"),
     ("x == 1 if y else x == 2", "(y and x == 1 or not y and x == 2)"),
-    ("(x == 1) | ternary('a', 'b')", "([[x == 1, 'a', 'b'] | length] | join)"),
+    ("(x == 1) | ternary('a', 'b')", "([[x == 1] | length] | join)"),
     ("{{ x | upper }}", "{{ ([[x] | length] | join) }}"),
 ]
 KEPT_FORMS = [
@@ -83,9 +84,9 @@ KEPT_FORMS = [
 # Where only what is read counts.
 LOOSE = [
     ("x if y else 'a'",
-     "([[y and [x] | length == 1 or not y and ['a'] | length == 1] | length] | join)"),
-    ("x | default('a', true)", "([[x | default('a'), 'a'] | length] | join)"),
-    ("(x == 1) | ternary(omit, y)", "([[x == 1, '', y] | length] | join)"),
+     "([[y and [x] | length == 1 or not y and [] | length == 1] | length] | join)"),
+    ("x | default('a', true)", "([[x | default('a')] | length] | join)"),
+    ("(x == 1) | ternary(omit, y)", "([[x == 1, y] | length] | join)"),
     ("x[0]", "x[0]"), ("x", "x"),
 ]
 RENAMED = [

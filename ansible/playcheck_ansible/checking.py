@@ -4,6 +4,7 @@ from dataclasses import dataclass, field
 from .books import Block, Play, Raw
 from .codes import OWN_TITLES, TITLES
 from .facts import trust_facts
+from .further_facts import further_facts
 from .hints import hint
 from .hosts import host_patterns, with_localhost
 from .inventory import read_inventories
@@ -16,6 +17,10 @@ from .program import Asker
 from .roles import put_defaults
 from .tags import leave_out
 from .unjudged import CUT, Settler
+
+
+# What a counted line that no file has is called.
+KINDS = {"asked": "task", "facts": "play", "condition": "block"}
 
 
 @dataclass
@@ -50,6 +55,7 @@ class Report:
     judged: int = 0
     left_out: int = 0  # tasks that a run passes by, by their tags
     budget: int = 0
+    has_bound: bool = True  # the budget is one: no task is tried more often than the profile has it
     is_strict: bool = False  # what isn't judged is refused
 
     @property
@@ -81,6 +87,7 @@ def prepared(path, options, book):
         for holder in [play, *(step for step in play.steps() if isinstance(step, Block))]:
             put_defaults(holder, play, inventory)
     run_book_passes(book, options.modules, options.extra)
+    further_facts(book, options.trusts_facts)
     run_literal_passes(book, inventory)
     if options.trusts_facts:
         trust_facts(book)
@@ -119,6 +126,7 @@ def report_of(path, settler):
     report.notes = [Unjudged(place, "", what) for place, what in settler.notes]
     report.judged = sum(not task.reason or task.reason.startswith(CUT) for task in tasks)
     report.budget = settler.answer.budget
+    report.has_bound = not any(task.has_no_bound for task in tasks)
     return report
 
 
@@ -135,7 +143,7 @@ def finding_of(answer, line, settler):
     found = hint(answer, line, settler)
     source = line.source if line is not None else None
     play = line.play.name if line is not None and line.play is not None else ""
-    kind = {"asked": "task", "facts": "play"}.get(line.kind, line.kind) if line is not None else ""
+    kind = KINDS.get(line.kind, line.kind) if line is not None else ""
     if isinstance(source, Play):
         kind = "play"
     name = source.name if source is not None and not isinstance(source, Raw) else ""

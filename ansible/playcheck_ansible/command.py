@@ -9,7 +9,7 @@ from .checking import Options, check_book, settled
 from .codes import section_of
 from .converting import write_converted
 from .formats import FORMATS
-from .documented import documentation, signatures_of
+from .documented import documentation, signatures_of, without_file
 from .loading import load_book
 from .looking_up import UNKNOWN, looked_up, used_modules
 from .modules import PROFILE, read_signatures, short_name
@@ -113,7 +113,7 @@ def signatures(words):
     for name in names:
         if name not in found:
             told(f"the module {name} isn't declared: {left.get(name, UNKNOWN)}")
-    json.dump(declared, sys.stdout, indent=1)
+    json.dump([without_file(module) for module in declared], sys.stdout, indent=1)
     sys.stdout.write("\n")
     return 0 if declared or not names else BAD_WORDS
 

@@ -3,8 +3,8 @@ import re
 
 from .books import Block, Raw, Task
 from .inventory import is_opaque
-from .names import KNOWN, MAGIC, TEXT, given_names
-from .nodes import Mapping, is_literal, plain
+from .names import KNOWN, MAGIC, TEXT, expression_names, given_names, outside_form
+from .nodes import Mapping, Scalar, is_literal, plain
 from .rewriting import changed_texts, rewrite_words
 from .stand_ins import stand_ins
 
@@ -35,6 +35,17 @@ def run_literal_passes(book, inventory):
                 one.words.put("debug", changed_texts(one.words.get("debug"), change_asked))
             rewrite_words(one.words, change)
             one.asked = [changed_texts(node, change_asked) for node in one.asked]
+            if isinstance(one, Task) and one.may_ignore is not None:
+                ignored(one, change)
+
+
+def ignored(task, change):
+    """A template in the place of `ignore_errors` has to be a condition of the profile."""
+    node = task.may_ignore
+    task.may_ignore = Scalar(change(f"({node.value}) | bool"), node.place, node.text, True)
+    what = outside_form(task.may_ignore.value)
+    if what or "item" in expression_names(node.value):
+        task.leave(f"`ignore_errors` with {what or '`item`'}", node.place)
 
 
 class Values:

@@ -3,6 +3,7 @@ import os
 import re
 
 from .books import Block, Raw, Task
+from .further_facts import FURTHER
 from .names import MAGIC
 from .nodes import Mapping, Scalar, texts_of
 
@@ -77,10 +78,18 @@ def outside_names(book):
     """Answers whether a name is one that Ansible gives and the profile lacks."""
     keywords = {word for play in book.plays if not isinstance(play, Raw) for holder in holders(play)
                 for word in KEYWORDS if word in holder.written}
+    may_gather = any(is_gathering(play) for play in book.plays if not isinstance(play, Raw))
     by_keyword = {f"ansible_{way}{KEYWORDS[word]}" for word in keywords for way in ("", "ssh_")}
 
     def is_outside(name):
-        is_given = GIVEN.fullmatch(name) and name not in by_keyword
-        return name in MAGIC or name.startswith("ansible_") and not is_given
+        is_given = name in FURTHER or GIVEN.fullmatch(name) and name not in by_keyword
+        return name in MAGIC or name in by_keyword or name.startswith("ansible_") and may_gather and not is_given
 
     return is_outside
+
+
+def is_gathering(play):
+    """Whether facts may be set that the book doesn't show: by gathering, or by a task that isn't judged."""
+    node = play.words.get("gather_facts")
+    return not isinstance(node, Scalar) or node.value is not False or any(
+        task.module() == "setup" or task.reason for task in play.tasks())

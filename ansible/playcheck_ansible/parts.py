@@ -31,7 +31,7 @@ class Part:
 
     def read(self):
         """What has to be readable where it is."""
-        return self.reads or (self.at(OR),)
+        return () if self.literal else self.reads or (self.at(OR),)
 
 
 def all_read(parts):
@@ -50,7 +50,7 @@ def as_text(part):
     if part.kind == "text":
         return part.read()
     plain = part.at(OPERAND)
-    return (f"{plain} | length", f"[{plain}] | join")
+    return () if part.literal else (f"{plain} | length", f"[{plain}] | join")
 
 
 def literal_part(value, text, kind):

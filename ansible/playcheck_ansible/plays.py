@@ -235,6 +235,13 @@ def block_words(block, extra):
         words.put("when", without_braces(words.get("when")))
     plain_name(words)
     below = [step for step in steps_below([block]) if isinstance(step, Task)]
+    if "when" in words:
+        for task in below:
+            task.is_below_condition = True
+    once = words.take("run_once")
+    for task in below if once is not None else ():
+        if "run_once" not in task.words:
+            task.words.put("run_once", as_bool(once))
     for word in FLOW:
         node = words.take(word)
         if node is not None and not (isinstance(node, Scalar) and node.value in (False, None)):

@@ -154,7 +154,7 @@ class Reader:
         if kind == "int":
             return literal_part(int(word), word, "int")
         if kind == "float":
-            return Part(None, "float", PLAIN, (word.partition(".")[0],), literal=(float(word),))
+            return Part(None, "float", literal=(float(word),))
         if kind == "sign" and word == "-" and self.tokens[self.at][0] == "int":
             return literal_part(-int(self.tokens[self.at][1]), "-" + self.take(), "int")
         if kind == "sign" and word == "(":
@@ -166,7 +166,7 @@ class Reader:
         if kind != "name" or word in ("if", "else"):
             raise Unfit
         if word == "omit":
-            return Part(None, "omit", PLAIN, ("''",))
+            return Part(None, "omit", literal=(None,))
         if word in WORDS:
             return literal_part(WORDS[word], word, "bool" if WORDS[word] is not None else "none")
         return self.lookup() if word in ("lookup", "query") else self.path(word)

@@ -2,6 +2,7 @@
 import re
 
 from .books import Block, Play, Raw, Task, is_module, steps_below
+from .further_facts import FURTHER
 from .hints import culprit, nearest
 from .lines import Line, Printer
 from .magic import outside_names
@@ -103,12 +104,12 @@ class Settler(Scope):
     def taint_forgotten(self, tainted):
         """What tasks set may be gone where hosts that failed come back, or facts are cleared."""
         for task in [task for task in self.tasks if task.forgets]:
-            for name in {*FACTS, "ansible_facts"}.union(*(given_names(one) for one in self.tasks)):
+            for name in {*FACTS, *FURTHER, "ansible_facts"}.union(*(given_names(one) for one in self.tasks)):
                 tainted.setdefault(name, f"it may be gone behind line {task.place.line}")
 
     def taint_passed(self, block, tainted):
         """An include under a condition runs whole or sets nothing; the tasks of a block are skipped one by one."""
-        for step in steps_below([block]) if block.is_include and "when" in block.words else ():
+        for step in steps_below([block]) if is_passed(block) else ():
             for name in given_names(step) if isinstance(step, Task) else ():
                 tainted.setdefault(name, f"it is set by an include on line {block.place.line} that may be passed")
 
@@ -121,7 +122,7 @@ class Settler(Scope):
                 for name in given_names(task):
                     tainted.setdefault(name, f"it is set behind line {tasks[ends[0]].place.line}, which ends the play")
         if play.reason:
-            for name in (*FACTS, "ansible_facts"):
+            for name in (*FACTS, *FURTHER, "ansible_facts"):
                 tainted.setdefault(name, f"the play on line {play.place.line} isn't judged")
 
     def taint_vars(self, tainted):
@@ -333,6 +334,10 @@ class Settler(Scope):
         if answer.code in ("V05", "V12"):
             line.step.words.take("notify")
         return True
+
+
+def is_passed(block):
+    return block.is_include and not block.is_asked_once and "when" in block.words
 
 
 def holder_kind(holder):

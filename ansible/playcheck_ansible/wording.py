@@ -21,5 +21,5 @@ def verdict_of(report):
         return f"{report.book}: refused, {found}, {count_of(report)}"
     if not report.is_accepted:
         return f"{report.book}: refused by --strict, {count_of(report)}"
-    budget = f", at most {report.budget} module calls" if report.is_whole else ""
+    budget = f", at most {report.budget} module calls" if report.is_whole and report.has_bound else ""
     return f"{report.book}: accepted, {count_of(report)}{budget}"

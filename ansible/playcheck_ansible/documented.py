@@ -6,7 +6,6 @@ import shutil
 from .modules import BOOL_FIELD, FAILURE, PROFILE, are_choices
 from .problems import Problem
 from .processes import run_within
-from .sources import arguments_in
 
 SECONDS = 300
 MOST_UNDOCUMENTED = 4
@@ -114,6 +113,8 @@ def file_of(name, doc):
 
 def without_file(signature):
     """A signature for another machine: what the module's text takes beside its documentation is written down."""
+    from .sources import arguments_in
+
     further = signature["ansible"]
     file = further.pop("file", None)
     known = {*signature["params"], *further["asked"], *further["aliases"]}

@@ -31,9 +31,8 @@ FURTHER = {
         "version": {"major": NUMBER, "minor": NUMBER, "micro": NUMBER, "releaselevel": TEXT, "serial": NUMBER}},
     **{f"ansible_{name}": dict.fromkeys(fields, TEXT) for name, fields in FIELDS.items()},
 }
-WORDS = "|".join(name[len("ansible_"):] for name in FURTHER)
-READ = re.compile(rf"\bansible_(?:{WORDS})\b")
-FIELD = re.compile(rf"(?<![\w.\]])ansible_facts(?:\.({WORDS})\b|\[['\"]({WORDS})['\"]\])")
+READ = re.compile(r"\bansible_\w+")
+FIELD = re.compile(r"(?<![\w.\]])ansible_facts(?:\.(\w+)|\[['\"](\w+)['\"]\])")
 OF_ENVIRONMENT = re.compile(r"\bansible_env(?:\.([A-Za-z_]\w*)|\[['\"]([A-Za-z_]\w*)['\"]\])")
 
 
@@ -48,7 +47,7 @@ def further_facts(book, trusts):
             if "ansible_" in text.value:
                 read.update(READ.findall(text.value))
                 fields.update(dict.fromkeys((one or other for one, other in OF_ENVIRONMENT.findall(text.value)), TEXT))
-    found = {name: fields if name == "ansible_env" else FURTHER[name] for name in sorted(read)}
+    found = {name: fields if name == "ansible_env" else FURTHER[name] for name in sorted(read & set(FURTHER))}
     for play in plays if found else ():
         play.facts = set_facts(found, trusts and "gather_subset" not in play.written)
         for task in play.tasks():
@@ -58,8 +57,12 @@ def further_facts(book, trusts):
 
 def plain_name(expression):
     """`ansible_facts.fqdn` is `ansible_fqdn`."""
-    return FIELD.sub(lambda found: f"ansible_{found[1] or found[2]}", expression) \
-        if "ansible_facts" in expression else expression
+    return FIELD.sub(own_name, expression) if "ansible_facts" in expression else expression
+
+
+def own_name(found):
+    name = f"ansible_{found[1] or found[2]}"
+    return name if name in FURTHER else found[0]
 
 
 def set_facts(found, is_certain):

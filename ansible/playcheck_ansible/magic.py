@@ -23,8 +23,7 @@ GIVEN = re.compile(r"ansible_(?:(?:ssh_)?(?:user|pass|password|port|private_key_
                    r"|become(?:_\w+)?|python_interpreter|shell_type|limit|(?:winrm|httpapi|netconf)_\w+)")
 # Keywords that give some of them too.
 KEYWORDS = {"remote_user": "user", "port": "port"}
-NAMES = re.compile("|".join(rf"\b{name}\b" for name in (
-    *ALWAYS, *HOSTS, *OF_PLAY, "ansible_run_tags", "ansible_skip_tags", "inventory_hostname_short", "playbook_dir")))
+NAMES = re.compile(r"\b(?:ansible_\w+|play_hosts|playbook_dir|inventory_hostname_short)\b")
 
 
 def magic_variables(book, inventory, tags=(), skip_tags=()):

@@ -3,7 +3,6 @@ import json
 from dataclasses import dataclass, field
 
 from .problems import Place, Problem
-from .sources import arguments_in
 
 PREFIXES = ("ansible.builtin.", "ansible.legacy.")
 PROGRAM = {"cmd": "text", "chdir": "text", "creates": "text", "removes": "text"}
@@ -107,7 +106,11 @@ class Modules:
         """Those of these parameters that the documentation of a module lacks and its text has."""
         known = {*self.parameters[name], *self.asked.get(name, ()), *self.aliases.get(name, {})}
         unknown = [one for one in given if one not in known] if name in self.files else []
-        return set(unknown) & arguments_in(self.files[name]) if unknown else set()
+        if not unknown:
+            return set()
+        from .sources import arguments_in  # read where it is wanted: few books give such a parameter
+
+        return set(unknown) & arguments_in(self.files[name])
 
     def unjudged_name(self):
         """The name of the module that stands in the place of a task that isn't judged."""

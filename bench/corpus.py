@@ -49,6 +49,7 @@ class Tally:
     problems: Counter = field(default_factory=Counter)
     notes: Counter = field(default_factory=Counter)  # of each book: what isn't asked in it
     tasks: dict = field(default_factory=dict)  # the place of a task to whether it is judged wherever it is put in place
+    left_out: set = field(default_factory=set)  # the places of tasks that a run passes by, by their tags
     tracebacks: list = field(default_factory=list)
     slowest: tuple = (0.0, "")
 
@@ -87,6 +88,7 @@ def judge(path, options, tally):
     code = report.findings[0].code if report.findings else "accepted"
     tally.ends[f"{covered} {code}"] += 1
     tally.notes.update({bare(what) for _, what in settler.notes})
+    tally.left_out.update(str(task.place) for task in settler.book.left_out)
     for task in settler.tasks:
         is_judged = not task.reason or task.reason.startswith(CUT)
         place = str(task.place)
@@ -129,6 +131,9 @@ def role_books(root, folder):
         files = [str(role / part / "main.yml") for part in ("defaults", "vars")
                  if (role / part / "main.yml").is_file()]
         play = {"hosts": "all", "vars_files": files, "tasks": [{"import_tasks": str(path)}]}
+        collection = role.parts[-4:-2] if role.parts[-5] == "ansible_collections" else ()
+        if collection:
+            play["collections"] = [".".join(collection)]  # where a role of a collection looks first
         if (role / "handlers" / "main.yml").is_file() and path.name == "main.yml":
             play["handlers"] = [{"import_tasks": str(role / "handlers" / "main.yml")}]
         book = Path(folder, f"role{number}.yml")
@@ -255,6 +260,9 @@ def main():
     bar("whole", tallies[0].count("whole"), tallies[0].books)
     bar("examples", tallies[2].ends["whole accepted"], tallies[2].books)
     bar("tasks", sum(both.values()), len(both))
+    left_out = tallies[0].left_out - set(both)
+    print(f"tasks left out by tags wherever they are put in place: {len(left_out)}; of all tasks with these "
+          f"{100 * sum(both.values()) / max(len(both) + len(left_out), 1):.1f} % are judged")
     print(f"bar: tracebacks: {sum(len(tally.tracebacks) for tally in tallies)}, wanted 0")
 
 

@@ -134,13 +134,16 @@ def lost_titles():
 
 def lost_passes():
     """Each pass is named in docs/FROM_ANSIBLE.md."""
-    from playcheck_ansible.literals import LITERAL_PASSES
+    from playcheck_ansible.further_facts import further_facts
+    from playcheck_ansible.literals import EXPRESSION_PASSES
+    from playcheck_ansible.magic import magic_variables
     from playcheck_ansible.passes import TASK_PASSES
     from playcheck_ansible.plays import PLAY_PASSES
+    from playcheck_ansible.tags import leave_out
 
     page = (TOP / "docs" / "FROM_ANSIBLE.md").read_text(encoding="utf-8")
-    return [f"docs/FROM_ANSIBLE.md doesn't name {one.__name__}" for one in (*TASK_PASSES, *PLAY_PASSES, *LITERAL_PASSES)
-            if f"`{one.__name__}`" not in page]
+    passes = (leave_out, further_facts, magic_variables, *TASK_PASSES, *PLAY_PASSES, *EXPRESSION_PASSES)
+    return [f"docs/FROM_ANSIBLE.md doesn't name {one.__name__}" for one in passes if f"`{one.__name__}`" not in page]
 
 
 SEARCHES = (lost_titles, lost_passes, lost_hook, wrong_conversion, wrong_signatures, wrong_gitlab, wrong_junit,

@@ -1,5 +1,6 @@
 # Tries what literal values make of expressions, one by one: what each has to become, or that it stays as it is.
 import sys
+from itertools import product
 
 from ansible_tools import TOP
 
@@ -42,6 +43,52 @@ KEPT_DEFAULTS = [
     "x.plain | default(1, true)", "plain | default(1, false)", "plain | default(f(x), true)", "plain | default(1)",
     "'plain | default(1, true)'", "omit | default(1, true)",
 ]
+BOOL = "({0} == true or {0} == 1 or {0} in [..])"
+# What is exact, and what has the same kind and reads the same.
+STOOD_IN = [
+    ("x | bool", BOOL.format("x")),
+    ("not x.y | default(false) | bool", f"not (x.y is defined and {BOOL.format('x.y')})"),
+    ("(x | default('Yes')) | bool", f"(x is undefined or {BOOL.format('x')})"),
+    ("x == 1 | bool", "x == true"),
+    ("a is success or a is not change", "a is succeeded or a is not changed"),
+    ("a.b is none", "(a.b is defined and a.b == none)"),
+    ("a is not true", "not (a is defined and a == true)"),
+    ("a is string", "(a is defined and ([a] | length == 1))"),
+    ("x | mandatory", "x"),
+    ("x | count > 0", "x | length > 0"),
+    ("x | lower", "([[x] | length] | join)"),
+    ("x | lower in y", "([[x] | length] | join) in y"),
+    ("x | int + 1", "([x] | length)"),
+    ("x | regex_replace('\\\\.', '')", "([[x] | length] | join)"),
+    ("x | basename", "([[x | length, [x] | join] | length] | join)"),
+    ("x ~ y ~ 'a'", "([[x, y] | length] | join)"),
+    ("x is version('1.2', '>=')", "([x] | length == 1)"),
+    ("x is search('^a')", "([x] | length == 1)"),
+    ("x | float < 1.5", "([x] | length == 1)"),
+    ("x.split('.')[0] == '1'", "([[x | length, [x] | join] | length] | join) == '1'"),
+    ("x.find('a') < 0", "([x | length, [x] | join] | length) < 0"),
+    ("lookup('env', 'A')", "([[] | length] | join)"),
+    ("'a' if x else 'b'",
+     "([[x and [] | length == 1 or not x and [] | length == 1] | length] | join)"),
+    ("x == 1 if y else x == 2", "(y and x == 1 or not y and x == 2)"),
+    ("(x == 1) | ternary('a', 'b')", "([[x == 1] | length] | join)"),
+    ("{{ x | upper }}", "{{ ([[x] | length] | join) }}"),
+]
+KEPT_FORMS = [
+    "x", "x == 1 and y is defined", "x[0]", "x[y]", "x | first", "x | map('a')", "x + y", "x / 2", "x | int / y",
+    "x is match(y)", "x is search('(')", "x | lower(1)", "x.split()[0]", "x.split('.')[1]", "lookup('file', 'a')",
+    "x if y", "x if y else 'a'", "x | default('a', true)", "x | default(omit)", "'x | bool'", "{{- x | lower }}",
+    "x | bool | gone", "x | ", "f(x)", "x | from_json", "x < y < z", "groups['a'][0]", "hostvars[item].x",
+    "x is sameas(y)", "(" * 200 + "x | bool" + ")" * 200, "not " * 200 + "x | bool",
+]
+# Where only what is read counts.
+LOOSE = [
+    ("x if y else 'a'",
+     "([[y and [x] | length == 1 or not y and [] | length == 1] | length] | join)"),
+    ("x | default('a', true)", "([[x | default('a')] | length] | join)"),
+    ("(x == 1) | ternary(omit, y)", "([[x == 1, y] | length] | join)"),
+    ("x[0]", "x[0]"), ("x", "x"),
+]
 RENAMED = [
     ("one.a + one['one'] + x.one + x. one", "item.a + item['one'] + x.one + x. one"),
     ("'one' ~ one ~ \"one\" ~ ones ~ someone", "'one' ~ item ~ \"one\" ~ ones ~ someone"),
@@ -59,6 +106,8 @@ def wrong_rewritings():
     sys.path.insert(0, str(TOP / "ansible"))
     from playcheck_ansible.literals import plain_defaults, plain_truths
     from playcheck_ansible.loops import renaming
+    from playcheck_ansible.parts import TRUE_TEXTS
+    from playcheck_ansible.stand_ins import stand_ins
 
     rename = renaming("one")
     cases = [(plain_truths, *case) for case in TRUTHS] + [(plain_truths, text, text) for text in KEPT_TRUTHS]
@@ -66,6 +115,14 @@ def wrong_rewritings():
     for change, text, wanted in cases:
         if change(text, Values()) != wanted:
             yield f"{change.__name__}: {text}: wanted {wanted}, found {change(text, Values())}"
+    stood_in = [*STOOD_IN, *((text, text) for text in KEPT_FORMS)]
+    for text, wanted, is_loose in [*((*case, False) for case in stood_in), *((*case, True) for case in LOOSE)]:
+        found = stand_ins(text, is_loose).replace(TRUE_TEXTS, "[..]")
+        if found != wanted:
+            yield f"stand_ins: {text}: wanted {wanted}, found {found}"
+    if sorted(TRUE_TEXTS[2:-2].split("', '")) != sorted({way for word in ("yes", "on", "1", "true")
+                                                         for way in map("".join, product(*zip(word, word.upper())))}):
+        yield f"stand_ins: the texts that are true: {TRUE_TEXTS}"
     for text, wanted in RENAMED:
         if rename(text) != wanted:
             yield f"loop_variables: {text}: wanted {wanted}, found {rename(text)}"

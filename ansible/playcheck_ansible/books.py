@@ -36,6 +36,10 @@ class Task:
     outer_names: set = field(default_factory=set)  # those that `vars` and words round it mention
     collections: list = field(default_factory=list)  # those in which a short name of its module is looked for
     mistakes: list = field(default_factory=list)  # what the documentation of its module forbids
+    is_below_condition: bool = False  # a block round it has a condition
+    may_ignore: Optional[Scalar] = None  # a template in the place of `ignore_errors`
+    facts: list = field(default_factory=list)  # what sets the further facts that it gathers
+    has_no_bound: bool = False  # how often it is tried isn't known, or more often than the profile has it
 
     def __post_init__(self):
         self.written = self.words.copy()
@@ -64,7 +68,8 @@ class Block:
     asked: list = field(default_factory=list)
     defaults: dict = field(default_factory=dict)  # what a role gives where nothing else does
     is_role: bool = False  # the collections of its play aren't its
-    may_be_passed: bool = False  # an include that sets nothing where its condition doesn't hold
+    is_include: bool = False  # it has tags of its own, and where its condition is false it sets nothing
+    is_asked_once: bool = False  # an include whose condition is asked before its tasks, and not by each of them
     lost: dict = field(default_factory=dict)  # names of `vars` that the profile can't have, with the reason
 
     def __post_init__(self):
@@ -99,6 +104,7 @@ class Play:
     unseen_files: list = field(default_factory=list)  # files of variables that couldn't be read
     lost: dict = field(default_factory=dict)  # names of `vars` that the profile can't have, with the reason
     prompted: set = field(default_factory=set)  # names whose values are asked for at the start
+    facts: list = field(default_factory=list)  # what sets the further facts that it gathers
 
     def __post_init__(self):
         self.written = self.words.copy()
@@ -122,6 +128,7 @@ class Book:
     file: str
     plays: list
     node: Optional[object] = None  # the book itself, where it is no list
+    left_out: list = field(default_factory=list)  # tasks that a run passes by, by their tags
 
     def tasks(self):
         return [task for play in self.plays if isinstance(play, Play) for task in play.tasks()]

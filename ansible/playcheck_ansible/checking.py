@@ -4,16 +4,23 @@ from dataclasses import dataclass, field
 from .books import Block, Play, Raw
 from .codes import OWN_TITLES, TITLES
 from .facts import trust_facts
+from .further_facts import further_facts
 from .hints import hint
 from .hosts import host_patterns, with_localhost
 from .inventory import read_inventories
 from .literals import run_literal_passes
 from .loading import load_book
+from .magic import magic_variables
 from .plays import leave_all, run_book_passes
 from .problems import Place
 from .program import Asker
 from .roles import put_defaults
+from .tags import leave_out
 from .unjudged import CUT, Settler
+
+
+# What a counted line that no file has is called.
+KINDS = {"asked": "task", "facts": "play", "condition": "block"}
 
 
 @dataclass
@@ -46,7 +53,9 @@ class Report:
     notes: list = field(default_factory=list)  # words of plays and blocks that weren't asked
     tasks: int = 0
     judged: int = 0
+    left_out: int = 0  # tasks that a run passes by, by their tags
     budget: int = 0
+    has_bound: bool = True  # the budget is one: no task is tried more often than the profile has it
     is_strict: bool = False  # what isn't judged is refused
 
     @property
@@ -65,20 +74,25 @@ class Options:
     extra: dict = field(default_factory=dict)
     go_on: bool = False
     trusts_facts: bool = False
+    tags: tuple = ()
+    skip_tags: tuple = ()
 
 
 def prepared(path, options, book):
     """The book with its passes run, and the inventory that it is judged with."""
     inventory = read_inventories(options.inventories, path)
+    leave_out(book, options.tags, options.skip_tags)
     plays = [play for play in book.plays if isinstance(play, Play)]
     for play in plays:
         for holder in [play, *(step for step in play.steps() if isinstance(step, Block))]:
             put_defaults(holder, play, inventory)
     run_book_passes(book, options.modules, options.extra)
+    further_facts(book, options.trusts_facts)
     run_literal_passes(book, inventory)
     if options.trusts_facts:
         trust_facts(book)
     added = with_localhost(inventory, plays)
+    magic_variables(book, inventory, options.tags, options.skip_tags)
     for play in plays:
         host_patterns(play, inventory, added)
         if play.reason:
@@ -102,7 +116,7 @@ def check_book(path, options, book=None):
 
 def report_of(path, settler):
     tasks = settler.tasks
-    report = Report(path, tasks=len(tasks))
+    report = Report(path, tasks=len(tasks), left_out=len(settler.book.left_out))
     report.findings = numbered(settler)
     refused = {id(line.step) for line, _ in settler.findings if line is not None and line.step is not None}
     for task in tasks:
@@ -112,6 +126,7 @@ def report_of(path, settler):
     report.notes = [Unjudged(place, "", what) for place, what in settler.notes]
     report.judged = sum(not task.reason or task.reason.startswith(CUT) for task in tasks)
     report.budget = settler.answer.budget
+    report.has_bound = not any(task.has_no_bound for task in tasks)
     return report
 
 
@@ -128,7 +143,7 @@ def finding_of(answer, line, settler):
     found = hint(answer, line, settler)
     source = line.source if line is not None else None
     play = line.play.name if line is not None and line.play is not None else ""
-    kind = {"asked": "task", "facts": "play"}.get(line.kind, line.kind) if line is not None else ""
+    kind = KINDS.get(line.kind, line.kind) if line is not None else ""
     if isinstance(source, Play):
         kind = "play"
     name = source.name if source is not None and not isinstance(source, Raw) else ""

@@ -9,7 +9,7 @@ from .checking import Options, check_book, settled
 from .codes import section_of
 from .converting import write_converted
 from .formats import FORMATS
-from .documented import documentation, signatures_of
+from .documented import documentation, signatures_of, without_file
 from .loading import load_book
 from .looking_up import UNKNOWN, looked_up, used_modules
 from .modules import PROFILE, read_signatures, short_name
@@ -59,6 +59,10 @@ def add_inputs(words):
     words.add_argument("-s", "--signatures", action="append", default=[], metavar="FILE", help="declared modules")
     words.add_argument("-e", "--extra-vars", action="append", default=[], metavar="VARS",
                        help="variables: name=value, an object in braces, or @FILE")
+    words.add_argument("-t", "--tags", action="append", default=[], metavar="TAGS",
+                       help="as Ansible has it: the tasks that a run with these tags takes, the others are left out")
+    words.add_argument("--skip-tags", action="append", default=[], metavar="TAGS",
+                       help="as Ansible has it: tasks with these tags are left out")
     words.add_argument("--trust-facts", action="store_true", help="all six facts are there where facts are gathered")
     words.add_argument("--no-lookup", action="store_true",
                        help="looks no modules up by ansible-doc, where ansible-core is installed")
@@ -109,7 +113,7 @@ def signatures(words):
     for name in names:
         if name not in found:
             told(f"the module {name} isn't declared: {left.get(name, UNKNOWN)}")
-    json.dump(declared, sys.stdout, indent=1)
+    json.dump([without_file(module) for module in declared], sys.stdout, indent=1)
     sys.stdout.write("\n")
     return 0 if declared or not names else BAD_WORDS
 
@@ -122,7 +126,13 @@ def options_of(words):
     for path in words.vars:
         extra.update(variables_in(read_file(path), path))
     modules = read_signatures(words.signatures)
-    return Options(inventories, modules, extra, getattr(words, "go_on", False), words.trust_facts)
+    return Options(inventories, modules, extra, getattr(words, "go_on", False), words.trust_facts,
+                   divided(words.tags), divided(words.skip_tags))
+
+
+def divided(texts):
+    """The tags of options that may be given more than once, each a text with commas."""
+    return tuple(word.strip() for text in texts for word in text.split(",") if word.strip())
 
 
 def variables_of(text):

@@ -99,9 +99,27 @@ def signature_of(name, document):
             ok[option] = {"kind": kind, "always": bool(ALWAYS.fullmatch(str(given.get("returned", "")).strip()))}
     return {"name": declared_name(name), "params": params, "ok": ok, "failure": FAILURE,
             "ansible": {"name": name, "aliases": aliases_of(name, options), "asked": unkinded, "required": required,
+                        **file_of(name, document["doc"]),
                         **({"open": True} if name in OPEN else {}),
                         "choices": {option: choices_of(given) for option, given in options.items()
                                     if choices_of(given)}}}
+
+
+def file_of(name, doc):
+    """The file of a module's text: the documentation of those of ansible-core has all that they take."""
+    file = doc.get("filename")
+    return {"file": file} if "." in name and isinstance(file, str) and file.endswith(".py") else {}
+
+
+def without_file(signature):
+    """A signature for another machine: what the module's text takes beside its documentation is written down."""
+    from .sources import arguments_in
+
+    further = signature["ansible"]
+    file = further.pop("file", None)
+    known = {*signature["params"], *further["asked"], *further["aliases"]}
+    further["asked"] += sorted(arguments_in(file) - known) if file else []
+    return signature
 
 
 def is_required(name, option, given):

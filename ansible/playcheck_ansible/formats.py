@@ -61,7 +61,8 @@ def json_of(report):
         "verdict": "accepted" if report.is_accepted else "refused",
         "tasks": report.tasks,
         "judged": report.judged,
-        "budget": report.budget if report.is_accepted and report.is_whole else None,
+        "left_out": report.left_out,
+        "budget": report.budget if report.is_accepted and report.is_whole and report.has_bound else None,
         "findings": [{
             "code": one.code, "title": one.title, "file": one.place.file, "line": one.place.line,
             "column": one.place.column, "kind": one.kind, "name": one.name, "play": one.play, "host": one.host or None,

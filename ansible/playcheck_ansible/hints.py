@@ -3,6 +3,7 @@ import re
 from dataclasses import dataclass
 
 from .books import TASK_WORDS, Block, Play, Task, is_module
+from .further_facts import FURTHER
 from .modules import PROFILE
 from .names import (CONDITIONS, FACTS, GRAMMAR, expression_names, given_names, names_of_vars, read_places,
                     without_texts)
@@ -117,6 +118,8 @@ def of_holder(answer, line, settler):
     if answer.code == "V06" and isinstance(holder, Play) and holder.words.get("hosts") is not None:
         node = holder.words.get("hosts")
         return Hint(node.place, f"hosts: {shown(node)}")
+    if line.kind == "condition":
+        return Hint(holder.words.get("when").place)
     if line.kind == "asked" and isinstance(holder, (Play, Block)) and holder.asked:
         return Hint(holder.asked[0].place)
     return Hint(holder.place)
@@ -152,7 +155,7 @@ def reading_hint(task, line, settler):
     """A name that is set on some ways alone."""
     for expression, node in read_places(task.words, task.asked):
         for name in ordered_names(expression):
-            if name in PERHAPS_FACTS:
+            if name in PERHAPS_FACTS or name in FURTHER and name not in settler.given():
                 return Hint(node.place, f"'{name}' is a fact that is perhaps missing",
                             f"Guard: when: {name} is defined, or {name} | default('')")
             giver = settler.giver(name)

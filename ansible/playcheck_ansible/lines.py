@@ -3,12 +3,12 @@ from dataclasses import dataclass, field
 from typing import Optional
 
 from .books import PARTS, SECTIONS, Block, Play, Raw, Task
-from .nodes import Scalar, has_template, is_text, plain, texts_of
+from .nodes import Mapping, Scalar, Sequence, has_template, is_text, plain, texts_of
 
 
 @dataclass
 class Line:
-    kind: str  # play, facts, block, task, handler, asked (what a task's words ask)
+    kind: str  # play, facts, block, task, handler, asked (what a task's words ask), condition (of an include)
     play: Optional[Play]
     step: Optional[object] = None
 
@@ -37,6 +37,7 @@ class Printer:
     def __init__(self, unjudged_module):
         self.unjudged_module = unjudged_module
         self.lines = [None]
+        self.conditions = 0
 
     def book(self, book):
         if book.node is not None:
@@ -52,7 +53,8 @@ class Printer:
         printed = {key: plain(part) for key, part in play.words.pairs.items()}
         if printed.get("gather_facts") is True:
             self.lines.append(Line("facts", play))
-        asked = self.asked(play, play.asked, {}, play)
+        asked = self.facts(play, play.facts if printed.get("gather_facts") is True else ())
+        asked += self.asked(play, play.asked, {}, play)
         for section in SECTIONS:
             steps = play.sections.get(section)
             if steps or (asked and section == "tasks"):
@@ -67,7 +69,7 @@ class Printer:
         printed = []
         for step in steps:
             if isinstance(step, Block):
-                printed.append(self.block(step, play))
+                printed += self.included(step, play) if is_asked_once(step) else [self.block(step, play)]
             elif isinstance(step, Task):
                 printed += self.task(step, play)
             else:
@@ -75,10 +77,33 @@ class Printer:
                 printed.append(plain(step.node))
         return printed
 
-    def block(self, block, play):
+    def included(self, block, play):
+        """An include whose condition is asked before its tasks: where it is false, its block is left at its start."""
+        if "vars" in block.words:
+            self.lines.append(Line("block", play, block))
+            outer = {"vars": plain(block.words.get("vars"))}
+            return [{**outer, "block": self.included_steps(block, play)}]
+        return self.included_steps(block, play)
+
+    def included_steps(self, block, play):
+        self.conditions += 1
+        name = f"playcheck_include_{self.conditions}"
+        self.lines.append(Line("condition", play, block))
+        conditions = " and ".join(f"({text.value})" for text in texts_of(block.words.get("when")))
+        first = {"set_fact": {name: "{{ " + conditions + " }}"}}
+        pairs = {key: part for key, part in block.words.pairs.items() if key not in ("when", "vars")}
+        leave = {"fail": {"msg": "the condition is false"}, "when": f"not {name}"}
+        inner = self.block(block, play, Mapping(pairs, block.place), leave)
+        self.lines.append(Line("condition", play, block))
+        return [first, {**inner, "rescue": [{"fail": {"msg": "a task failed"}, "when": name}]}]
+
+    def block(self, block, play, words=None, first=None):
         self.lines.append(Line("block", play, block))
-        printed = {key: plain(part) for key, part in block.words.pairs.items() if key not in PARTS}
-        asked = self.asked(block, block.asked, {}, play)
+        words = words or block.words
+        printed = {key: plain(part) for key, part in words.pairs.items() if key not in PARTS}
+        if first:
+            self.lines.append(Line("condition", play, block))
+        asked = [first] * bool(first) + self.asked(block, block.asked, {}, play)
         for part in PARTS:
             steps = block.parts.get(part)
             if steps is None:
@@ -95,7 +120,21 @@ class Printer:
             self.lines.append(Line(kind, play, task))
             return [*asked, self.unjudged(task, play)]
         self.lines.append(Line(kind, play, task))
-        return [*asked, {key: plain(part) for key, part in task.words.pairs.items()}]
+        return [*asked, {key: plain(part) for key, part in task.words.pairs.items()},
+                *self.not_ignored(task, play), *self.facts(play, task.facts)]
+
+    def facts(self, play, tasks):
+        """What sets further facts behind the task that gathers them."""
+        self.lines += [Line("facts", play)] * len(tasks)
+        return list(tasks)
+
+    def not_ignored(self, task, play):
+        """Behind a task whose `ignore_errors` is a template: where that is false, the host may end here."""
+        if task.may_ignore is None:
+            return []
+        self.lines.append(Line("asked", play, task))
+        given = {"vars": plain(task.words.get("vars"))} if "vars" in task.words else {}
+        return [{"fail": {"msg": "the task failed"}, "when": f"not ({task.may_ignore.value})", **given}]
 
     def asked(self, source, values, scope, play):
         """A message of the templates that stand in words which are passed over, so that they are asked."""
@@ -115,7 +154,7 @@ class Printer:
         if task.is_handler and topics:
             printed["listen"] = topics
         ignores = task.words.get("ignore_errors")
-        if isinstance(ignores, Scalar) and ignores.value is True:
+        if isinstance(ignores, Scalar) and ignores.value is True and task.may_ignore is None:
             printed["ignore_errors"] = True
         notified = self.notified(task, play)
         if notified:
@@ -129,6 +168,11 @@ class Printer:
         if task.notifies_any or any(has_template(text) for text in texts):
             texts = [text for text in texts if not has_template(text)] + later_handlers(task, play)
         return list(dict.fromkeys(texts))
+
+
+def is_asked_once(block):
+    """Whether the condition of a block is that of an include which can stand before it."""
+    return block.is_asked_once and bool(texts_of(block.words.get("when") or Sequence([], block.place)))
 
 
 def later_handlers(task, play):

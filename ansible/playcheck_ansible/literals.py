@@ -1,11 +1,12 @@
-# The passes that follow from literal values: `bool` and `default(.., true)` where all values of a name are known.
+# The passes over expressions: `bool` and `default(.., true)` where all values of a name are known, and stand_ins.py.
 import re
 
 from .books import Block, Raw, Task
 from .inventory import is_opaque
-from .names import KNOWN, MAGIC, TEXT, given_names
-from .nodes import Mapping, is_literal, plain
+from .names import KNOWN, MAGIC, TEXT, expression_names, given_names, outside_form
+from .nodes import Mapping, Scalar, is_literal, plain
 from .rewriting import changed_texts, rewrite_words
+from .stand_ins import stand_ins
 
 # What Ansible's filter `bool` takes as true; any other text is false.
 TRUTHS = ("yes", "on", "1", "true")
@@ -21,16 +22,30 @@ def run_literal_passes(book, inventory):
     values = Values(book, inventory)
 
     def change(expression):
-        for one in LITERAL_PASSES:
-            expression = one(expression, values)
-        return expression
+        return stand_ins(plain_defaults(plain_truths(expression, values), values))
+
+    def change_asked(expression):
+        return stand_ins(change(expression), True)
 
     for play in book.plays:
         if isinstance(play, Raw):
             continue
         for one in [play, *(step for step in play.steps() if isinstance(step, (Block, Task)))]:
+            if "debug" in one.words:
+                one.words.put("debug", changed_texts(one.words.get("debug"), change_asked))
             rewrite_words(one.words, change)
-            one.asked = [changed_texts(node, change) for node in one.asked]
+            one.asked = [changed_texts(node, change_asked) for node in one.asked]
+            if isinstance(one, Task) and one.may_ignore is not None:
+                ignored(one, change)
+
+
+def ignored(task, change):
+    """A template in the place of `ignore_errors` has to be a condition of the profile."""
+    node = task.may_ignore
+    task.may_ignore = Scalar(change(f"({node.value}) | bool"), node.place, node.text, True)
+    what = outside_form(task.may_ignore.value)
+    if what or "item" in expression_names(node.value):
+        task.leave(f"`ignore_errors` with {what or '`item`'}", node.place)
 
 
 class Values:
@@ -150,4 +165,4 @@ def literal(text):
     return (quoted[1] if quoted[1] is not None else quoted[2]) if quoted else None
 
 
-LITERAL_PASSES = (plain_truths, plain_defaults)
+EXPRESSION_PASSES = (plain_truths, plain_defaults, stand_ins)

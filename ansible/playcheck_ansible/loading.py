@@ -1,15 +1,17 @@
 # Reads a book and puts the files in place that it imports or includes by literal names.
 import os
+import re
 from dataclasses import dataclass, field, replace
 
 from .books import PARTS, SECTIONS, Block, Book, Play, Raw, Task, items_of, steps_below
 from .modules import INCLUDES, short_name
-from .names import expression_names, given_names
-from .nodes import Mapping, Scalar, Sequence, has_template, is_nothing, is_text, plain, texts_of
+from .names import expression_names, given_names, mentioned
 from .looking_up import note_collections
+from .nodes import Mapping, Scalar, Sequence, has_template, is_nothing, is_text, made, plain, texts_of
 from .positions import read_file
 from .problems import Place, Problem
 from .roles import block_words, put_handlers, put_play_variables, role_of
+from .tags import tags_of
 
 MOST_INCLUDES = 32
 MOST_FILES = 1000
@@ -107,6 +109,9 @@ def add_words(play, item, key):
             play.words.put("vars", merged)
         elif word == "when":
             play.reason = play.reason or "it is imported under a condition"
+        elif word == "tags":
+            tags = sorted(tags_of(item) | tags_of(play.words))
+            play.words.put("tags", made(tags, part.place))
         elif word not in (key, "name"):
             play.asked.append(part)
 
@@ -188,13 +193,11 @@ def included_role(task, kind, key, context):
     words = task.words.copy()
     words.take(key)
     bars = [word for word in words.pairs if word in BARS_INCLUDE or word.startswith("with_")]
-    if kind == "include_role" and mentions_any(words.get("when"), names):
+    if kind == "include_role" and mentions_any(words.get("when"), names) and not is_asked_once(words, [block]):
         bars.append("when")
     if bars:
         return [left_whole(task, kind, bars[0], [block], names)]
-    outer = Block(words, task.place, {"block": [block]})
-    outer.may_be_passed = kind == "include_role" and "when" in words
-    return [outer]
+    return [included_block(task, kind, words, [block])]
 
 
 def left_include(task, what):
@@ -315,15 +318,32 @@ def put_in_place(task, kind, key, path, context):
     if context.is_handlers and (set(words.pairs) - {"name"} or kind == "include_tasks"):
         bars.append("handlers")
     names = set().union(set(), *(given_names(step) for step in tasks_below(steps)))
-    if kind == "include_tasks" and mentions_any(words.get("when"), names):
+    if kind == "include_tasks" and mentions_any(words.get("when"), names) and not is_asked_once(words, steps):
         bars.append("when")
     if bars:
         return [left_whole(task, kind, bars[0], steps, names)]
     if context.is_handlers or not set(words.pairs) - {"name"}:
         return steps
-    block = Block(words, task.place, {"block": steps})
-    block.may_be_passed = kind == "include_tasks" and "when" in words
-    return [block]
+    return [included_block(task, kind, words, steps)]
+
+
+def included_block(task, kind, words, steps):
+    """What stands in the place of a task that names a file or a role: of an include its words aren't its tasks'."""
+    block = Block(words, task.place, {"block": steps}, is_include=kind.startswith("include"))
+    if block.is_include:
+        words.take("ignore_errors")
+        block.is_asked_once = is_asked_once(words, steps)
+    return block
+
+
+def is_asked_once(words, steps):
+    """Whether an include's condition can stand before its tasks: none of them needs to know what it has tested."""
+    node = words.get("when")
+    texts = texts_of(node) if node is not None else []
+    tests = [text.value for text in texts if re.search(r"\b(un)?defined\b", text.value)]
+    tested = set().union(*map(expression_names, tests))
+    return bool(texts) and not any(tested & mentioned(step.words) for step in steps_below(steps)
+                                   if isinstance(step, (Block, Task)))
 
 
 def mentions_any(node, names):

@@ -79,6 +79,7 @@ class Modules:
         self.asked = {name: set(given) for name, given in PASSED_OVER.items()}
         self.written = {}  # Ansible's name of a module to the one that it is declared under
         self.open = set()  # modules that take any parameter
+        self.files = {}  # of a module of a collection the file of its text
         self.documented = {}  # of a module whose signature comes of its documentation: Documented
         for module in self.declared:
             params = module.get("params", {})
@@ -93,11 +94,23 @@ class Modules:
             self.aliases[name] = dict(further.get("aliases") or {})
             self.asked[name] = set(further.get("asked") or [])
             self.open |= {name} if further.get("open") else set()
+            if "file" in further:
+                self.files[name] = further["file"]
             self.documented[name] = Documented(further.get("name", name), set(module.get("ok") or {}),
                                                further.get("choices") or {}, further.get("required") or [])
 
     def has(self, name):
         return name in self.parameters
+
+    def further(self, name, given):
+        """Those of these parameters that the documentation of a module lacks and its text has."""
+        known = {*self.parameters[name], *self.asked.get(name, ()), *self.aliases.get(name, {})}
+        unknown = [one for one in given if one not in known] if name in self.files else []
+        if not unknown:
+            return set()
+        from .sources import arguments_in  # read where it is wanted: few books give such a parameter
+
+        return set(unknown) & arguments_in(self.files[name])
 
     def unjudged_name(self):
         """The name of the module that stands in the place of a task that isn't judged."""
@@ -148,6 +161,7 @@ def read_signatures(paths):
 def is_documentation(further):
     """Whether the field that only playcheck-ansible reads has its form."""
     return (isinstance(further, dict) and isinstance(further.get("name", ""), str)
+            and isinstance(further.get("file", ""), str)
             and is_names(further.get("asked", [])) and is_names(further.get("required", []))
             and isinstance(further.get("aliases", {}), dict) and is_names(list(further.get("aliases", {}).values()))
             and isinstance(further.get("choices", {}), dict)

@@ -19,6 +19,7 @@ FLOW = ("run_once", "any_errors_fatal", "ignore_unreachable", "delegate_facts", 
         "module_defaults", "max_fail_percentage")
 TRUTHS = ("ignore_errors", "run_once", "any_errors_fatal", "ignore_unreachable", "delegate_facts", "check_mode",
           "gather_facts", "force_handlers")
+MOST_RETRIES = 255
 EMPTY = {"text": "", "bool": False, "int": 0, "list": [], "ints": []}
 PATH = re.compile(r"[A-Za-z_][\w.'\"\[\]]*")
 ENDS = ("end_host", "end_play", "end_batch", "end_role")
@@ -43,6 +44,13 @@ def plain_keywords(task, modules):
         words.put("retries", as_int(words.get("retries")))
         if "until" not in words:
             task.asked.append(words.take("retries"))
+        else:
+            bounded_retries(task)
+    ignores = words.get("ignore_errors")
+    if is_whole(ignores) and not task.is_handler:
+        task.asked.append(ignores)
+        task.may_ignore = Scalar(ignores.value.strip()[2:-2].strip(), ignores.place, ignores.text, True)
+        words.put("ignore_errors", made(True, ignores.place))
     for key in ("name", "register"):
         node = words.get(key)
         if isinstance(node, Scalar) and isinstance(node.value, (int, float)):
@@ -50,6 +58,17 @@ def plain_keywords(task, modules):
     for key in ("when", "vars", "notify", "loop", "changed_when", "failed_when", "name", "tags", "args"):
         if key in words and is_nothing(words.get(key)):
             words.take(key)
+
+
+def bounded_retries(task):
+    """More tries than the profile has are as many as it has, and a template is any number: the verdict has no bound."""
+    node = task.words.get("retries")
+    is_number = isinstance(node.value, int) if isinstance(node, Scalar) else False
+    if is_number and node.value > MOST_RETRIES or is_whole(node):
+        task.has_no_bound = True
+        task.words.put("retries", made(MOST_RETRIES, node.place))
+        if not is_number:
+            task.asked.append(node)
 
 
 def plain_conditions(task, modules):
@@ -165,14 +184,34 @@ def flow_words(task, modules):
         if node is None:
             continue
         is_off = isinstance(node, Scalar) and node.value in (False, None)
-        if is_off or (key == "poll" and "async" not in task.words):
+        if is_off and key != "poll" or key in ONLY_BY_RESULT and not ONLY_BY_RESULT[key](task):
             task.words.take(key)
         else:
             task.leave(f"`{key}` changes the flow", node.place)
             return
-    tags = task.words.get("tags")
-    if tags is not None and "never" in str(plain(tags)):
-        task.leave("with the tag `never` it is run only where it is asked for", tags.place)
+
+
+def checks_alone(task):
+    """In the check mode a module may be skipped, which its register would say."""
+    return "register" in task.words
+
+
+def runs_for_all(task):
+    """Of a task that is run for one host, the others get the result: it hangs on that host's condition and values."""
+    loops = any(key == "loop" or key.startswith("with_") for key in task.words.pairs)
+    facts = task.words.get("set_fact")
+    return ("register" in task.words and (task.is_below_condition or "when" in task.words or loops)
+            or facts is not None and not is_literal(facts))
+
+
+def is_left_running(task):
+    """A task that isn't waited for registers the number of its job."""
+    poll = task.words.get("poll")
+    return poll is not None and as_int(poll).value == 0 and "register" in task.words
+
+
+ONLY_BY_RESULT = {"check_mode": checks_alone, "run_once": runs_for_all, "async": is_left_running,
+                  "poll": lambda task: False}
 
 
 def passed_words(task, modules):
@@ -271,7 +310,7 @@ def parameters(task, modules):
         words = [str(plain(item)) for item in node.take("argv").items]
         node.put("cmd", made(" ".join(words), node.place))
     rename(node, modules.aliases.get(module, {}))
-    passed = modules.asked.get(module, ())
+    passed = {*modules.asked.get(module, ()), *modules.further(module, node.pairs)}
     if module in modules.open:
         passed = {*passed, *node.pairs} - set(modules.parameters[module])
     pass_over_parameters(task, node, sorted(passed))

@@ -183,8 +183,6 @@ def play_words(play, extra):
             play.reason = play.reason or "`module_defaults` give parameters"
         elif word == "order" and node is not None and "serial" in play.words:
             play.reason = play.reason or "`order` decides which hosts are in a batch"
-        elif word == "tags" and node is not None and "never" in str(plain(node)):
-            play.reason = play.reason or "with the tag `never` it is run only where it is asked for"
         elif node is not None:
             play.asked.append(node)
     lost_variables(play)
@@ -237,13 +235,17 @@ def block_words(block, extra):
         words.put("when", without_braces(words.get("when")))
     plain_name(words)
     below = [step for step in steps_below([block]) if isinstance(step, Task)]
+    if "when" in words:
+        for task in below:
+            task.is_below_condition = True
+    once = words.take("run_once")
+    for task in below if once is not None else ():
+        if "run_once" not in task.words:
+            task.words.put("run_once", as_bool(once))
     for word in FLOW:
         node = words.take(word)
         if node is not None and not (isinstance(node, Scalar) and node.value in (False, None)):
             leave_all(below, f"`{word}` of its block changes the flow")
-    tags = words.get("tags")
-    if tags is not None and "never" in str(plain(tags)):
-        leave_all(below, "with the tag `never` its block is run only where it is asked for")
     for word in PASSED:
         node = words.take(word)
         if node is not None:

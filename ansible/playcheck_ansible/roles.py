@@ -85,7 +85,17 @@ def read_role(name, folder, words, start):
     role.needs = items_of(node.get("dependencies")) or [] if isinstance(node, Mapping) else []
     if isinstance(node, Mapping) and "collections" in node and "collections" not in words:
         words.put("collections", node.get("collections"))
+    put_own_collection(role)
     return role
+
+
+def put_own_collection(role):
+    """A role that is named with its collection looks for short names there first."""
+    own, dot, _ = role.name.rpartition(".")
+    if dot and role.folder.split(os.sep)[-4:-2] == own.split("."):
+        given = role.words.get("collections")
+        others = given.items if isinstance(given, Sequence) else [given] if given is not None else []
+        role.words.put("collections", made([own, *others], role.words.place))
 
 
 def role_file(folder, part, name):

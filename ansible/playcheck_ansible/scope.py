@@ -1,5 +1,6 @@
 # What a book gives to its tasks: names, the places where they are given, and the blocks round a task.
 from .books import Block, Play, Raw
+from .further_facts import FURTHER
 from .names import KNOWN, given_names, mentioned, names_of_vars
 from .nodes import Mapping
 
@@ -34,7 +35,7 @@ class Scope:
 
     def names_in_scope(self, task):
         """All names that anything gives; `item` in a loop alone."""
-        names = set().union(self.outside, KNOWN, *(given_names(one) for one in self.tasks),
+        names = set().union(self.outside, KNOWN, FURTHER, *(given_names(one) for one in self.tasks),
                             *(names_of_vars(holder.words) for holder in [task, *self.holders.get(id(task), [])]))
         return names if "loop" in task.words else names - {"item"}
 

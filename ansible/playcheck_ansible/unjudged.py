@@ -2,10 +2,12 @@
 import re
 
 from .books import Block, Play, Raw, Task, is_module, steps_below
+from .further_facts import FURTHER
 from .hints import culprit, nearest
 from .lines import Line, Printer
+from .magic import outside_names
 from .modules import CHANGES_FLOW, PROFILE, SETS_UNSEEN
-from .names import (FACTS, KNOWN, MAGIC, given_names, mentioned, names_of_vars, outside_form,
+from .names import (FACTS, KNOWN, given_names, mentioned, names_of_vars, outside_form,
                     outside_node, read_places, without_texts)
 from .nodes import Mapping, has_template, is_text, texts_of
 from .scope import Scope
@@ -29,6 +31,7 @@ class Settler(Scope):
         super().__init__(book, inventory)
         self.modules, self.asker = modules, asker
         self.opaque = inventory.opaque_names()
+        self.is_outside = outside_names(book)
         self.reads = {id(task): names_read(task) for task in self.tasks}
         self.findings = []
         # What isn't asked beside tasks: words of plays and blocks, and files of variables, with their places.
@@ -77,7 +80,7 @@ class Settler(Scope):
 
     def is_outside_fact(self, name):
         is_known = name in KNOWN or name in self.outside or name in self.given()
-        return not is_known and (name in MAGIC or name.startswith("ansible_"))
+        return not is_known and self.is_outside(name)
 
     def tainted(self):
         """The names that may hold what isn't judged, each with the reason."""
@@ -101,12 +104,12 @@ class Settler(Scope):
     def taint_forgotten(self, tainted):
         """What tasks set may be gone where hosts that failed come back, or facts are cleared."""
         for task in [task for task in self.tasks if task.forgets]:
-            for name in {*FACTS, "ansible_facts"}.union(*(given_names(one) for one in self.tasks)):
+            for name in {*FACTS, *FURTHER, "ansible_facts"}.union(*(given_names(one) for one in self.tasks)):
                 tainted.setdefault(name, f"it may be gone behind line {task.place.line}")
 
     def taint_passed(self, block, tainted):
         """An include under a condition runs whole or sets nothing; the tasks of a block are skipped one by one."""
-        for step in steps_below([block]) if block.may_be_passed else ():
+        for step in steps_below([block]) if is_passed(block) else ():
             for name in given_names(step) if isinstance(step, Task) else ():
                 tainted.setdefault(name, f"it is set by an include on line {block.place.line} that may be passed")
 
@@ -119,7 +122,7 @@ class Settler(Scope):
                 for name in given_names(task):
                     tainted.setdefault(name, f"it is set behind line {tasks[ends[0]].place.line}, which ends the play")
         if play.reason:
-            for name in (*FACTS, "ansible_facts"):
+            for name in (*FACTS, *FURTHER, "ansible_facts"):
                 tainted.setdefault(name, f"the play on line {play.place.line} isn't judged")
 
     def taint_vars(self, tainted):
@@ -331,6 +334,10 @@ class Settler(Scope):
         if answer.code in ("V05", "V12"):
             line.step.words.take("notify")
         return True
+
+
+def is_passed(block):
+    return block.is_include and not block.is_asked_once and "when" in block.words
 
 
 def holder_kind(holder):

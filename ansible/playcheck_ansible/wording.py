@@ -10,7 +10,8 @@ def message_of(finding):
 
 
 def count_of(report):
-    return f"{report.judged} of {report.tasks} tasks judged"
+    left_out = f", {report.left_out} left out by tags" if report.left_out else ""
+    return f"{report.judged} of {report.tasks} tasks judged{left_out}"
 
 
 def verdict_of(report):
@@ -20,5 +21,5 @@ def verdict_of(report):
         return f"{report.book}: refused, {found}, {count_of(report)}"
     if not report.is_accepted:
         return f"{report.book}: refused by --strict, {count_of(report)}"
-    budget = f", at most {report.budget} module calls" if report.is_whole else ""
+    budget = f", at most {report.budget} module calls" if report.is_whole and report.has_bound else ""
     return f"{report.book}: accepted, {count_of(report)}{budget}"

@@ -1,0 +1,94 @@
+# Names that Ansible itself gives: those whose kind is known become variables of the inventory or of a play.
+import os
+import re
+
+from .books import Block, Raw, Task
+from .further_facts import FURTHER
+from .names import MAGIC
+from .nodes import Mapping, Scalar, texts_of
+
+# What holds in a run without options for it, on each host; the versions and the number of forks stand for any.
+ALWAYS = {
+    "ansible_check_mode": False, "ansible_diff_mode": False, "ansible_verbosity": 0, "ansible_forks": 5,
+    "ansible_playbook_python": "/usr/bin/python3",
+    "ansible_version": {"full": "2.14.0", "string": "2.14.0", "major": 2, "minor": 14, "revision": 0},
+}
+# Lists of all hosts of a play.
+HOSTS = ("ansible_play_hosts", "ansible_play_hosts_all", "play_hosts")
+# What a play's tasks see and `hostvars` doesn't: a host is reached under its own name where nothing else is given.
+OF_PLAY = {"ansible_host": "{{ inventory_hostname }}{{ '' }}", "ansible_ssh_host": "{{ inventory_hostname }}{{ '' }}",
+           "ansible_connection": "ssh"}
+# Variables of the inventory, or of the command line, that say how a host is reached: nothing else gives them.
+GIVEN = re.compile(r"ansible_(?:(?:ssh_)?(?:user|pass|password|port|private_key_file|common_args|extra_args)|network_os"
+                   r"|become(?:_\w+)?|python_interpreter|shell_type|limit|(?:winrm|httpapi|netconf)_\w+)")
+# Keywords that give some of them too.
+KEYWORDS = {"remote_user": "user", "port": "port"}
+NAMES = re.compile(r"\b(?:ansible_\w+|play_hosts|playbook_dir|inventory_hostname_short)\b")
+
+
+def magic_variables(book, inventory, tags=(), skip_tags=()):
+    """Gives the names that the book reads and that nothing else gives; those with a known value get that."""
+    plays = [play for play in book.plays if not isinstance(play, Raw)]
+    read = {name for play in plays for holder in holders(play) for name in names_in(holder)} - given_in(plays)
+    known = {name: value for name, value in {
+        **ALWAYS, **dict.fromkeys(HOSTS, inventory.all_hosts()),
+        "ansible_run_tags": list(tags) or ["all"], "ansible_skip_tags": list(skip_tags),
+        "playbook_dir": os.path.dirname(os.path.abspath(book.file))}.items() if name in read}
+    missing = {name: value for name, value in known.items() if name not in inventory.names()}
+    if missing:
+        inventory.group("all")["vars"].update(missing)
+    if "inventory_hostname_short" in read:
+        for host, variables in inventory.hosts.items():
+            variables.setdefault("inventory_hostname_short", host.partition(".")[0])
+    for play in plays:
+        give_connections(play, {name for name in OF_PLAY if name in read and not inventory.all_have(name)})
+
+
+def holders(play):
+    return [play, *(step for step in play.steps() if isinstance(step, (Block, Task)))]
+
+
+def names_in(holder):
+    for node in [*holder.words.pairs.values(), *holder.asked]:
+        for text in texts_of(node):
+            yield from NAMES.findall(text.value)
+
+
+def given_in(plays):
+    """Names that `vars` or `set_fact` of a book give."""
+    found = set()
+    for holder in (holder for play in plays for holder in holders(play)):
+        for key in ("vars", "set_fact"):
+            node = holder.words.get(key)
+            found |= set(node.pairs) if isinstance(node, Mapping) else set()
+    return found
+
+
+def give_connections(play, names):
+    given = play.words.get("vars")
+    if names and (given is None or isinstance(given, Mapping)):
+        merged = given.copy() if given is not None else Mapping({}, play.place)
+        for name in sorted(names):
+            merged.put(name, Scalar(OF_PLAY[name], play.place, OF_PLAY[name], True))
+        play.words.put("vars", merged)
+
+
+def outside_names(book):
+    """Answers whether a name is one that Ansible gives and the profile lacks."""
+    keywords = {word for play in book.plays if not isinstance(play, Raw) for holder in holders(play)
+                for word in KEYWORDS if word in holder.written}
+    may_gather = any(is_gathering(play) for play in book.plays if not isinstance(play, Raw))
+    by_keyword = {f"ansible_{way}{KEYWORDS[word]}" for word in keywords for way in ("", "ssh_")}
+
+    def is_outside(name):
+        is_given = name in FURTHER or GIVEN.fullmatch(name) and name not in by_keyword
+        return name in MAGIC or name in by_keyword or name.startswith("ansible_") and may_gather and not is_given
+
+    return is_outside
+
+
+def is_gathering(play):
+    """Whether facts may be set that the book doesn't show: by gathering, or by a task that isn't judged."""
+    node = play.words.get("gather_facts")
+    return not isinstance(node, Scalar) or node.value is not False or any(
+        task.module() == "setup" or task.reason for task in play.tasks())

@@ -1,0 +1,299 @@
+# Reads an expression as Jinja does, and writes with the profile's forms what it can; the pass `stand_ins`.
+import re
+from functools import lru_cache
+
+from .parts import (AND, NOT, OPERAND, OR, PLAIN, RELATION, Part, Unfit, all_read, as_text, calculated, chained, chosen,
+                    compared, defaulted, denied, is_pattern, literal_part, stand_in, truth)
+
+TOKEN = re.compile(r"\s*(?:(?P<text>'(?:[^'\\]|\\.)*'|\"(?:[^\"\\]|\\.)*\")|(?P<float>\d+\.\d+)|(?P<int>\d+)"
+                   r"|(?P<name>[A-Za-z_]\w*)|(?P<sign>==|!=|<=|>=|//|\*\*|[-+*/%~<>=()\[\].,|]))")
+WORDS = {"true": True, "True": True, "false": False, "False": False, "none": None, "None": None}
+# Filters that give a text of whatever they are given, of a text alone; with how many arguments.
+TEXT_OF_ANY = {"lower": 0, "upper": 0, "string": 0, "trim": 0, "capitalize": 0, "title": 0, "replace": 2, "quote": 0,
+               "to_json": 0, "to_nice_json": 0, "type_debug": 0}
+TEXT_OF_TEXT = {"basename": 0, "dirname": 0, "b64encode": 0}
+# Tests of a result by another name.
+RESULT_TESTS = {"failed": "failed", "failure": "failed", "succeeded": "succeeded", "success": "succeeded",
+                "successful": "succeeded", "changed": "changed", "change": "changed", "skipped": "skipped",
+                "skip": "skipped"}
+SORTS = ("boolean", "string", "number", "integer", "float", "mapping", "sequence")
+# Methods of texts, with what they give.
+METHODS = {"lower": "text", "upper": "text", "strip": "text", "lstrip": "text", "rstrip": "text", "title": "text",
+           "capitalize": "text", "replace": "text", "startswith": "bool", "endswith": "bool", "find": "int",
+           "split": "split"}
+LONGEST = 4000
+DEEPEST = 24
+SUSPECT = re.compile(r"[|+*/%~(\[]|-\s|\bi[sf]\b")
+
+
+@lru_cache(4096)
+def stand_ins(expression, is_loose=False):
+    """The expression with the profile's forms; `is_loose` where only what it reads counts, and not its kind."""
+    inside = re.fullmatch(r"\{\{(?!-)(.*)(?<!-)\}\}", expression, re.S)
+    written = inside[1] if inside else expression
+    if not SUSPECT.search(written):
+        return expression
+    try:
+        reader = Reader(written)
+        part = reader.whole()
+        if part.text is None and is_loose:
+            part = stand_in("text", part.read())
+        new = part.at(OR)
+    except Unfit:
+        return expression
+    if len(new) > LONGEST or re.sub(r"\s", "", new) == re.sub(r"\s", "", written):
+        return expression
+    return "{{ " + new + " }}" if inside else new
+
+
+class Reader:
+    """A reader by descent; what it can't read or write is Unfit, and then the expression stays as it is."""
+
+    def __init__(self, text):
+        self.tokens, at = [], 0
+        text = text.rstrip()
+        while at < len(text):
+            found = TOKEN.match(text, at)
+            if not found:
+                raise Unfit
+            self.tokens.append((found.lastgroup, found[found.lastgroup]))
+            at = found.end()
+        self.tokens.append(("end", ""))
+        self.at = self.depth = 0
+
+    def is_next(self, *words):
+        kind, word = self.tokens[self.at]
+        return kind in ("name", "sign") and word in words
+
+    def take(self, *words):
+        """The next token, where it is one of these words."""
+        return self.next()[1] if not words or self.is_next(*words) else ""
+
+    def next(self):
+        kind, word = self.tokens[self.at]
+        if kind == "end":
+            raise Unfit
+        self.at += 1
+        return kind, word
+
+    def want(self, word):
+        if not self.take(word):
+            raise Unfit
+
+    def whole(self):
+        part = self.choice()
+        if self.tokens[self.at][0] != "end":
+            raise Unfit
+        return part
+
+    def deeper(self, below):
+        """A part inside another one: what nests too deep stays as it is."""
+        if self.depth >= DEEPEST:
+            raise Unfit
+        self.depth += 1
+        part = below()
+        self.depth -= 1
+        return part
+
+    def choice(self):
+        part = self.deeper(self.alternatives)
+        if self.take("if"):
+            condition = self.alternatives()
+            self.want("else")
+            part = chosen(condition, part, self.deeper(self.choice))
+        return part
+
+    def alternatives(self):
+        return self.chain("or", self.conjunction, OR)
+
+    def conjunction(self):
+        return self.chain("and", self.negation, AND)
+
+    def chain(self, word, below, level):
+        parts = [below()]
+        while self.take(word):
+            parts.append(below())
+        return parts[0] if len(parts) == 1 else chained(word, parts, level)
+
+    def negation(self):
+        return denied(self.deeper(self.negation)) if self.take("not") else self.relation()
+
+    def relation(self):
+        left = self.sum()
+        sign = self.take("==", "!=", "<", "<=", ">", ">=", "in")
+        if not sign and self.is_next("not") and self.tokens[self.at + 1] == ("name", "in"):
+            self.at += 2
+            sign = "not in"
+        return compared(left, sign, self.sum()) if sign else left
+
+    def sum(self):
+        return self.calculation(("+", "-"), self.joined)
+
+    def joined(self):
+        return self.calculation(("~",), self.product)
+
+    def product(self):
+        return self.calculation(("*", "/", "//", "%"), self.operand)
+
+    def calculation(self, signs, below):
+        left = below()
+        while self.is_next(*signs):
+            left = calculated(left, self.take(), below())
+        return left
+
+    def operand(self):
+        part = self.plain()
+        while self.is_next("|", "is"):
+            part = self.filter(part) if self.take() == "|" else self.test(part)
+        return part
+
+    def plain(self):
+        kind, word = self.next()
+        if kind == "text":
+            return literal_part(word[1:-1], word, "text")
+        if kind == "int":
+            return literal_part(int(word), word, "int")
+        if kind == "float":
+            return Part(None, "float", literal=(float(word),))
+        if kind == "sign" and word == "-" and self.tokens[self.at][0] == "int":
+            return literal_part(-int(self.tokens[self.at][1]), "-" + self.take(), "int")
+        if kind == "sign" and word == "(":
+            part = self.choice()
+            self.want(")")
+            return part
+        if kind == "sign" and word == "[":
+            return self.list()
+        if kind != "name" or word in ("if", "else"):
+            raise Unfit
+        if word == "omit":
+            return Part(None, "omit", literal=(None,))
+        if word in WORDS:
+            return literal_part(WORDS[word], word, "bool" if WORDS[word] is not None else "none")
+        return self.lookup() if word in ("lookup", "query") else self.path(word)
+
+    def list(self):
+        parts = []
+        while not self.take("]"):
+            parts.append(self.choice())
+            if not self.is_next("]"):
+                self.want(",")
+        return Part("[" + ", ".join(part.at(OR) for part in parts) + "]")
+
+    def lookup(self):
+        """Of look-ups one of the environment gives a text whatever it is asked for."""
+        parts = self.arguments() if self.is_next("(") else []
+        if len(parts) != 2 or not parts[0].literal or parts[0].literal[0] != "env":
+            raise Unfit
+        return stand_in("text", parts[1].read())
+
+    def path(self, text):
+        is_host = text in ("hostvars", "groups")
+        part = Part(text, is_path=True)
+        while self.is_next(".", "["):
+            if self.take() == ".":
+                kind, word = self.next()
+                if kind != "name":
+                    raise Unfit
+                if self.is_next("("):
+                    part = self.method(part, word)
+                    continue
+                if part.text is None or not part.is_path:
+                    raise Unfit
+                part = Part(f"{part.text}.{word}", is_path=True)
+            else:
+                part = self.step(part, is_host)
+        if self.is_next("("):
+            raise Unfit
+        return part
+
+    def step(self, part, is_host):
+        kind, word = self.next()
+        index = word + self.next()[1] if (kind, word) == ("sign", "-") else word
+        self.want("]")
+        if part.kind == "split" and index in ("0", "-1"):
+            return stand_in("text", part.read())
+        if not part.is_path or not (kind == "text" or is_host and kind in ("int", "name")):
+            raise Unfit
+        return Part(f"{part.text}[{index}]", is_path=True)
+
+    def method(self, part, word):
+        given = self.arguments()
+        kind = METHODS.get(word)
+        if kind is None or word == "split" and not given or any(one.kind != "text" for one in given):
+            raise Unfit
+        return stand_in(kind, (*as_text(part), *all_read(given)))
+
+    def arguments(self):
+        """The arguments of a call: parts, the named ones without their names."""
+        self.want("(")
+        parts = []
+        while not self.take(")"):
+            if self.tokens[self.at][0] == "name" and self.tokens[self.at + 1] == ("sign", "="):
+                self.at += 2
+            parts.append(self.choice())
+            if not self.is_next(")"):
+                self.want(",")
+        return parts
+
+    def filter(self, part):
+        name = self.take()
+        given = self.arguments() if self.is_next("(") else []
+        if name in ("default", "d") and len(given) in (1, 2):
+            return self.default(part, given)
+        if name == "bool" and not given:
+            return truth(part)
+        if name == "mandatory" and not given:
+            return part
+        if name == "join":
+            return Part(f"{part.at(OPERAND)} | join" + (f"({given[0].at(OR)})" if given else ""), "text", OPERAND)
+        if name in ("length", "count") and not given:
+            return stand_in("int", part.read()) if part.kind == "split" else \
+                Part(f"{part.at(OPERAND)} | length", "int", OPERAND)
+        if name in ("first", "last") and part.kind == "split" and not given:
+            return stand_in("text", part.read())
+        return self.known_filter(name, part, given)
+
+    def default(self, part, given):
+        if len(given) == 2 and not (given[1].literal and isinstance(given[1].literal[0], bool)):
+            raise Unfit
+        return defaulted(part, given[0], len(given) == 2 and given[1].literal[0])
+
+    def known_filter(self, name, part, given):
+        every = all_read([part, *given])
+        if TEXT_OF_ANY.get(name) == len(given) or name == "regex_replace" and given and is_pattern(given[0]):
+            return stand_in("text", every)
+        if TEXT_OF_TEXT.get(name) == len(given):
+            return stand_in("text", as_text(part))
+        if name == "int" and all(one.kind == "int" for one in given):
+            return stand_in("int", every)
+        if name == "float" and not given:
+            return stand_in("float", every)
+        if name == "ternary" and len(given) == 2 and part.kind == "bool":
+            one, other = given
+            return stand_in(one.kind, every) if one.kind == other.kind else Part(None, "", PLAIN, every)
+        raise Unfit
+
+    def test(self, part):
+        sign = "is not" if self.take("not") else "is"
+        name = self.take()
+        given = self.arguments() if self.is_next("(") else []
+        plain = RESULT_TESTS.get(name) or (name if name in ("defined", "undefined") and part.is_path else "")
+        if plain:
+            return Part(f"{part.at(OPERAND)} {sign} {plain}", "bool", RELATION)
+        found = self.known_test(name, part, given)
+        return found if sign == "is" else denied(found)
+
+    def known_test(self, name, part, given):
+        if name in ("none", "true", "false"):
+            return guarded(part, f"{part.at(OPERAND)} == {name}")
+        if name in SORTS and not given:
+            return guarded(part, stand_in("bool", part.read()).text)
+        if name in ("match", "search", "regex") and given and is_pattern(given[0]) \
+                or name in ("version", "version_compare") and len(given) in (1, 2):
+            return stand_in("bool", all_read([part, *given]))
+        raise Unfit
+
+
+def guarded(part, text):
+    """A test that is false where there is nothing to test."""
+    return Part(f"({part.text} is defined and {text})" if part.is_path else f"({text})", "bool")

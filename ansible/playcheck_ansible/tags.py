@@ -1,0 +1,78 @@
+# Which tasks a run takes by their tags, as Ansible has it: the others are left out of the book, and counted.
+from .books import PARTS, SECTIONS, Block, Raw, Task, steps_below
+from .nodes import Scalar, Sequence, has_template, made
+
+UNTAGGED = frozenset(["untagged"])
+
+
+class Chosen:
+    """The tags that a run is asked for, and those that it passes by."""
+
+    def __init__(self, only=(), skip=()):
+        self.only, self.skip = set(only) or {"all"}, set(skip)
+        self.left_out = []
+
+    def takes(self, tags):
+        """Whether a task with these tags is run: Ansible's own rules, in their order."""
+        tags = tags or UNTAGGED
+        is_plain = "never" not in tags
+        taken = ("always" in tags or "all" in self.only and is_plain or tags & self.only
+                 or "tagged" in self.only and tags != UNTAGGED and is_plain)
+        if "all" in self.skip:
+            return bool(taken) and "always" in tags and "always" not in self.skip
+        return bool(taken) and not tags & self.skip and not ("tagged" in self.skip and tags != UNTAGGED)
+
+    def is_unsure(self, tags):
+        """Whether a template among the tags may decide: without options it is taken as no `never`."""
+        return (self.only != {"all"} or bool(self.skip)) and any(map(has_template, tags))
+
+    def kept(self, steps, outer):
+        """The steps that are run, each with the tags round it; a block in which nothing is left is none."""
+        found = []
+        for step in steps:
+            if isinstance(step, Raw):
+                found.append(step)
+                continue
+            tags = outer | tags_of(step.words)
+            if isinstance(step, Block):
+                found += self.kept_block(step, tags, outer)
+            elif self.is_unsure(tags):
+                step.leave("its tags hold a template")
+                found.append(step)
+            elif self.takes(tags):
+                found.append(step)
+            else:
+                self.left_out.append(step)
+        return found
+
+    def kept_block(self, block, tags, outer):
+        if block.is_include and not self.takes(tags):
+            self.left_out += [step for step in steps_below([block]) if isinstance(step, Task)]
+            return []
+        for part in PARTS:
+            if part in block.parts:
+                block.parts[part] = self.kept(block.parts[part], outer if block.is_include else tags)
+        return [block] if any(block.parts.values()) else []
+
+
+def leave_out(book, only=(), skip=()):
+    """Takes the tasks out that a run with these tags passes by; handlers are run whatever tags they have."""
+    chosen = Chosen(only, skip)
+    for play in book.plays:
+        if isinstance(play, Raw):
+            continue
+        tags = tags_of(play.words)
+        for section in SECTIONS:
+            if section in play.sections:
+                play.sections[section] = chosen.kept(play.sections[section], tags)
+        if not chosen.takes(frozenset(["always"])):
+            play.words.put("gather_facts", made(False, play.place))
+    book.left_out = chosen.left_out
+
+
+def tags_of(words):
+    """The tags of a play, a block or a task: a list, or a text with commas."""
+    node = words.get("tags")
+    items = node.items if isinstance(node, Sequence) else [node]
+    texts = [str(item.value) for item in items if isinstance(item, Scalar) and item.value is not None]
+    return frozenset(word.strip() for text in texts for word in ([text] if has_template(text) else text.split(",")))

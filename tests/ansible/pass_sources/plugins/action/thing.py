@@ -1,0 +1,2 @@
+argument_spec = dict(a=dict(type="str"))
+argument_spec.update(state=dict(type="str", choices=["present", "absent"]))

@@ -1,14 +1,11 @@
 -- The plays of a book that was accepted: they have few steps.
-use Rattle.std.proofs.Common.{◌≡◌, ◌≤◌, ◌+◌, ◌<◌, ℕ, suc, List, [], ◌∷◌, map, drop, drop-cons, add-one, get_or, length, nat_lt, cond, Bool, true, false, Option, Some, None, refl, sym, ap, ◌∙◌, arith}
-use Rattle.std.proofs.lemmas.Bool.{ltb-false}
-use Rattle.std.proofs.lemmas.List.Elements.{All-cons, All-nil}
+use Rattle.std.proofs.Common.{◌≡◌, ◌≤◌, ◌+◌, ◌<◌, ℕ, suc, List, [], ◌∷◌, map, drop, drop-cons, add-one, get_or, length, true, Option, Some, None, refl, sym, ap, ◌∙◌}
 use Rattle.std.specs.List.{All}
 use Rattle.pb_semantics.proofs.Bools.{untrue}
 use Rattle.pb_semantics.specs.Limits.{most_play_steps}
 use Rattle.pb_language.specs.Book.{Registry}
 use Rattle.pb_language.specs.Plays.{program_of}
-use Rattle.pb_language.specs.Rules.{rules_offence, too_many_steps}
-use Rattle.pb_language.proofs.Accepted.{earlier_none}
+use Rattle.pb_language.specs.Rules.{rules_offence}
 use Rattle.pb_language.specs.Sites.{steps_of}
 use Rattle.pb_language.specs.Verdict.{Refusal, Verdict, flow_verdict, offence_verdict}
 use Rattle.pb_sig.specs.Modules.{modules_of}
@@ -17,20 +14,10 @@ use Rattle.pb_play.specs.Plays.{play_view}
 use Rattle.pb_play.specs.declared.play.Play.{Play}
 use Rattle.pb_book.specs.Books.{book_view, plays_of}
 use Rattle.pb_steps.specs.Words.{play_plan}
+use Rattle.pb_verify.proofs.FewSteps.{few_steps}
 use Rattle.pb_verify.specs.Judges.{is_accepted}
 use Rattle.pb_verify.specs.Meaning.{accepts}
 use Rattle.pb_verify.specs.declared.checked.Accepted.{Accepted}
-
-few-there : (b : Bool) (r : Refusal) (o : Option Refusal) → cond b (Some r) o ≡ None → (b ≡ false) × (o ≡ None)
-few-there true r o e = absurd (cc)
-few-there false r o e = (refl, e)
-
-few-from : (n : ℕ) (ps : List Play) → too_many_steps n (map play_view ps) ≡ None → All (λ p. steps_of (play_view p) ≤ most_play_steps) ps
-few-from n [] e = All-nil (λ p. steps_of (play_view p) ≤ most_play_steps)
-few-from n (p ∷ ps) e =
-    let here = few-there (nat_lt most_play_steps (n + steps_of (play_view p))) _ (too_many_steps (n + steps_of (play_view p)) (map play_view ps)) e in
-    let few = ltb-false most_play_steps (n + steps_of (play_view p)) here.0 in
-    All-cons (λ q. steps_of (play_view q) ≤ most_play_steps) p ps (omega (arith, few)) (few-from (n + steps_of (play_view p)) ps here.1)
 
 none-told : (n : ℕ) (o : Option Refusal) (v : Verdict) → accepts n (offence_verdict o v) ≡ true → o ≡ None
 none-told n None v h = refl
@@ -41,7 +28,7 @@ accepted-few a h =
     let ms = modules_of a.registry in
     let i = inventory_view a.inventory in
     let ruled = none-told a.budget (rules_offence ms i (book_view a.book)) (flow_verdict (program_of ms i (book_view a.book)) i) h in
-    few-from 0 (plays_of a.book) ((earlier_none (too_many_steps 0 (book_view a.book)) _ ruled).0)
+    few_steps ms i (plays_of a.book) ruled
 
 pub plans-of-views : (ms : Registry) (ps : List Play) → map (λ p. play_plan ms (play_view p)) ps ≡ map (play_plan ms) (map play_view ps)
 plans-of-views ms [] = refl

@@ -17,7 +17,7 @@ use Rattle.pb_reads.proofs.Reached.{among-both, own-both}
 swapped : (x y z : Bool) → (x || (y || z)) ≡ ((y || x) || z)
 swapped x y z = grind arith
 
-moved : (n : Name) (a rest old new : List Name) → is_among n new ≡ is_among n (a ++ old) → is_among n (rest ++ new) ≡ is_among n ((a ++ rest) ++ old)
+pub moved : (n : Name) (a rest old new : List Name) → is_among n new ≡ is_among n (a ++ old) → is_among n (rest ++ new) ≡ is_among n ((a ++ rest) ++ old)
 moved n a rest old new h =
     among-both n rest new ∙ ap (λ b. is_among n rest || b) (h ∙ among-both n a old) ∙ swapped (is_among n rest) (is_among n a) (is_among n old)
     ∙ ap (λ b. b || is_among n old) (sym (among-both n a rest)) ∙ sym (among-both n (a ++ rest) old)

@@ -1,5 +1,7 @@
 pub mod Behind
 pub mod Reached
 pub mod Whole
-pub mod NameSets
 pub mod Gathered
+pub mod Trees
+pub mod Evaluated
+pub mod Written

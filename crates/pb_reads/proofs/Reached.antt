@@ -9,7 +9,7 @@ use Rattle.pb_language.specs.Expansion.{part_named, depth_in, root_depth, depth_
 use Rattle.pb_language.specs.Expression.{Name, Expression, literal, path, hostvars_alone, negation, conjunction, disjunction, comparison, membership, in_batch, defined, undefinable, path_status, value_status, path_or, value_or, length_of, joined_by, concatenation, list_of, record_of, Term, Root, variable, alias, other, member, Expressions, no_expressions, expression, Parts, no_parts, part}
 use Rattle.pb_syntax.specs.Aliases.{unknown_in, IsInOrder}
 use Rattle.pb_reads.specs.Roots.{roots_in, all_roots, part_roots}
-use Rattle.pb_reads.specs.Reads.{IsRead, of_the_host, of_another, through}
+use Rattle.pb_reads.specs.Reads.{IsRead, of_the_host, of_another, through, in_a_tree}
 use Rattle.pb_reads.specs.Reached.{own_name, own_names, value_roots, with_value, reached, told_name, told_names}
 
 -- a name is among two lists where it is among one of them
@@ -48,10 +48,10 @@ pub own-cases : (n : Name) (rs qs : List Root) → is_among n (own_names (rs ++ 
 own-cases n rs qs h = or-cases (is_among n (own_names rs)) (is_among n (own_names qs)) (sym (own-both n rs qs) ∙ h)
 
 -- elements of lists
-here : (r : Root) (rs : List Root) → Contains (r ∷ rs) r
+pub here : (r : Root) (rs : List Root) → Contains (r ∷ rs) r
 here r rs = Contains-append_left (r ∷ []) rs r (Contains-push [] r)
 
-later : (q : Root) (rs : List Root) (r : Root) → Contains rs r → Contains (q ∷ rs) r
+pub later : (q : Root) (rs : List Root) (r : Root) → Contains rs r → Contains (q ∷ rs) r
 later q rs r h = Contains-append_right (q ∷ []) rs r h
 
 pub no-element : {A : Type 0} (r : Root) → Contains [] r → A
@@ -96,6 +96,7 @@ read-more : (scope : Parts) (rs qs : List Root) (n : Name) → Within rs qs → 
 read-more scope rs qs n sub (of_the_host c p) = of_the_host (sub _ c) p
 read-more scope rs qs n sub (of_another t c) = of_another t (sub _ c)
 read-more scope rs qs n sub (through m e c p x) = through m e (sub _ c) p x
+read-more scope rs qs n sub (in_a_tree m e c x) = in_a_tree m e (sub _ c) x
 
 -- what is told is read
 told-one : (scope : Parts) (r : Root) (rs : List Root) (n : Name) → is_among n (told_name scope r) ≡ true → IsRead scope (r ∷ rs) n
@@ -117,11 +118,13 @@ read-cases : (scope : Parts) (rs qs : List Root) (n : Name) → IsRead scope (rs
 read-cases scope rs qs n (of_the_host c p) = ⊎_elim (λ x. inl (of_the_host x p)) (λ x. inr (of_the_host x p)) (Contains-append_cases rs qs _ c)
 read-cases scope rs qs n (of_another t c) = ⊎_elim (λ x. inl (of_another t x)) (λ x. inr (of_another t x)) (Contains-append_cases rs qs _ c)
 read-cases scope rs qs n (through m e c p x) = ⊎_elim (λ y. inl (through m e y p x)) (λ y. inr (through m e y p x)) (Contains-append_cases rs qs _ c)
+read-cases scope rs qs n (in_a_tree m e c x) = ⊎_elim (λ y. inl (in_a_tree m e y x)) (λ y. inr (in_a_tree m e y x)) (Contains-append_cases rs qs _ c)
 
 read-none : {A : Type 0} (scope : Parts) (rs : List Root) (n : Name) → rs ≡ [] → IsRead scope rs n → A
 read-none scope rs n e (of_the_host c p) = no-element (variable n) (subst (λ xs. Contains xs (variable n)) e c)
 read-none scope rs n e (of_another t c) = no-element (other t n) (subst (λ xs. Contains xs (other t n)) e c)
 read-none scope rs n e (through m v c p x) = no-element (variable m) (subst (λ xs. Contains xs (variable m)) e c)
+read-none scope rs n e (in_a_tree m v c x) = no-element (alias m v) (subst (λ xs. Contains xs (alias m v)) e c)
 
 value-read : (scope : Parts) (k : Name) (rs : List Root) (n : Name) (o : Option Expression) → part_named k scope ≡ o → is_among k (own_names rs) ≡ true → IsRead scope (value_roots o) n → IsRead scope rs n
 value-read scope k rs n None p own x = read-none scope [] n refl x

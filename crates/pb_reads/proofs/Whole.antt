@@ -7,9 +7,14 @@ use Rattle.pb_semantics.proofs.Bools.{untrue, true-false}
 use Rattle.pb_semantics.proofs.Names.{same_name}
 use Rattle.pb_language.specs.Expansion.{part_named, depth_in, root_depth, depth_in_all, depth_in_parts}
 use Rattle.pb_language.specs.Expression.{Name, Expression, literal, path, hostvars_alone, negation, conjunction, disjunction, comparison, membership, in_batch, defined, undefinable, path_status, value_status, path_or, value_or, length_of, joined_by, concatenation, list_of, record_of, Term, Root, variable, alias, other, member, Expressions, no_expressions, expression, Parts, no_parts, part}
+use denote.Ref.{Bor}
+use Rattle.pb_syntax.specs.ExprView.{root_view}
+use Rattle.pb_syntax.specs.declared.expr.Root.{Root as WrittenRoot}
+use Rattle.pb_syntax.specs.declared.expr.Root.TheVariants as roots
+use Rattle.pb_reads.specs.RootsView.{roots_view}
 use Rattle.pb_syntax.specs.Aliases.{unknown_in, IsInOrder}
 use Rattle.pb_reads.specs.Roots.{roots_in, all_roots, part_roots}
-use Rattle.pb_reads.specs.Reads.{IsRead, of_the_host, of_another, through}
+use Rattle.pb_reads.specs.Reads.{IsRead, of_the_host, of_another, through, in_a_tree}
 use Rattle.pb_reads.specs.Reached.{own_name, own_names, value_roots, with_value, reached, told_name, told_names}
 use Rattle.pb_reads.proofs.Reached.{Within, among-first, among-second, among-itself, among-one, first-or-later, no-element, own-cases, own-there}
 
@@ -127,10 +132,25 @@ told-at scope (q ∷ rs) r n t c =
 told-outside : (scope : Parts) (n : Name) → part_named n scope ≡ None → is_among n (told_name scope (variable n)) ≡ true
 told-outside scope n p = ap (λ o. is_among n (cond (is_some o) [] (n ∷ []))) p ∙ among-itself n
 
-all-told : (scope : Parts) (all rs : List Root) (n : Name) → Closed scope [] all → Within rs all → IsRead scope rs n → is_among n (told_names scope all) ≡ true
-all-told scope all rs n closed sub (of_the_host c p) = told-at scope all (variable n) n (told-outside scope n p) (sub (variable n) c)
-all-told scope all rs n closed sub (of_another t c) = told-at scope all (other t n) n (among-itself n) (sub (other t n) c)
-all-told scope all rs n closed sub (through m e c p x) = all-told scope all (roots_in e) n closed (closed m e (own-there all m (sub (variable m) c)) p refl) x
+-- none of these stands with its tree
+abbrev pub AreWritten : List Root → Type 0
+AreWritten rs = (m : Name) (e : Expression) → Contains rs (alias m e) → ⊥
 
-pub read-is-told : (scope ps : Parts) (rs : List Root) (n : Name) → IsInOrder scope [] ps → IsRead scope rs n → is_among n (told_names scope (reached scope ps rs)) ≡ true
-read-is-told scope ps rs n order x = all-told scope (reached scope ps rs) rs n (closed-all scope [] ps order rs) (λ r c. kept scope ps rs r c) x
+all-told : (scope : Parts) (all rs : List Root) (n : Name) → AreWritten all → Closed scope [] all → Within rs all → IsRead scope rs n → is_among n (told_names scope all) ≡ true
+all-told scope all rs n written closed sub (of_the_host c p) = told-at scope all (variable n) n (told-outside scope n p) (sub (variable n) c)
+all-told scope all rs n written closed sub (of_another t c) = told-at scope all (other t n) n (among-itself n) (sub (other t n) c)
+all-told scope all rs n written closed sub (through m e c p x) = all-told scope all (roots_in e) n written closed (closed m e (own-there all m (sub (variable m) c)) p refl) x
+all-told scope all rs n written closed sub (in_a_tree m e c x) = absurd (written m e (sub (alias m e) c))
+
+pub read-is-told : (scope ps : Parts) (rs : List Root) (n : Name) → AreWritten (reached scope ps rs) → IsInOrder scope [] ps → IsRead scope rs n → is_among n (told_names scope (reached scope ps rs)) ≡ true
+read-is-told scope ps rs n written order x = all-told scope (reached scope ps rs) rs n written (closed-all scope [] ps order rs) (λ r c. kept scope ps rs r c) x
+
+-- a root that is written is no tree
+not-a-tree : (r : WrittenRoot) (m : Name) (e : Expression) → root_view r ≡ alias m e → ⊥
+not-a-tree (roots.Variable n) m e h = absurd (cc)
+not-a-tree (roots.Other t x) m e h = absurd (cc)
+not-a-tree (roots.Member g) m e h = absurd (cc)
+
+pub written : (rs : List (Bor WrittenRoot)) → AreWritten (roots_view rs)
+written [] m e c = no-element (alias m e) c
+written (r ∷ rs) m e c = ⊎_elim (not-a-tree r.now m e) (written rs m e) (first-or-later (root_view r.now) (roots_view rs) (alias m e) c)

@@ -3,3 +3,5 @@ pub mod RootsView
 pub mod Round
 pub mod Reads
 pub mod Reached
+pub mod Uses
+pub mod Done

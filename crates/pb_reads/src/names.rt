@@ -138,7 +138,7 @@ fn add_own<'p>(own: &mut BTreeSet<&'p str>, root: &'p Root) -> Result<(), AllocE
     }
 }
 
-fn add_name<'p>(names: &mut BTreeSet<&'p str>, name: &'p str) -> Result<(), AllocError>
+pub(crate) fn add_name<'p>(names: &mut BTreeSet<&'p str>, name: &'p str) -> Result<(), AllocError>
     ensures { OnOk result ((n : Name) → is_among n (names_in names.new)
         ≡ is_among n (name.now ∷ names_in names.old)) }
 {

@@ -1,15 +1,17 @@
 // The roots of what a task reads where it stands.
-ghost use Rattle.std.specs.Prelude.{◌++◌, ◌≡◌, IfOk, OnOk, option_map};
+ghost use Rattle.std.specs.Prelude.{◌++◌, ◌≡◌, IfOk, OnOk, codes, option_map};
 ghost use Rattle.pb_language.specs.Book.{Registry};
 ghost use Rattle.pb_language.specs.Expression.{Parts};
 ghost use Rattle.pb_language.specs.Plays.{append_expressions};
+ghost use Rattle.pb_language.specs.Expansion.{part_named};
 ghost use Rattle.pb_language.specs.Rules.{asserted_expressions, give_expressions};
 ghost use Rattle.pb_language.specs.Rules.{list_expressions, option_expressions, part_expressions};
-ghost use Rattle.pb_language.specs.Rules.{task_expressions, until_expressions, work_expressions};
+ghost use Rattle.pb_language.specs.Rules.{until_expressions};
 ghost use Rattle.pb_syntax.specs.Words.{expr_view, exprs_view};
 ghost use Rattle.pb_template.specs.Words.{entries_view};
 ghost use Rattle.pb_task.specs.Words.{asserted_view, attempts_view, task_view, work_view};
 ghost use Rattle.pb_flow.specs.Words.{around_view};
+ghost use Rattle.pb_reads.specs.Done.{done_expressions, evaluated};
 ghost use Rattle.pb_reads.specs.Roots.{all_roots};
 ghost use Rattle.pb_reads.specs.Round.{conditions_round};
 ghost use Rattle.pb_reads.specs.RootsView.{roots_view};
@@ -18,11 +20,11 @@ use crate::roots::{put_all_roots, put_roots};
 use pb_flow::Around;
 use pb_syntax::{Expr, Root};
 use pb_task::{Asserted, Attempts, Task, Work};
-use pb_template::Entry;
+use pb_template::{Entry, value_named};
 use std::alloc::{AllocError, Global};
 
-/// The roots of all that the task reads: its list, the conditions round it and its own, its work,
-/// and what is made of the result.
+/// The roots of all that the task evaluates: its list, the conditions round it and its own, its
+/// work, and what is made of the result.
 ///
 /// # Errors
 ///
@@ -33,7 +35,7 @@ pub fn task_roots<'p>(
     around: &Around<'p>,
 ) -> Result<Vec<&'p Root>, AllocError>
     ensures { IfOk result (λ rs. (ms : Registry) (vars : Parts) → roots_view rs.items
-        ≡ all_roots (task_expressions
+        ≡ all_roots (evaluated
         (append_expressions (around_view ms vars around.now).conditions
         (exprs_view task.now.when.items)) (task_view task.now))) }
 {
@@ -72,7 +74,7 @@ fn put_block_roots<'p>(around: &Around<'p>, roots: &mut Vec<&'p Root>) -> Result
 // Those of its work, and of what is made of the result.
 fn put_done_roots<'p>(task: &'p Task, roots: &mut Vec<&'p Root>) -> Result<(), AllocError>
     ensures { OnOk result (roots_view roots.new.items ≡ roots_view roots.old.items
-        ++ all_roots (append_expressions (work_expressions (task_view task.now).work)
+        ++ all_roots (append_expressions (done_expressions (task_view task.now).work)
         (give_expressions (task_view task.now)))) }
 {
     put_work_roots(&task.work, &task.arguments, roots)?;
@@ -85,13 +87,12 @@ fn put_work_roots<'p>(
     roots: &mut Vec<&'p Root>,
 ) -> Result<(), AllocError>
     ensures { OnOk result (roots_view roots.new.items ≡ roots_view roots.old.items
-        ++ all_roots (work_expressions (work_view work.now (entries_view arguments.now)))) }
+        ++ all_roots (done_expressions (work_view work.now (entries_view arguments.now)))) }
 {
     match work {
+        Work::Module(_) | Work::SetFact => put_entry_roots(arguments, roots),
+        Work::Debug | Work::Fail => put_value_roots(arguments, "msg", roots),
         Work::Assert(asserted) => put_assert_roots(asserted, arguments, roots),
-        Work::Module(_) | Work::Debug | Work::SetFact | Work::Fail => {
-            put_entry_roots(arguments, roots)
-        }
     }
 }
 
@@ -101,11 +102,26 @@ fn put_assert_roots<'p>(
     roots: &mut Vec<&'p Root>,
 ) -> Result<(), AllocError>
     ensures { OnOk result (roots_view roots.new.items ≡ roots_view roots.old.items
-        ++ all_roots (append_expressions (part_expressions (entries_view arguments.now))
-        (asserted_expressions (asserted_view asserted.now)))) }
+        ++ all_roots (append_expressions (asserted_expressions (asserted_view asserted.now))
+        (option_expressions (part_named (codes "fail_msg") (entries_view arguments.now))))) }
 {
-    put_entry_roots(arguments, roots)?;
-    put_asserted_roots(asserted, roots)
+    put_asserted_roots(asserted, roots)?;
+    put_value_roots(arguments, "fail_msg", roots)
+}
+
+// Those of the argument of that name, where it is given.
+fn put_value_roots<'p>(
+    arguments: &'p [Entry],
+    name: &str,
+    roots: &mut Vec<&'p Root>,
+) -> Result<(), AllocError>
+    ensures { OnOk result (roots_view roots.new.items ≡ roots_view roots.old.items ++ all_roots
+        (option_expressions (part_named name.now (entries_view arguments.now)))) }
+{
+    match value_named(arguments, name) {
+        Some(value) => put_roots(value, roots),
+        None => Ok(()),
+    }
 }
 
 fn put_asserted_roots<'p>(

@@ -19,7 +19,7 @@ use Rattle.pb_language.specs.Expression.{Name}
 use Rattle.pb_template.specs.Entries.{are_ascending, is_below}
 use Rattle.pb_vars.proofs.Ordered.{below-both, below-first, below-rest, less-turned}
 use Rattle.pb_vars.proofs.Searched.{equal-names, greater-differs}
-use Rattle.pb_slots.specs.Slots.{as_slot, slot_in}
+use Rattle.pb_slots.specs.Slots.{kept_slot, slot_in}
 
 abbrev order : Name → Name → Ordering
 order n m = slice_cmp nat_cmp n m
@@ -127,18 +127,18 @@ place-missing [] n i o h = refl
 place-missing (e ∷ es) n i o h = position-none (bytes_eq n) (names_of (e ∷ es)) (λ k few. missing-there e es n i k o h few)
 
 pub slot-found : (ss es : List (String Global)) (n : Name) (i : ℕ) (r : Result ℕ ℕ) → are_ascending (names_of es) ≡ true → ss ≡ es → r ≡ Ok i → i < length ss → IsBinarySearchResult (λ e. order (string_bytes e) n) ss r
-    → as_slot (Some i) ≡ slot_in (names_of es) n
+    → Some i ≡ slot_in (names_of es) n
 slot-found ss es n i r o same is l h =
     let found : IsBinarySearchResult (λ e. order (string_bytes e) n) ss (Ok i) = subst (λ x. IsBinarySearchResult (λ e. order (string_bytes e) n) ss x) is h in
     let there : IsBinarySearchResult (λ e. order (string_bytes e) n) es (Ok i) = subst (λ xs. IsBinarySearchResult (λ e. order (string_bytes e) n) xs (Ok i)) same found in
-    ap as_slot (sym (place-found es n i o (subst (λ xs. i < length xs) same l) there))
+    sym (place-found es n i o (subst (λ xs. i < length xs) same l) there)
 
 pub slot-missing : (ss es : List (String Global)) (n : Name) (i : ℕ) (r : Result ℕ ℕ) → are_ascending (names_of es) ≡ true → ss ≡ es → r ≡ Err i → IsBinarySearchResult (λ e. order (string_bytes e) n) ss r
     → None ≡ slot_in (names_of es) n
 slot-missing ss es n i r o same is h =
     let missing : IsBinarySearchResult (λ e. order (string_bytes e) n) ss (Err i) = subst (λ x. IsBinarySearchResult (λ e. order (string_bytes e) n) ss x) is h in
     let there : IsBinarySearchResult (λ e. order (string_bytes e) n) es (Err i) = subst (λ xs. IsBinarySearchResult (λ e. order (string_bytes e) n) xs (Err i)) same missing in
-    ap as_slot (sym (place-missing es n i o there))
+    sym (place-missing es n i o there)
 
 -- ---- a place as a number of 32 bits
 
@@ -146,7 +146,7 @@ refused : (q : Bool) (i : ℕ) → nat_lt i 4294967296 ≡ q → (i < 4294967296
 refused true i h never = absurd (never (ltb-true i 4294967296 h))
 refused false i h never = refl
 
-pub as-tried : {E : Type 0} (i : ℕ) (r : Result ℕ E) → OkIff r (i < 4294967296) i → result_ok r ≡ as_slot (Some i)
+pub as-tried : {E : Type 0} (i : ℕ) (r : Result ℕ E) → OkIff r (i < 4294967296) i → result_ok r ≡ kept_slot (Some i)
 as-tried i (Ok x) h = ap Some h.1 ∙ sym (chosen (nat_lt i 4294967296) (Some i) None (within i 4294967296 h.0))
 as-tried i (Err d) h = refused (nat_lt i 4294967296) i refl h
 

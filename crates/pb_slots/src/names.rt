@@ -29,22 +29,21 @@ impl Slots {
         self.names.len()
     }
 
-    /// The slot of the name; none where it has none, which is so of every name from the
-    /// 4,294,967,296th on.
-    pub fn slot(&self, name: &str) -> Option<u32>
+    /// The slot of the name, where it has one.
+    pub fn slot(&self, name: &str) -> Option<usize>
         ensures { result ≡ slot_in (names_of_slots self.now) name.now }
     {
         match self.names.binary_search_by(|each| each.as_str().cmp(name)) {
-            Ok(place) => u32::try_from(place).ok(),
+            Ok(slot) => Some(slot),
             Err(_) => None,
         }
     }
 
     /// The name at that slot.
-    pub fn name(&self, slot: u32) -> Option<&str>
+    pub fn name(&self, slot: usize) -> Option<&str>
         ensures { option_map (λ n. n.now) result ≡ slice_get (names_of_slots self.now) slot }
     {
-        match self.names.get(slot as usize) {
+        match self.names.get(slot) {
             Some(name) => Some(name.as_str()),
             None => None,
         }

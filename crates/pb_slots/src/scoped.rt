@@ -1,4 +1,7 @@
 // The slots of names where values of `vars` are in scope.
+ghost use Rattle.std.specs.Prelude.{◌≡◌};
+ghost use Rattle.pb_slots.specs.Slots.{kept_slot};
+
 use crate::slots::Slots;
 use pb_syntax::SlotNames;
 use pb_vars::InScope;
@@ -22,11 +25,21 @@ impl SlotNames for SlotsInScope<'_, '_> {
     fn own(&self, name: &str) -> Option<u32> {
         match self.scope.find(name) {
             Some(_) => None,
-            None => self.slots.slot(name),
+            None => kept(self.slots.slot(name)),
         }
     }
 
     fn other(&self, name: &str) -> Option<u32> {
-        self.slots.slot(name)
+        kept(self.slots.slot(name))
+    }
+}
+
+// What a path keeps of a slot.
+fn kept(slot: Option<usize>) -> Option<u32>
+    ensures { result ≡ kept_slot slot }
+{
+    match slot {
+        Some(slot) => u32::try_from(slot).ok(),
+        None => None,
     }
 }

@@ -11,9 +11,10 @@
 pub mod checked;
 mod names;
 pub mod refusal;
-mod scenes;
+pub mod scenes;
 pub mod verify;
 
 pub use checked::Checked;
 pub use refusal::{Code, Refusal};
+pub use scenes::{gathering_at, gathering_tasks};
 pub use verify::VerifyFault;

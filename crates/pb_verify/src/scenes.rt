@@ -20,12 +20,12 @@ use pb_tables::Scene;
 use pb_task::Task;
 use std::alloc::{AllocError, Global};
 
-// For each play the task that gathers its facts, where it has one.
-//
-// # Errors
-//
-// Want of memory, also where a play gathers facts and the registry has no `setup`.
-pub(crate) fn gathering_tasks(
+/// For each play the task that gathers its facts, where it has one.
+///
+/// # Errors
+///
+/// Want of memory, also where a play gathers facts and the registry has no `setup`.
+pub fn gathering_tasks(
     alloc: Global,
     registry: &Registry,
     plays: &[Play],
@@ -76,8 +76,8 @@ pub(crate) fn scenes_of<'s>(
     Ok(scenes)
 }
 
-// The task that gathers the facts of the play of that number, where it has one.
-fn gathering_at<'s>(gathering: &'s [Option<Task>], play: usize) -> Option<&'s Task>
+/// The task that gathers the facts of the play of that number, where it has one.
+pub fn gathering_at<'s>(gathering: &'s [Option<Task>], play: usize) -> Option<&'s Task>
     ensures { option_map (λ t. t.now) result ≡ gathered_at gathering.entry.now play }
 {
     match gathering.get(play) {

@@ -1,6 +1,6 @@
 use Rattle.std.proofs.Common.{◌∙◌, ap}
 use Rattle.pb_semantics.specs.Keeps.{is_among}
-use Rattle.pb_reads.proofs.NameSets.{among-insert, texts}
+use Rattle.pb_rules.proofs.NameSets.{among-insert, texts}
 use Rattle.pb_reads.proofs.names.add_name.Goals as goal
 
 pub returns : goal.returns

@@ -1,4 +1,4 @@
-use Rattle.std.proofs.Common.{◌≡◌, ◌∙◌, sym, ap}
+use Rattle.std.proofs.Common.{◌≡◌, ◌∙◌, sym, ap, subst}
 use Rattle.std.proofs.lemmas.Result.{IfOk-weaker}
 use Rattle.pb_semantics.specs.Keeps.{is_among}
 use Rattle.pb_vars.specs.Borrowed.{borrowed_view}
@@ -6,7 +6,7 @@ use Rattle.pb_vars.specs.InScope.{in_scope}
 use Rattle.pb_reads.specs.Reached.{reached, told_names}
 use Rattle.pb_reads.specs.RootsView.{roots_view}
 use Rattle.pb_reads.proofs.Reached.{told-is-read}
-use Rattle.pb_reads.proofs.Whole.{read-is-told}
+use Rattle.pb_reads.proofs.Whole.{AreWritten, read-is-told, written}
 use Rattle.pb_reads.proofs.names.names_read.Goals as goal
 
 pub returns-clause-sound : goal.returns-clause-sound
@@ -24,4 +24,7 @@ returns-clause-whole c =
     let ps = borrowed_view c.in_ok-order.order.items in
     let all : roots_view c.as_slice-2.result.now ≡ reached scope ps rs =
     ap roots_view c.as_slice-2.ensures.value ∙ c.in_ok-all.ensures ∙ ap (λ es. reached scope (borrowed_view es) rs) c.as_slice.ensures.value in
-    IfOk-weaker c.names_told.result _ _ (λ ns told short n x. told n ∙ ap (λ xs. is_among n (told_names scope xs)) all ∙ read-is-told scope ps rs n (c.all_are_in_order.ensures scope ps short c.in_ok-order.ensures.behind c.in_ok-order.ensures.short) x) c.names_told.ensures
+    IfOk-weaker c.names_told.result _ _
+    (λ ns told short n x. told n ∙ ap (λ xs. is_among n (told_names scope xs)) all
+    ∙ read-is-told scope ps rs n (subst AreWritten all (written c.as_slice-2.result.now)) (c.all_are_in_order.ensures scope ps short c.in_ok-order.ensures.behind c.in_ok-order.ensures.short) x)
+    c.names_told.ensures

@@ -4,7 +4,7 @@ use Rattle.pb_vars.specs.InScope.{in_scope}
 use Rattle.pb_reads.specs.Reached.{names_in, own_names}
 use Rattle.pb_reads.specs.RootsView.{roots_view}
 use Rattle.pb_reads.proofs.Gathered.{names-put, value-left, value-put}
-use Rattle.pb_reads.proofs.NameSets.{set-finds}
+use Rattle.pb_rules.proofs.NameSets.{set-finds}
 use Rattle.pb_reads.proofs.names.put_value.Goals as goal
 
 pub returns-clause-roots : goal.returns-clause-roots

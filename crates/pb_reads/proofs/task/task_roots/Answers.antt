@@ -1,8 +1,9 @@
 use Rattle.std.proofs.Common.{◌∙◌, ◌++◌, ap}
 use Rattle.pb_language.specs.Plays.{append_expressions}
-use Rattle.pb_language.specs.Rules.{give_expressions, option_expressions, work_expressions}
+use Rattle.pb_language.specs.Rules.{give_expressions, option_expressions}
 use Rattle.pb_syntax.specs.ExprView.{exprs_view}
 use Rattle.pb_task.specs.Tasks.{task_view}
+use Rattle.pb_reads.specs.Done.{done_expressions}
 use Rattle.pb_reads.specs.Roots.{all_roots}
 use Rattle.pb_reads.specs.RootsView.{roots_view}
 use Rattle.pb_reads.specs.Round.{conditions_round}
@@ -13,7 +14,7 @@ pub returns : goal.returns
 returns c ms vars =
     let k = task_view c.args.task.now in
     let conditions = append_expressions (conditions_round c.args.around.now) (exprs_view c.args.task.now.when.items) in
-    let done = append_expressions (work_expressions k.work) (give_expressions k) in
+    let done = append_expressions (done_expressions k.work) (give_expressions k) in
     let first = roots_view c.put_option_roots.new.roots.items in
     let second = roots_view c.put_condition_roots.new.roots.items in
     let third = roots_view c.put_done_roots.new.roots.items in

@@ -1,5 +1,5 @@
 -- The plays of a book that was accepted: they have few steps.
-use Rattle.std.proofs.Common.{◌≡◌, ◌≤◌, ◌+◌, ◌<◌, ℕ, suc, List, [], ◌∷◌, map, drop, drop-cons, add-one, get_or, length, true, Option, Some, None, refl, sym, ap, ◌∙◌}
+use Rattle.std.proofs.Common.{◌≡◌, ◌≤◌, ℕ, List, [], ◌∷◌, map, true, Option, Some, None, refl, ap}
 use Rattle.std.specs.List.{All}
 use Rattle.pb_semantics.proofs.Bools.{untrue}
 use Rattle.pb_semantics.specs.Limits.{most_play_steps}
@@ -33,7 +33,3 @@ accepted-few a h =
 pub plans-of-views : (ms : Registry) (ps : List Play) → map (λ p. play_plan ms (play_view p)) ps ≡ map (play_plan ms) (map play_view ps)
 plans-of-views ms [] = refl
 plans-of-views ms (p ∷ ps) = ap (λ os. play_plan ms (play_view p) ∷ os) (plans-of-views ms ps)
-
--- the plays from a place on, of which one comes first
-pub plays-next : (ps : List Play) (i : ℕ) (p : Play) → i < length ps → p ≡ get_or ps i p → drop i ps ≡ p ∷ drop (i + 1) ps
-plays-next ps i p h e = drop-cons ps i p h ∙ rw (add-one i) (ap (λ x. x ∷ drop (suc i) ps) (sym e))

@@ -26,7 +26,10 @@ use std::sync::Arc;
 /// # Errors
 ///
 /// Want of memory.
-pub fn reads_of<'p>(alloc: Global, station: &Station<'p>) -> Result<BTreeSet<&'p str>, AllocError>
+pub fn reads_of<'s>(
+    alloc: Global,
+    station: &'s Station<'_>,
+) -> Result<BTreeSet<&'s str>, AllocError>
     requires station { IsStation station.now }
     ensures sound { IfOk result (λ ns. (n : Name) → is_among n (names_in ns) ≡ true
         → Reads (station_task station.now) n) }

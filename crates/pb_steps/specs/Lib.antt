@@ -1,3 +1,6 @@
 pub mod Outlines
 pub mod Leads
+pub mod Nodes
+pub mod Numbers
+pub mod Uses
 pub mod Words

@@ -1,0 +1,175 @@
+// What a task does at its Start: for each item a skip, a call of its module with the arguments, or
+// what its action does.
+ghost use Rattle.std.specs.Prelude.{◌++◌, ◌≡◌, IfOk, None, OnOk, map, option_map};
+ghost use Rattle.pb_language.specs.Expansion.{expanded};
+ghost use Rattle.pb_language.specs.Start.{eval_item, plan_items, plan_loop, with_local_item};
+ghost use Rattle.pb_language.specs.Task.{Task};
+ghost use Rattle.pb_language.specs.Words.{eval as outcome_of, plan_of, value};
+ghost use Rattle.pb_value.specs.Words.{items_view, view};
+ghost use Rattle.pb_syntax.specs.Words.{expr_view};
+ghost use Rattle.pb_start.specs.Words.{ArePlanned, IsMade, Prepares, call_arguments};
+ghost use Rattle.pb_start.specs.Words.{entry_arguments, entry_view, pass_view, trees_of};
+
+use crate::action::made;
+use crate::conditions::{all_hold, is_so};
+use crate::local::Local;
+use crate::prepared::Prepared;
+use pb_eval::eval::eval;
+use pb_eval::{Vars, values_of};
+use pb_syntax::Expr;
+use pb_value::{Fields, Value, Weighed};
+use std::alloc::{AllocError, Global};
+use std::sync::Arc;
+
+/// What comes of a task, or of one item of it.
+#[derive(Drop)]
+pub enum Entry {
+    /// A condition is false.
+    Skips,
+    /// The module is called with these arguments.
+    Calls(Value),
+    /// A message is shown.
+    Shows,
+    /// These values are set.
+    Sets(Arc<Weighed<Fields>>),
+    /// An assertion, which may be false, or a failure.
+    Says { failed: bool, message: Value },
+}
+
+/// One item of a task, or the task itself.
+#[derive(Drop)]
+pub struct Pass {
+    pub item: Option<Value>,
+    pub entry: Entry,
+}
+
+/// What the task does in this world, in the order of its items (Ansible's pages on loops and
+/// conditionals): the loop is evaluated first, then for each item the conditions and, where these
+/// hold, the arguments. Where the definitions have no plan, anything.
+///
+/// # Errors
+///
+/// Want of memory.
+pub fn start<V: Vars>(alloc: Global, prepared: &Prepared, vars: &V) -> Result<Vec<Pass>, AllocError>
+    ensures { IfOk result (λ ps. (t : Task) → Prepares prepared.now t
+        → ArePlanned ps.items (plan_of (V.world vars.now) t t.loop)) }
+{
+    match &prepared.loop_over {
+        None => alone(alloc, prepared, vars),
+        Some(items) => over(alloc, prepared, items, vars),
+    }
+}
+
+/// The arguments of the calls that the passes make, in their order.
+///
+/// # Errors
+///
+/// Want of memory.
+pub fn arguments_of(alloc: Global, passes: &[Pass]) -> Result<Vec<Value>, AllocError>
+    ensures { IfOk result (λ vs. map view vs.items ≡ call_arguments (map pass_view passes.now)) }
+{
+    let mut all = Vec::new(alloc);
+    for pass in passes {
+        add_call(&mut all, &pass.entry)?;
+    }
+    Ok(all)
+}
+
+fn add_call(all: &mut Vec<Value>, entry: &Entry) -> Result<(), AllocError>
+    ensures { OnOk result (map view all.new.items
+        ≡ map view all.old.items ++ entry_arguments (entry_view entry.now)) }
+{
+    match entry {
+        Entry::Calls(arguments) => {
+            let copy = arguments.clone()?;
+            all.push(copy)?;
+            Ok(())
+        }
+        _ => Ok(()),
+    }
+}
+
+// A task without a loop.
+fn alone<V: Vars>(alloc: Global, prepared: &Prepared, vars: &V) -> Result<Vec<Pass>, AllocError>
+    ensures { IfOk result (λ ps. (t : Task) → Prepares prepared.now t
+        → ArePlanned ps.items (plan_of (V.world vars.now) t None)) }
+{
+    let entry = entry_of(alloc, prepared, None, vars)?;
+    Ok(vec![in alloc; Pass { item: None, entry }]?)
+}
+
+// A task with a loop.
+fn over<V: Vars>(
+    alloc: Global,
+    prepared: &Prepared,
+    items: &Expr,
+    vars: &V,
+) -> Result<Vec<Pass>, AllocError>
+    ensures { IfOk result (λ ps. (t : Task) → Prepares prepared.now t
+        → ArePlanned ps.items (plan_loop (V.world vars.now) t (outcome_of (V.world vars.now)
+        (expanded (trees_of prepared.now) (expr_view items.now))))) }
+{
+    let known = values_of(alloc, &prepared.names, vars)?;
+    let worth = eval(alloc, items, &known)?;
+    looped(alloc, prepared, worth, vars)
+}
+
+// The passes of a task's items, given what its loop is worth.
+fn looped<V: Vars>(
+    alloc: Global,
+    prepared: &Prepared,
+    items: Value,
+    vars: &V,
+) -> Result<Vec<Pass>, AllocError>
+    ensures { IfOk result (λ ps. (t : Task) → Prepares prepared.now t
+        → ArePlanned ps.items (plan_loop (V.world vars.now) t (value (view items)))) }
+{
+    match &items {
+        Value::List(items) => passes_of(alloc, prepared, items, vars),
+        _ => Ok(Vec::new(alloc)),
+    }
+}
+
+fn passes_of<V: Vars>(
+    alloc: Global,
+    prepared: &Prepared,
+    items: &[Value],
+    vars: &V,
+) -> Result<Vec<Pass>, AllocError>
+    ensures { IfOk result (λ ps. (t : Task) → Prepares prepared.now t
+        → ArePlanned ps.items (plan_items (V.world vars.now) t (items_view items.now))) }
+{
+    let mut passes = Vec::with_capacity(alloc, items.len())?;
+    for item in items {
+        let entry = entry_of(alloc, prepared, Some(item), vars)?;
+        passes.push(Pass {
+            item: Some(item.clone()?),
+            entry,
+        })?;
+    }
+    Ok(passes)
+}
+
+// What comes of an item, or of the task itself.
+fn entry_of<V: Vars>(
+    alloc: Global,
+    prepared: &Prepared,
+    item: Option<&Value>,
+    vars: &V,
+) -> Result<Entry, AllocError>
+    ensures { IfOk result (λ e. (t : Task) → Prepares prepared.now t
+        → IsMade e (eval_item (with_local_item (V.world vars.now)
+        (option_map (λ v. view v.now) item.entry)) t)) }
+{
+    let local = Local {
+        vars,
+        name: "item",
+        value: item,
+    };
+    let known = values_of(alloc, &prepared.names, &local)?;
+    let holds = all_hold(alloc, &prepared.conditions, &known)?;
+    if is_so(holds) {
+        return made(alloc, &prepared.action, &known);
+    }
+    Ok(Entry::Skips)
+}

@@ -96,8 +96,24 @@ def wrong_conversion():
         words = ["convert", "book.yml", "-i", "../inventory.yml", "-o", made]
         done = run_tool(words, folder)
         found = {path.stem: json.loads(path.read_text(encoding="utf-8")) for path in Path(made).glob("*.json")}
-    if done.returncode or found != wanted:
-        yield f"convert: status {done.returncode}, wanted {json.dumps(wanted)}, found {json.dumps(found)}"
+    if done.returncode or done.stderr or found != wanted:
+        yield f"convert: {done.stderr}, status {done.returncode}, wanted {json.dumps(wanted)}, found {json.dumps(found)}"
+
+
+def wrong_warnings():
+    """`convert` says of how many expressions the values are others, and its map marks the lines that have them."""
+    folder = CASES / "converted_stand_ins"
+    end = ": this book is for check, and not for run\n"
+    several = f"2 expressions stand for operations that the profile lacks (book.yml:12:16 first){end}"
+    one = f"1 expression stands for an operation that the profile lacks (one.yml:7:13){end}"
+    marked = [("Ask", 0), ("Exact", 0), ("Two", 2)]
+    for book, told, lines in [("book.yml", several, marked), ("one.yml", one, [("", 0), ("", 1), ("", 1)])]:
+        with tempfile.TemporaryDirectory() as made:
+            done = run_tool(["convert", book, "-i", "../inventory.yml", "-o", made], folder)
+            lines_of = json.loads(Path(made, "lines.json").read_text(encoding="utf-8"))
+        found = [(line["name"], line["stand_ins"]) for line in lines_of if line["kind"] != "play"]
+        if (done.returncode, done.stdout, done.stderr, found) != (0, "", f"playcheck-ansible: {told}", lines):
+            yield f"convert {book}: {done}, the lines {found}"
 
 
 def wrong_signatures():
@@ -146,8 +162,8 @@ def lost_passes():
     return [f"docs/FROM_ANSIBLE.md doesn't name {one.__name__}" for one in passes if f"`{one.__name__}`" not in page]
 
 
-SEARCHES = (lost_titles, lost_passes, lost_hook, wrong_conversion, wrong_signatures, wrong_gitlab, wrong_junit,
-            wrong_strict, wrong_sarif, wrong_lookups, wrong_time_limit, wrong_rewritings, wrong_completion, lost_words,
+SEARCHES = (lost_titles, lost_passes, lost_hook, wrong_conversion, wrong_warnings, wrong_signatures, wrong_gitlab,
+            wrong_junit, wrong_strict, wrong_sarif, wrong_lookups, wrong_time_limit, wrong_rewritings, wrong_completion, lost_words,
             wrong_action, wrong_gitlab_job)
 
 

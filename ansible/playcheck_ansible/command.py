@@ -7,7 +7,7 @@ import sys
 
 from .checking import Options, check_book, settled
 from .codes import section_of
-from .converting import write_converted
+from .converting import warning_of, write_converted
 from .formats import FORMATS
 from .documented import documentation, signatures_of, without_file
 from .loading import load_book
@@ -99,6 +99,9 @@ def convert(words):
     options = options_of(words)
     settler, inventory = settled(words.book, options, *with_lookup([words.book], options, words))
     write_converted(words.output, settler, inventory)
+    warning = warning_of(settler.numbered.lines)
+    if warning:
+        told(warning)
     return 0
 
 

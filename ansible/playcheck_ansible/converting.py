@@ -24,9 +24,26 @@ def write(folder, name, value):
 
 
 def line_json(number, line):
-    """A counted line: what it is, where it stands, and whether it is judged."""
+    """A counted line: what it is, where it stands, whether it is judged, and how many expressions have other values."""
     place = line.place
     reason = getattr(line.step, "reason", "") if line.step is not None else ""
     return {"counted_line": number, "kind": line.kind, "file": place.file, "line": place.line, "column": place.column,
             "name": line.name, "play": line.play.name if line.play is not None else "",
-            "not_judged": reason or None}
+            "not_judged": reason or None, "stand_ins": sum(by_text([line]).values())}
+
+
+def by_text(lines):
+    """How many expressions of each text of the files have other values; a text may be printed more than once."""
+    printed = (sorted(line.stand_ins(), key=lambda text: text.place) for line in lines if line is not None)
+    return {(text.place, text.text): text.stand_ins for texts in printed for text in texts}
+
+
+def warning_of(lines):
+    """What is said of a book in which expressions have other values; of any other book nothing."""
+    found = by_text(lines)
+    if not found:
+        return ""
+    count, (first, _) = sum(found.values()), next(iter(found))
+    told = (f"1 expression stands for an operation that the profile lacks ({first})" if count == 1 else
+            f"{count} expressions stand for operations that the profile lacks ({first} first)")
+    return f"{told}: this book is for check, and not for run"

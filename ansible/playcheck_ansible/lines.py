@@ -11,6 +11,7 @@ class Line:
     kind: str  # play, facts, block, task, handler, asked (what a task's words ask), condition (of an include)
     play: Optional[Play]
     step: Optional[object] = None
+    nodes: tuple = ()  # what of the files is printed in it
 
     @property
     def source(self):
@@ -23,6 +24,10 @@ class Line:
     @property
     def name(self):
         return self.source.name if self.source else ""
+
+    def stand_ins(self):
+        """The texts that are printed in it with other values than those of the files."""
+        return [text for node in self.nodes for text in texts_of(node) if text.stand_ins]
 
 
 @dataclass
@@ -49,7 +54,7 @@ class Printer:
         if isinstance(play, Raw):
             self.lines.append(Line("play", None, play))
             return plain(play.node)
-        self.lines.append(Line("play", play))
+        self.lines.append(Line("play", play, nodes=(play.words,)))
         printed = {key: plain(part) for key, part in play.words.pairs.items()}
         if printed.get("gather_facts") is True:
             self.lines.append(Line("facts", play))
@@ -80,15 +85,16 @@ class Printer:
     def included(self, block, play):
         """An include whose condition is asked before its tasks: where it is false, its block is left at its start."""
         if "vars" in block.words:
-            self.lines.append(Line("block", play, block))
-            outer = {"vars": plain(block.words.get("vars"))}
+            given = block.words.get("vars")
+            self.lines.append(Line("block", play, block, (given,)))
+            outer = {"vars": plain(given)}
             return [{**outer, "block": self.included_steps(block, play)}]
         return self.included_steps(block, play)
 
     def included_steps(self, block, play):
         self.conditions += 1
         name = f"playcheck_include_{self.conditions}"
-        self.lines.append(Line("condition", play, block))
+        self.lines.append(Line("condition", play, block, (block.words.get("when"),)))
         conditions = " and ".join(f"({text.value})" for text in texts_of(block.words.get("when")))
         first = {"set_fact": {name: "{{ " + conditions + " }}"}}
         pairs = {key: part for key, part in block.words.pairs.items() if key not in ("when", "vars")}
@@ -98,8 +104,8 @@ class Printer:
         return [first, {**inner, "rescue": [{"fail": {"msg": "a task failed"}, "when": name}]}]
 
     def block(self, block, play, words=None, first=None):
-        self.lines.append(Line("block", play, block))
         words = words or block.words
+        self.lines.append(Line("block", play, block, (words,)))
         printed = {key: plain(part) for key, part in words.pairs.items() if key not in PARTS}
         if first:
             self.lines.append(Line("condition", play, block))
@@ -114,12 +120,12 @@ class Printer:
 
     def task(self, task, play):
         kind = "handler" if task.is_handler else "task"
-        scope = {key: plain(task.words.get(key)) for key in ("when", "loop", "vars") if key in task.words}
+        scope = {key: task.words.get(key) for key in ("when", "loop", "vars") if key in task.words}
         asked = [] if task.reason and not task.is_still_asked else self.asked(task, task.asked, scope, play)
         if task.reason:
             self.lines.append(Line(kind, play, task))
             return [*asked, self.unjudged(task, play)]
-        self.lines.append(Line(kind, play, task))
+        self.lines.append(Line(kind, play, task, (task.words,)))
         return [*asked, {key: plain(part) for key, part in task.words.pairs.items()},
                 *self.not_ignored(task, play), *self.facts(play, task.facts)]
 
@@ -132,17 +138,18 @@ class Printer:
         """Behind a task whose `ignore_errors` is a template: where that is false, the host may end here."""
         if task.may_ignore is None:
             return []
-        self.lines.append(Line("asked", play, task))
-        given = {"vars": plain(task.words.get("vars"))} if "vars" in task.words else {}
-        return [{"fail": {"msg": "the task failed"}, "when": f"not ({task.may_ignore.value})", **given}]
+        given = {"vars": task.words.get("vars")} if "vars" in task.words else {}
+        self.lines.append(Line("asked", play, task, (task.may_ignore, *given.values())))
+        words = {key: plain(node) for key, node in given.items()}
+        return [{"fail": {"msg": "the task failed"}, "when": f"not ({task.may_ignore.value})", **words}]
 
     def asked(self, source, values, scope, play):
         """A message of the templates that stand in words which are passed over, so that they are asked."""
-        texts = [text.value for value in values for text in texts_of(value) if has_template(text.value)]
+        texts = [text for value in values for text in texts_of(value) if has_template(text.value)]
         if not texts:
             return []
-        self.lines.append(Line("asked", play, source))
-        return [{"debug": {"msg": texts}, **scope}]
+        self.lines.append(Line("asked", play, source, (*texts, *scope.values())))
+        return [{"debug": {"msg": [text.value for text in texts]}, **{key: plain(node) for key, node in scope.items()}}]
 
     def unjudged(self, task, play):
         """A call that may change or fail, in the place of a task that isn't judged."""

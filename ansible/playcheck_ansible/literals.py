@@ -3,10 +3,10 @@ import re
 
 from .books import Block, Raw, Task
 from .inventory import is_opaque
-from .names import KNOWN, MAGIC, TEXT, expression_names, given_names, outside_form
+from .names import KNOWN, MAGIC, TEXT, expression_names, given_names, outside_form, read_places
 from .nodes import Mapping, Scalar, is_literal, plain
 from .rewriting import changed_texts, rewrite_words
-from .stand_ins import stand_ins
+from .stand_ins import rewritten, stand_ins
 
 # What Ansible's filter `bool` takes as true; any other text is false.
 TRUTHS = ("yes", "on", "1", "true")
@@ -20,23 +20,52 @@ WORDS = {"true": True, "True": True, "false": False, "False": False}
 
 def run_literal_passes(book, inventory):
     values = Values(book, inventory)
-
-    def change(expression):
-        return stand_ins(plain_defaults(plain_truths(expression, values), values))
-
-    def change_asked(expression):
-        return stand_ins(change(expression), True)
-
     for play in book.plays:
         if isinstance(play, Raw):
             continue
         for one in [play, *(step for step in play.steps() if isinstance(step, (Block, Task)))]:
-            if "debug" in one.words:
-                one.words.put("debug", changed_texts(one.words.get("debug"), change_asked))
-            rewrite_words(one.words, change)
-            one.asked = [changed_texts(node, change_asked) for node in one.asked]
-            if isinstance(one, Task) and one.may_ignore is not None:
-                ignored(one, change)
+            Expressions(one, values).rewrite()
+
+
+class Expressions:
+    """The expressions of a play or a step: changes them, and marks the texts of which one has another value since."""
+
+    def __init__(self, holder, values):
+        self.holder, self.values = holder, values
+        self.inexact = set()
+
+    def rewrite(self):
+        holder = self.holder
+        if "debug" in holder.words:
+            holder.words.put("debug", changed_texts(holder.words.get("debug"), self.change_asked))
+        rewrite_words(holder.words, self.change)
+        holder.asked = [changed_texts(node, self.change_asked) for node in holder.asked]
+        if isinstance(holder, Task) and holder.may_ignore is not None:
+            ignored(holder, self.change)
+            self.mark([(holder.may_ignore.value, holder.may_ignore)])
+        self.mark(read_places(holder.words, holder.asked))
+
+    def change(self, expression):
+        return self.written(plain_defaults(plain_truths(expression, self.values), self.values), False)
+
+    def change_asked(self, expression):
+        return self.written(self.change(expression), True)
+
+    def written(self, expression, is_loose):
+        new, is_exact = rewritten(expression, is_loose)
+        if not is_exact or bare(expression) in self.inexact:
+            self.inexact.add(bare(new))
+        return new
+
+    def mark(self, places):
+        for expression, text in places if self.inexact else ():
+            text.stand_ins += bare(expression) in self.inexact
+
+
+def bare(expression):
+    """An expression without the braces round it."""
+    inside = re.fullmatch(r"\s*\{\{(.*)\}\}\s*", expression, re.S)
+    return (inside[1] if inside else expression).strip()
 
 
 def ignored(task, change):

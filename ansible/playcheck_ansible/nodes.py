@@ -11,6 +11,7 @@ class Scalar:
     place: Place
     text: str = ""  # as it is written
     is_quoted: bool = False
+    stand_ins: int = 0  # how many of its expressions have other values than those that are written
 
 
 @dataclass

@@ -38,13 +38,6 @@ def all_read(parts):
     return tuple(dict.fromkeys(text for part in parts for text in part.read()))
 
 
-def stand_in(kind, reads):
-    """A part of a kind that reads what the real one reads: its value is another, and no verdict hangs on it."""
-    listed = f"[{', '.join(reads)}] | length"
-    text = {"int": f"({listed})", "text": f"([{listed}] | join)", "bool": f"({listed} == 1)"}.get(kind)
-    return Part(text, kind, PLAIN, tuple(reads))
-
-
 def as_text(part):
     """What is read of a part that has to be a text: it has a length, and it can be joined."""
     if part.kind == "text":
@@ -80,70 +73,8 @@ def written_ways(words):
 TRUE_TEXTS = "[" + ", ".join(f"'{word}'" for word in written_ways(TRUE_WORDS)) + "]"
 
 
-def truth(part):
-    """`x | bool`: a truth value is itself, and of all others 1 and these texts are true."""
-    if part.kind == "bool":
-        return part
-    if part.literal:
-        return literal_part(is_true(part.literal[0]), str(is_true(part.literal[0])).lower(), "bool")
-    if part.kind in ("text", "int", "float", "split"):
-        return stand_in("bool", part.read())
-    if part.default and part.default[1].literal:
-        path, default = part.default
-        inside = truth(path).text
-        return Part(f"({path.text} is undefined or {inside})" if is_true(default.literal[0])
-                    else f"({path.text} is defined and {inside})", "bool")
-    plain = part.at(OPERAND)
-    return Part(f"({plain} == true or {plain} == 1 or {plain} in {TRUE_TEXTS})", "bool")
-
-
 def is_true(value):
     return value if isinstance(value, bool) else str(value).lower() in TRUE_WORDS
-
-
-def defaulted(part, default, takes_falsy):
-    """`default`; where it also stands for what is empty or false, only its kind is known, if the two have the same."""
-    if not takes_falsy:
-        if part.text is None or part.reads:
-            return part
-        found = Part(f"{part.at(OPERAND)} | default({default.at(OR)})", "", OPERAND)
-        return replace(found, default=(part, default)) if part.is_path else found
-    reads = (f"{part.at(OPERAND)} | default({default.at(OR)})",) if part.is_path else part.read()
-    both = (*reads, *default.read())
-    return stand_in(part.kind, both) if part.kind == default.kind else Part(None, "", PLAIN, both)
-
-
-def chosen(condition, one, other):
-    """An inline `if`: only the part that is chosen is read."""
-    yes, no = condition.at(AND), f"not {condition.at(NOT)}"
-    if one.kind == other.kind == "bool":
-        return Part(f"({yes} and {one.at(NOT)} or {no} and {other.at(NOT)})", "bool")
-    both = [f"[{', '.join(part.read())}] | length == 1" for part in (one, other)]
-    reads = (f"{yes} and {both[0]} or {no} and {both[1]}",)
-    return stand_in(one.kind, reads) if one.kind == other.kind else Part(None, "", PLAIN, reads)
-
-
-def compared(left, sign, right):
-    """A comparison: of whatever the profile can't write, it is a truth value where Ansible can compare it."""
-    if left.text is not None and right.text is not None and not {"float"} & {left.kind, right.kind}:
-        return Part(f"{left.at(OPERAND)} {sign} {right.at(OPERAND)}", "bool", RELATION)
-    kinds = {left.kind, right.kind}
-    is_total = sign in ("==", "!=") or kinds <= {"int", "float"} or sign.endswith("in") and kinds == {"text"}
-    if not is_total:
-        raise Unfit
-    return stand_in("bool", all_read([left, right]))
-
-
-def calculated(left, sign, right):
-    """Arithmetic of numbers whose kinds are known, and texts put together."""
-    kinds = {left.kind, right.kind}
-    both = all_read([left, right])
-    if sign == "~" or sign == "+" and kinds == {"text"}:
-        return stand_in("text", both)
-    divisor = right.literal[0] if right.literal else 0
-    if not kinds <= {"int", "float"} or sign in ("/", "//", "%") and not divisor:
-        raise Unfit
-    return stand_in("int" if kinds == {"int"} and sign != "/" else "float", both)
 
 
 def is_pattern(part):
@@ -153,3 +84,74 @@ def is_pattern(part):
     except (re.error, TypeError):
         return False
     return True
+
+
+class Writer:
+    """Writes parts, and knows whether all of them have the values of what was read."""
+
+    def __init__(self):
+        self.is_exact = True
+
+    def stand_in(self, kind, reads):
+        """A part of a kind that reads what the real one reads: its value is another, and no verdict hangs on it."""
+        self.is_exact = False
+        listed = f"[{', '.join(reads)}] | length"
+        text = {"int": f"({listed})", "text": f"([{listed}] | join)", "bool": f"({listed} == 1)"}.get(kind)
+        return Part(text, kind, PLAIN, tuple(reads))
+
+    def truth(self, part):
+        """`x | bool`: a truth value is itself, and of all others 1 and these texts are true."""
+        if part.kind == "bool":
+            return part
+        if part.literal:
+            return literal_part(is_true(part.literal[0]), str(is_true(part.literal[0])).lower(), "bool")
+        if part.kind in ("text", "int", "float", "split"):
+            return self.stand_in("bool", part.read())
+        if part.default and part.default[1].literal:
+            path, default = part.default
+            inside = self.truth(path).text
+            return Part(f"({path.text} is undefined or {inside})" if is_true(default.literal[0])
+                        else f"({path.text} is defined and {inside})", "bool")
+        plain = part.at(OPERAND)
+        return Part(f"({plain} == true or {plain} == 1 or {plain} in {TRUE_TEXTS})", "bool")
+
+    def defaulted(self, part, default, takes_falsy):
+        """`default`; where it also stands for what is false, only its kind is known, if the two have the same."""
+        if not takes_falsy:
+            if part.text is None or part.reads:
+                return part
+            found = Part(f"{part.at(OPERAND)} | default({default.at(OR)})", "", OPERAND)
+            return replace(found, default=(part, default)) if part.is_path else found
+        reads = (f"{part.at(OPERAND)} | default({default.at(OR)})",) if part.is_path else part.read()
+        both = (*reads, *default.read())
+        return self.stand_in(part.kind, both) if part.kind == default.kind else Part(None, "", PLAIN, both)
+
+    def chosen(self, condition, one, other):
+        """An inline `if`: only the part that is chosen is read."""
+        yes, no = condition.at(AND), f"not {condition.at(NOT)}"
+        if one.kind == other.kind == "bool":
+            return Part(f"({yes} and {one.at(NOT)} or {no} and {other.at(NOT)})", "bool")
+        both = [f"[{', '.join(part.read())}] | length == 1" for part in (one, other)]
+        reads = (f"{yes} and {both[0]} or {no} and {both[1]}",)
+        return self.stand_in(one.kind, reads) if one.kind == other.kind else Part(None, "", PLAIN, reads)
+
+    def compared(self, left, sign, right):
+        """A comparison: of whatever the profile can't write, it is a truth value where Ansible can compare it."""
+        if left.text is not None and right.text is not None and not {"float"} & {left.kind, right.kind}:
+            return Part(f"{left.at(OPERAND)} {sign} {right.at(OPERAND)}", "bool", RELATION)
+        kinds = {left.kind, right.kind}
+        is_total = sign in ("==", "!=") or kinds <= {"int", "float"} or sign.endswith("in") and kinds == {"text"}
+        if not is_total:
+            raise Unfit
+        return self.stand_in("bool", all_read([left, right]))
+
+    def calculated(self, left, sign, right):
+        """Arithmetic of numbers whose kinds are known, and texts put together."""
+        kinds = {left.kind, right.kind}
+        both = all_read([left, right])
+        if sign == "~" or sign == "+" and kinds == {"text"}:
+            return self.stand_in("text", both)
+        divisor = right.literal[0] if right.literal else 0
+        if not kinds <= {"int", "float"} or sign in ("/", "//", "%") and not divisor:
+            raise Unfit
+        return self.stand_in("int" if kinds == {"int"} and sign != "/" else "float", both)

@@ -1,8 +1,9 @@
 # Changes the expressions in a task's or a play's words, wherever they stand; places stay.
 import re
+from dataclasses import replace
 
 from .names import CONDITIONS
-from .nodes import Mapping, Scalar, Sequence, is_text
+from .nodes import Mapping, Sequence, is_text
 
 TEMPLATE = re.compile(r"\{\{.*?\}\}", re.S)
 NO_TEMPLATES = ("name", "notify", "listen", "register")
@@ -41,4 +42,4 @@ def changed(node, change):
         is_same = all(item is before for item, before in zip(items, node.items))
         return node if is_same else Sequence(items, node.place)
     text = change(node.value) if is_text(node) else None
-    return Scalar(text, node.place, node.text, node.is_quoted) if is_text(node) and text != node.value else node
+    return replace(node, value=text) if is_text(node) and text != node.value else node

@@ -2,8 +2,8 @@
 import re
 from functools import lru_cache
 
-from .parts import (AND, NOT, OPERAND, OR, PLAIN, RELATION, Part, Unfit, all_read, as_text, calculated, chained, chosen,
-                    compared, defaulted, denied, is_pattern, literal_part, stand_in, truth)
+from .parts import (AND, NOT, OPERAND, OR, PLAIN, RELATION, Part, Unfit, Writer, all_read, as_text, chained, denied,
+                    is_pattern, literal_part)
 
 TOKEN = re.compile(r"\s*(?:(?P<text>'(?:[^'\\]|\\.)*'|\"(?:[^\"\\]|\\.)*\")|(?P<float>\d+\.\d+)|(?P<int>\d+)"
                    r"|(?P<name>[A-Za-z_]\w*)|(?P<sign>==|!=|<=|>=|//|\*\*|[-+*/%~<>=()\[\].,|]))")
@@ -26,30 +26,36 @@ DEEPEST = 24
 SUSPECT = re.compile(r"[|+*/%~(\[]|-\s|\bi[sf]\b")
 
 
-@lru_cache(4096)
 def stand_ins(expression, is_loose=False):
     """The expression with the profile's forms; `is_loose` where only what it reads counts, and not its kind."""
+    return rewritten(expression, is_loose)[0]
+
+
+@lru_cache(4096)
+def rewritten(expression, is_loose):
+    """The expression with the profile's forms, and whether its value is the same."""
     inside = re.fullmatch(r"\{\{(?!-)(.*)(?<!-)\}\}", expression, re.S)
     written = inside[1] if inside else expression
     if not SUSPECT.search(written):
-        return expression
+        return expression, True
     try:
         reader = Reader(written)
         part = reader.whole()
         if part.text is None and is_loose:
-            part = stand_in("text", part.read())
+            part = reader.stand_in("text", part.read())
         new = part.at(OR)
     except Unfit:
-        return expression
+        return expression, True
     if len(new) > LONGEST or re.sub(r"\s", "", new) == re.sub(r"\s", "", written):
-        return expression
-    return "{{ " + new + " }}" if inside else new
+        return expression, True
+    return "{{ " + new + " }}" if inside else new, reader.is_exact
 
 
-class Reader:
+class Reader(Writer):
     """A reader by descent; what it can't read or write is Unfit, and then the expression stays as it is."""
 
     def __init__(self, text):
+        super().__init__()
         self.tokens, at = [], 0
         text = text.rstrip()
         while at < len(text):
@@ -100,7 +106,7 @@ class Reader:
         if self.take("if"):
             condition = self.alternatives()
             self.want("else")
-            part = chosen(condition, part, self.deeper(self.choice))
+            part = self.chosen(condition, part, self.deeper(self.choice))
         return part
 
     def alternatives(self):
@@ -124,7 +130,7 @@ class Reader:
         if not sign and self.is_next("not") and self.tokens[self.at + 1] == ("name", "in"):
             self.at += 2
             sign = "not in"
-        return compared(left, sign, self.sum()) if sign else left
+        return self.compared(left, sign, self.sum()) if sign else left
 
     def sum(self):
         return self.calculation(("+", "-"), self.joined)
@@ -138,7 +144,7 @@ class Reader:
     def calculation(self, signs, below):
         left = below()
         while self.is_next(*signs):
-            left = calculated(left, self.take(), below())
+            left = self.calculated(left, self.take(), below())
         return left
 
     def operand(self):
@@ -184,7 +190,7 @@ class Reader:
         parts = self.arguments() if self.is_next("(") else []
         if len(parts) != 2 or not parts[0].literal or parts[0].literal[0] != "env":
             raise Unfit
-        return stand_in("text", parts[1].read())
+        return self.stand_in("text", parts[1].read())
 
     def path(self, text):
         is_host = text in ("hostvars", "groups")
@@ -211,7 +217,7 @@ class Reader:
         index = word + self.next()[1] if (kind, word) == ("sign", "-") else word
         self.want("]")
         if part.kind == "split" and index in ("0", "-1"):
-            return stand_in("text", part.read())
+            return self.stand_in("text", part.read())
         if not part.is_path or not (kind == "text" or is_host and kind in ("int", "name")):
             raise Unfit
         return Part(f"{part.text}[{index}]", is_path=True)
@@ -221,7 +227,7 @@ class Reader:
         kind = METHODS.get(word)
         if kind is None or word == "split" and not given or any(one.kind != "text" for one in given):
             raise Unfit
-        return stand_in(kind, (*as_text(part), *all_read(given)))
+        return self.stand_in(kind, (*as_text(part), *all_read(given)))
 
     def arguments(self):
         """The arguments of a call: parts, the named ones without their names."""
@@ -241,36 +247,36 @@ class Reader:
         if name in ("default", "d") and len(given) in (1, 2):
             return self.default(part, given)
         if name == "bool" and not given:
-            return truth(part)
+            return self.truth(part)
         if name == "mandatory" and not given:
             return part
         if name == "join":
             return Part(f"{part.at(OPERAND)} | join" + (f"({given[0].at(OR)})" if given else ""), "text", OPERAND)
         if name in ("length", "count") and not given:
-            return stand_in("int", part.read()) if part.kind == "split" else \
+            return self.stand_in("int", part.read()) if part.kind == "split" else \
                 Part(f"{part.at(OPERAND)} | length", "int", OPERAND)
         if name in ("first", "last") and part.kind == "split" and not given:
-            return stand_in("text", part.read())
+            return self.stand_in("text", part.read())
         return self.known_filter(name, part, given)
 
     def default(self, part, given):
         if len(given) == 2 and not (given[1].literal and isinstance(given[1].literal[0], bool)):
             raise Unfit
-        return defaulted(part, given[0], len(given) == 2 and given[1].literal[0])
+        return self.defaulted(part, given[0], len(given) == 2 and given[1].literal[0])
 
     def known_filter(self, name, part, given):
         every = all_read([part, *given])
         if TEXT_OF_ANY.get(name) == len(given) or name == "regex_replace" and given and is_pattern(given[0]):
-            return stand_in("text", every)
+            return self.stand_in("text", every)
         if TEXT_OF_TEXT.get(name) == len(given):
-            return stand_in("text", as_text(part))
+            return self.stand_in("text", as_text(part))
         if name == "int" and all(one.kind == "int" for one in given):
-            return stand_in("int", every)
+            return self.stand_in("int", every)
         if name == "float" and not given:
-            return stand_in("float", every)
+            return self.stand_in("float", every)
         if name == "ternary" and len(given) == 2 and part.kind == "bool":
             one, other = given
-            return stand_in(one.kind, every) if one.kind == other.kind else Part(None, "", PLAIN, every)
+            return self.stand_in(one.kind, every) if one.kind == other.kind else Part(None, "", PLAIN, every)
         raise Unfit
 
     def test(self, part):
@@ -278,7 +284,7 @@ class Reader:
         name = self.take()
         given = self.arguments() if self.is_next("(") else []
         plain = RESULT_TESTS.get(name) or (name if name in ("defined", "undefined") and part.is_path else "")
-        if plain:
+        if plain and not given:
             return Part(f"{part.at(OPERAND)} {sign} {plain}", "bool", RELATION)
         found = self.known_test(name, part, given)
         return found if sign == "is" else denied(found)
@@ -287,10 +293,10 @@ class Reader:
         if name in ("none", "true", "false"):
             return guarded(part, f"{part.at(OPERAND)} == {name}")
         if name in SORTS and not given:
-            return guarded(part, stand_in("bool", part.read()).text)
+            return guarded(part, self.stand_in("bool", part.read()).text)
         if name in ("match", "search", "regex") and given and is_pattern(given[0]) \
                 or name in ("version", "version_compare") and len(given) in (1, 2):
-            return stand_in("bool", all_read([part, *given]))
+            return self.stand_in("bool", all_read([part, *given]))
         raise Unfit
 
 

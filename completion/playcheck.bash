@@ -70,6 +70,10 @@ _playcheck_ansible() {
         _playcheck_words "auto always never" "$word"
         return
         ;;
+    -t | --tags | --skip-tags)
+        COMPREPLY=()
+        return
+        ;;
     -o | --output)
         _playcheck_folders "$word"
         return

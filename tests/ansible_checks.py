@@ -15,6 +15,7 @@ from check import Check, outcome_of
 
 CASES = TOP / "tests" / "ansible"
 MEGABYTES = 700
+WAITED = 300  # in seconds, for what may take SECONDS of the processor's time: a machine may have more to do
 INVENTORY = '{"all": {"hosts": ["h1"]}}'
 
 
@@ -80,12 +81,27 @@ def hostile_files():
 def wrong_hostile(name, data, wanted, status):
     files = {"book.yml": data.encode() if isinstance(data, str) else data, "hosts.json": INVENTORY}
     files = data if isinstance(data, dict) else files
-    outcome = outcome_of(TOOL, Check(name, ["check", "book.yml", "-i", "hosts.json"], None, files), SECONDS)
+    outcome = outcome_of(TOOL, Check(name, ["check", "book.yml", "-i", "hosts.json"], None, files), WAITED)
     told = outcome.stderr.decode(errors="replace")
     is_named = told.startswith("playcheck-ansible: ") and wanted in told and told.count("\n") == 1
-    if is_named and outcome.status == status and outcome.megabytes < MEGABYTES:
+    if is_named and outcome.status == status and outcome.megabytes < MEGABYTES and outcome.seconds < SECONDS:
         return ""
     return f"{name}: wanted status {status} and {wanted!r}, found {outcome}"
+
+
+def wrong_long_texts():
+    """Texts with much that is opened and never closed take as long as others of their length; what they ask is told."""
+    play = "- hosts: all\n  gather_facts: false\n  tasks:\n    - debug: {msg: \"#\"}\n"
+    unjudged = "book.yml: accepted, 0 of 1 tasks judged"
+    many = 200_000
+    cases = {"braces": (play.replace("#", "{{ " * many), unjudged), "signs": (play.replace("#", "{%" * many), unjudged),
+             "blanks": (play.replace("#", "{{ a | default(" + " " * many + "x y) }}"), unjudged),
+             "hosts": ("- hosts: h1" + ":h1" * many + "\n", "book.yml: refused, 1 finding, 0 of 0 tasks judged")}
+    for name, (book, wanted) in cases.items():
+        files = {"book.yml": book, "hosts.json": INVENTORY}
+        outcome = outcome_of(TOOL, Check(name, ["check", "book.yml", "-i", "hosts.json"], None, files), WAITED)
+        if not outcome.stdout.decode().endswith(f"{wanted}\n") or outcome.stderr or outcome.seconds > SECONDS:
+            yield f"a long text of {name}: wanted {wanted!r}, found {outcome}"
 
 
 def wrong_conversion():
@@ -162,9 +178,9 @@ def lost_passes():
     return [f"docs/FROM_ANSIBLE.md doesn't name {one.__name__}" for one in passes if f"`{one.__name__}`" not in page]
 
 
-SEARCHES = (lost_titles, lost_passes, lost_hook, wrong_conversion, wrong_warnings, wrong_signatures, wrong_gitlab,
-            wrong_junit, wrong_strict, wrong_sarif, wrong_lookups, wrong_time_limit, wrong_rewritings, wrong_completion, lost_words,
-            wrong_action, wrong_gitlab_job)
+SEARCHES = (lost_titles, lost_passes, lost_hook, wrong_long_texts, wrong_conversion, wrong_warnings, wrong_signatures,
+            wrong_gitlab, wrong_junit, wrong_strict, wrong_sarif, wrong_lookups, wrong_time_limit, wrong_rewritings,
+            wrong_completion, lost_words, wrong_action, wrong_gitlab_job)
 
 
 def main():

@@ -29,7 +29,15 @@ def host_patterns(play, inventory, added):
 
 def divided(text):
     """The words of a pattern: a colon in brackets is that of a range."""
-    return [word.strip() for word in re.split(r"[,:](?![^\[\]]*\])", text) if word.strip()]
+    ends, begins, is_inside = [len(text)], [], False
+    for mark in reversed(list(re.finditer(r"[\[\],:]", text))):
+        if mark[0] in "[]":
+            is_inside = mark[0] == "]"
+        elif not is_inside:
+            begins.append(mark.end())
+            ends.append(mark.start())
+    words = [text[begin:end].strip() for begin, end in zip([*begins, 0], ends)]
+    return [word for word in reversed(words) if word]
 
 
 def matched(words, inventory, added):

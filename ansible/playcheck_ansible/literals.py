@@ -10,7 +10,7 @@ from .stand_ins import rewritten, stand_ins
 
 # What Ansible's filter `bool` takes as true; any other text is false.
 TRUTHS = ("yes", "on", "1", "true")
-DEFAULT = r"\s*\|\s*default\(\s*(?P<default>[^(),]*?)\s*(?P<falsy>,\s*(?:boolean\s*=\s*)?[Tt]rue\s*)?\)"
+DEFAULT = r"\s*\|\s*default\((?P<default>[^(),]*)(?P<falsy>,\s*(?:boolean\s*=\s*)?[Tt]rue\s*)?\)"
 NAME = r"(?<![\w.\])])(?<!\.\s)(?P<name>[A-Za-z_]\w*)"
 BOOL = re.compile(NAME + rf"(?:{DEFAULT})?\s*\|\s*bool\b(?:\(\s*\))?(?!\s*[|.\[(])")
 FALSY = re.compile(NAME + DEFAULT)

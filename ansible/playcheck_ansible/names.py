@@ -2,10 +2,10 @@
 import re
 
 from .nodes import Mapping, is_text, texts_of
+from .templates import template_spans
 
 NAME = re.compile(r"[A-Za-z_][A-Za-z0-9_]*")
 READ = re.compile(r"(?<![A-Za-z0-9_.])(?<!\.\s)[A-Za-z_][A-Za-z0-9_]*")
-TEMPLATE = re.compile(r"\{\{(.*?)\}\}|\{%(.*?)%\}", re.S)
 FACT = re.compile(r"\bansible_facts\s*(?:\.\s*|\[\s*['\"])([A-Za-z_]\w*)")
 # A text in an expression, with its quotes.
 TEXT = re.compile(r"'(?:[^'\\]|\\.)*'|\"(?:[^\"\\]|\\.)*\"")
@@ -23,7 +23,7 @@ MAGIC = {"playbook_dir", "role_path", "role_name", "inventory_dir", "inventory_f
 
 def expressions_in(text):
     """The expressions of a template's text."""
-    return [found[0] or found[1] for found in TEMPLATE.findall(text)]
+    return [text[start + 2:end - 2] for start, end in template_spans(text)]
 
 
 def expression_names(text):

@@ -1,11 +1,10 @@
 # Changes the expressions in a task's or a play's words, wherever they stand; places stay.
-import re
 from dataclasses import replace
 
 from .names import CONDITIONS
 from .nodes import Mapping, Sequence, is_text
+from .templates import with_templates
 
-TEMPLATE = re.compile(r"\{\{.*?\}\}", re.S)
 NO_TEMPLATES = ("name", "notify", "listen", "register")
 
 
@@ -28,7 +27,7 @@ def changed_assert(node, change):
 
 def changed_texts(node, change):
     """The node with each expression in its templates changed."""
-    return changed(node, lambda text: TEMPLATE.sub(lambda found: change(found[0]), text) if "{{" in text else text)
+    return changed(node, lambda text: with_templates(text, change) if "{{" in text else text)
 
 
 def changed(node, change):

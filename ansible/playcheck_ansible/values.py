@@ -35,7 +35,8 @@ def split_words(text):
         elif letter in "'\"":
             quote = letter
         elif letter.isspace():
-            words, current, letter = (words + [current] if current else words), "", ""
+            words += [current] * bool(current)
+            current = letter = ""
         current += letter
         at += 1
     return words + [current] if current else words

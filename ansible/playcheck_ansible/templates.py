@@ -1,0 +1,27 @@
+# Where the templates of a text stand, found in one way along it, however many braces are opened and never closed.
+import re
+
+OPENING = re.compile(r"\{[{%]")
+CLOSING = {"{{": "}}", "{%": "%}"}
+
+
+def template_spans(text, signs=tuple(CLOSING)):
+    """Where each template begins and ends, with its braces; `signs` are those with which it may begin."""
+    last = {sign: text.rfind(CLOSING[sign]) for sign in signs}
+    opening = OPENING.search(text)
+    while opening:
+        start, inside = opening.span()
+        is_closed = last.get(opening[0], -1) >= inside
+        end = text.find(CLOSING[opening[0]], inside) + 2 if is_closed else start + 1
+        if is_closed:
+            yield start, end
+        opening = OPENING.search(text, end)
+
+
+def with_templates(text, change):
+    """The text with each `{{ .. }}` of it changed."""
+    parts, at = [], 0
+    for start, end in template_spans(text, ("{{",)):
+        parts += [text[at:start], change(text[start:end])]
+        at = end
+    return "".join([*parts, text[at:]])

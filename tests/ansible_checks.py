@@ -67,6 +67,7 @@ def hostile():
     yield "files that double", hostile_files(), "more than 1,000 files are put in place", 64
     many = "- hosts: all\n  pre_tasks: &t\n" + "    - command: x\n" * 3900 + "- hosts: all\n  tasks:\n"
     yield "tasks that double", many + "    - block: *t\n" * 30, "book.yml: more than 4,096 tasks and blocks", 64
+    yield "a name with a zero", '- import_playbook: "a\\0b"\n', "book.yml:1:20: what is imported can't be read: ", 64
     yield "itself imported", "- import_playbook: book.yml\n", "book.yml:1:20: book.yml is imported in itself", 64
 
 
@@ -113,7 +114,7 @@ def wrong_conversion():
         done = run_tool(words, folder)
         found = {path.stem: json.loads(path.read_text(encoding="utf-8")) for path in Path(made).glob("*.json")}
     if done.returncode or done.stderr or found != wanted:
-        yield f"convert: {done.stderr}, status {done.returncode}, wanted {json.dumps(wanted)}, found {json.dumps(found)}"
+        yield f"convert: {done.stderr}, status {done.returncode}, wanted {wanted}, found {found}"
 
 
 def wrong_warnings():

@@ -23,6 +23,8 @@ def read_bytes(path):
             data = file.read(MOST_BYTES + 1)
     except OSError as error:
         raise Problem(Place(path), error.strerror or str(error)) from None
+    except ValueError:
+        raise Problem(Place(repr(path)), "no file can have such a name") from None
     if len(data) > MOST_BYTES:
         raise Problem(Place(path), f"the file has more than {MOST_BYTES:,} bytes")
     return data

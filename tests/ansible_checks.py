@@ -62,6 +62,7 @@ def hostile():
     yield "half a pair", '- hosts: "\\ud800"\n', "book.yml:1:1", 64
     yield "an unknown anchor", "- *nothing\n", "book.yml:1:3: ", 64
     yield "a long number", play + "    - debug: {msg: " + "9" * 5000 + "}\n", "book.yml:4:20: '99999", 64
+    yield "a long number to the base 16", play + f"    - debug: {{msg: 0x{'f' * 5000}}}\n", "book.yml:4:20: '0xfff", 64
     yield "many values", "[" + "x," * 500_000 + "]", "more than 400,000 values", 64
     yield "no file inside", "- import_playbook: gone.yml\n", "book.yml:1:20: what is imported can't be read: gone", 64
     yield "files that double", hostile_files(), "more than 1,000 files are put in place", 64

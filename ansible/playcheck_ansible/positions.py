@@ -215,7 +215,9 @@ class Composer:
         node = yaml.ScalarNode(tag, text)
         try:
             if kind == "int":
-                return self.constructor.construct_yaml_int(node)
+                number = self.constructor.construct_yaml_int(node)
+                str(number)  # a ValueError where it has more digits than Python writes
+                return number
             if kind == "float":
                 return self.constructor.construct_yaml_float(node)
             if kind == "bool":

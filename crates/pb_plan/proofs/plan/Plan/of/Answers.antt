@@ -20,48 +20,48 @@ use Rattle.pb_plan.proofs.plan.Plan.of.Goals as goal
 
 pub nodes_of_plays-requires : goal.nodes_of_plays-requires
 nodes_of_plays-requires c = record {
-  few = subst (λ (ps : List Play). All (λ p. steps_of (play_view p) ≤ most_play_steps) ps) (sym (c.plays.ensures ∙ ap plays_of c.book.ensures.value)) (accepted-few c.args.checked.now c.budget.ensures.accepted);
+  few = subst (λ (ps : List Play). All (λ p. steps_of (play_view p) ≤ most_play_steps) ps) (sym (c.plays-plays.ensures ∙ ap plays_of c.book.ensures.value)) (accepted-few c.args.checked.now c.budget.ensures.accepted);
 }
 
 pub returns-clause-plays : goal.returns-clause-plays
 returns-clause-plays c =
     let ms = modules_of c.args.checked.now.registry in
-    let ps = c.plays.result.now in
-    let sound = subst (λ qs. AreSound ms (all_tasks qs)) (sym c.plays.ensures) c.book.ensures.sound in
+    let ps = c.plays-plays.result.now in
+    let sound = subst (λ qs. AreSound ms (all_tasks qs)) (sym c.plays-plays.ensures) c.book.ensures.sound in
     let gather = subst₂ (λ r ts. AllGather (modules_of r) ps ts) c.registry.ensures (sym c.deref.ensures.value) c.in_ok-gathering.ensures in
     let of : AreNodesOf ms ps c.in_ok-nodes.nodes.items = c.in_ok-nodes.ensures.plays ms sound gather in
-    c.in_ok-plays.ensures.plans ms ∙ plans-of ms ps c.in_ok-nodes.nodes.items of ∙ ap (map (λ p. play_plan ms (play_view p))) (c.plays.ensures ∙ ap plays_of c.book.ensures.value)
+    c.in_ok-plays.ensures.plans ms ∙ plans-of ms ps c.in_ok-nodes.nodes.items of ∙ ap (map (λ p. play_plan ms (play_view p))) (c.plays-plays.ensures ∙ ap plays_of c.book.ensures.value)
     ∙ plans-of-views ms (plays_of c.args.checked.now.book)
 
 pub returns-clause-uses : goal.returns-clause-uses
 returns-clause-uses c =
     let ms = modules_of c.args.checked.now.registry in
-    let ps = c.plays.result.now in
+    let ps = c.plays-plays.result.now in
     let names = names_of_slots c.in_ok-slots.slots in
-    let sound = subst (λ qs. AreSound ms (all_tasks qs)) (sym c.plays.ensures) c.book.ensures.sound in
+    let sound = subst (λ qs. AreSound ms (all_tasks qs)) (sym c.plays-plays.ensures) c.book.ensures.sound in
     let gather = subst₂ (λ r ts. AllGather (modules_of r) ps ts) c.registry.ensures (sym c.deref.ensures.value) c.in_ok-gathering.ensures in
     let of : AreNodesOf ms ps c.in_ok-nodes.nodes.items = c.in_ok-nodes.ensures.plays ms sound gather in
-    subst (λ qs. AllUsed ms names c.in_ok-plays.plays.items (map play_view qs)) (c.plays.ensures ∙ ap plays_of c.book.ensures.value)
+    subst (λ qs. AllUsed ms names c.in_ok-plays.plays.items (map play_view qs)) (c.plays-plays.ensures ∙ ap plays_of c.book.ensures.value)
     (all-used ms names ps c.in_ok-nodes.nodes.items c.in_ok-plays.plays.items of (c.in_ok-plays.ensures.uses ms))
 
 pub returns-clause-whole : goal.returns-clause-whole
 returns-clause-whole c n u =
     let ms = modules_of c.args.checked.now.registry in
-    let ps = c.plays.result.now in
+    let ps = c.plays-plays.result.now in
     let ns = c.in_ok-nodes.nodes.items in
-    let sound = subst (λ qs. AreSound ms (all_tasks qs)) (sym c.plays.ensures) c.book.ensures.sound in
+    let sound = subst (λ qs. AreSound ms (all_tasks qs)) (sym c.plays-plays.ensures) c.book.ensures.sound in
     let gather = subst₂ (λ r ts. AllGather (modules_of r) ps ts) c.registry.ensures (sym c.deref.ensures.value) c.in_ok-gathering.ensures in
     let of : AreNodesOf ms ps ns = c.in_ok-nodes.ensures.plays ms sound gather in
     let adds : Adds (SomeNodesUse ns) [] (names_of_slots c.in_ok-slots.slots) = subst (λ xs. Adds (SomeNodesUse xs) [] (names_of_slots c.in_ok-slots.slots)) c.deref-2.ensures.value c.in_ok-slots.ensures in
-    adds.whole n (nodes-use ms ps ns n c.in_ok-nodes.ensures.nodes of (subst (λ qs. SomePlayUses ms (map play_view qs) n) (sym (c.plays.ensures ∙ ap plays_of c.book.ensures.value)) u))
+    adds.whole n (nodes-use ms ps ns n c.in_ok-nodes.ensures.nodes of (subst (λ qs. SomePlayUses ms (map play_view qs) n) (sym (c.plays-plays.ensures ∙ ap plays_of c.book.ensures.value)) u))
 
 pub returns-clause-sound : goal.returns-clause-sound
 returns-clause-sound c n h =
     let ms = modules_of c.args.checked.now.registry in
-    let ps = c.plays.result.now in
+    let ps = c.plays-plays.result.now in
     let ns = c.in_ok-nodes.nodes.items in
-    let sound = subst (λ qs. AreSound ms (all_tasks qs)) (sym c.plays.ensures) c.book.ensures.sound in
+    let sound = subst (λ qs. AreSound ms (all_tasks qs)) (sym c.plays-plays.ensures) c.book.ensures.sound in
     let gather = subst₂ (λ r ts. AllGather (modules_of r) ps ts) c.registry.ensures (sym c.deref.ensures.value) c.in_ok-gathering.ensures in
     let of : AreNodesOf ms ps ns = c.in_ok-nodes.ensures.plays ms sound gather in
     let adds : Adds (SomeNodesUse ns) [] (names_of_slots c.in_ok-slots.slots) = subst (λ xs. Adds (SomeNodesUse xs) [] (names_of_slots c.in_ok-slots.slots)) c.deref-2.ensures.value c.in_ok-slots.ensures in
-    subst (λ qs. SomePlayUses ms (map play_view qs) n) (c.plays.ensures ∙ ap plays_of c.book.ensures.value) (plays-use ms ps ns n c.in_ok-nodes.ensures.nodes of (⊎_elim (λ e. untrue e) (λ x. x) (adds.sound n h)))
+    subst (λ qs. SomePlayUses ms (map play_view qs) n) (c.plays-plays.ensures ∙ ap plays_of c.book.ensures.value) (plays-use ms ps ns n c.in_ok-nodes.ensures.nodes of (⊎_elim (λ e. untrue e) (λ x. x) (adds.sound n h)))

@@ -91,6 +91,12 @@ def wrong_hostile(name, data, wanted, status):
     return f"{name}: wanted status {status} and {wanted!r}, found {outcome}"
 
 
+def long_chain():
+    """A book with a chain of names of `vars`, each of which reads the next one."""
+    names = "".join(f"    v{number}: '{{{{ v{number + 1} }}}}'\n" for number in range(4000))
+    return f"- hosts: all\n  vars:\n{names}    v4000: x\n  tasks:\n    - debug: {{msg: '{{{{ v0 }}}}'}}\n"
+
+
 def wrong_long_texts():
     """Texts with much that is opened and never closed take as long as others of their length; what they ask is told."""
     play = "- hosts: all\n  gather_facts: false\n  tasks:\n    - debug: {msg: \"#\"}\n"
@@ -98,7 +104,8 @@ def wrong_long_texts():
     many = 200_000
     cases = {"braces": (play.replace("#", "{{ " * many), unjudged), "signs": (play.replace("#", "{%" * many), unjudged),
              "blanks": (play.replace("#", "{{ a | default(" + " " * many + "x y) }}"), unjudged),
-             "hosts": ("- hosts: h1" + ":h1" * many + "\n", "book.yml: refused, 1 finding, 0 of 0 tasks judged")}
+             "hosts": ("- hosts: h1" + ":h1" * many + "\n", "book.yml: refused, 1 finding, 0 of 0 tasks judged"),
+             "names": (long_chain(), "book.yml: refused, 1 finding, 1 of 1 tasks judged")}
     for name, (book, wanted) in cases.items():
         files = {"book.yml": book, "hosts.json": INVENTORY}
         outcome = outcome_of(TOOL, Check(name, ["check", "book.yml", "-i", "hosts.json"], None, files), WAITED)

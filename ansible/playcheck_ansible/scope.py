@@ -1,4 +1,7 @@
 # What a book gives to its tasks: names, the places where they are given, and the blocks round a task.
+from collections import deque
+from graphlib import CycleError, TopologicalSorter
+
 from .books import Block, Play, Raw
 from .further_facts import FURTHER
 from .names import KNOWN, given_names, mentioned, names_of_vars
@@ -69,23 +72,26 @@ class Scope:
                 for name, node in given.pairs.items() if isinstance(given, Mapping) else ():
                     places[name] = given.keys.get(name) or node.place
                     reads[name] = sorted(mentioned(Mapping({"vars": node}, node.place)))
-        for start in reads:
-            path = path_back(start, reads)
-            if path:
-                return [(name, places[name]) for name in path]
+        known = {name: [one for one in read if one in reads] for name, read in reads.items()}
+        try:
+            TopologicalSorter(known).prepare()
+        except CycleError as fault:
+            circle = set(fault.args[1])
+            start = next(name for name in reads if name in circle)
+            return [(name, places[name]) for name in path_back(start, known)]
         return []
 
 
 def path_back(start, reads):
-    """The shortest way along names that are read from a name back to it."""
-    ways = [[start]]
-    seen = set()
-    while ways:
-        way = ways.pop(0)
-        for name in reads.get(way[-1], ()):
-            if name == start:
-                return [*way, start]
-            if name in reads and name not in seen:
-                seen.add(name)
-                ways.append([*way, name])
-    return []
+    """The shortest way along names that are read from a name in a circle back to it."""
+    waiting, before = deque([start]), {}
+    while start not in before:
+        last = waiting.popleft()
+        for name in reads[last]:
+            if name not in before:
+                before[name] = last
+                waiting.append(name)
+    path = [start, before[start]]
+    while path[-1] != start:
+        path.append(before[path[-1]])
+    return path[::-1]

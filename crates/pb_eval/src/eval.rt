@@ -133,8 +133,13 @@ fn list_of<V: Vars>(alloc: Global, items: &[Expr], vars: &V) -> Result<Value, Al
     Value::of_items(alloc, values)
 }
 
+/// The record of the expressions' values, by their names; opaque where one of them may not be read.
+///
+/// # Errors
+///
+/// Want of memory.
 #[cycle(eval)]
-fn record_of<V: Vars>(
+pub fn record_of<V: Vars>(
     alloc: Global,
     fields: &BTreeMap<String, Expr>,
     vars: &V,

@@ -1,6 +1,8 @@
 pub mod Behind
 pub mod Reached
 pub mod Whole
+pub mod Same
+pub mod Enough
 pub mod Gathered
 pub mod Trees
 pub mod Evaluated

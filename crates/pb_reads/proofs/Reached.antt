@@ -82,7 +82,7 @@ own-of (alias m e) n h = untrue h
 own-of (other t m) n h = untrue h
 own-of (member g i) n h = untrue h
 
-there-own : (rs : List Root) (n : Name) → is_among n (own_names rs) ≡ true → Contains rs (variable n)
+pub there-own : (rs : List Root) (n : Name) → is_among n (own_names rs) ≡ true → Contains rs (variable n)
 there-own [] n h = untrue h
 there-own (r ∷ rs) n h =
     ⊎_elim (λ x. subst (λ q. Contains (q ∷ rs) (variable n)) (sym (own-of r n x)) (here (variable n) rs)) (λ x. later r rs (variable n) (there-own rs n x))

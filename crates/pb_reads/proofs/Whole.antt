@@ -81,7 +81,7 @@ there-is : (o : Option Expression) (e : Expression) → o ≡ Some e → is_some
 there-is o e p = ap is_some p
 
 -- the values of names that aren't among these have all their roots there
-abbrev Closed : Parts → List Name → List Root → Type 0
+abbrev pub Closed : Parts → List Name → List Root → Type 0
 Closed scope seen rs = (m : Name) (e : Expression) → is_among m (own_names rs) ≡ true → part_named m scope ≡ Some e → is_among m seen ≡ false → Within (roots_in e) rs
 
 closed-step : (scope : Parts) (seen : List Name) (k : Name) (v : Expression) (rs : List Root) (b : Bool) → is_among k (own_names rs) ≡ b → part_named k scope ≡ Some v → depth_in (unknown_in scope seen) v ≤ 0
@@ -108,7 +108,7 @@ closed-step scope seen k v rs true is named known old m e own here new = ⊎_eli
       let there : is_among m (own_names (roots_in v)) ≡ true = ap (λ o. is_among m (own_names (value_roots o))) (sym named) ∙ x in
       not-known (is_among m seen) (is_some (part_named m scope)) new (there-is (part_named m scope) e here) (known-in (unknown_in scope seen) m v known there)
 
-closed-all : (scope : Parts) (seen : List Name) (ps : Parts) → IsInOrder scope seen ps → (rs : List Root) → Closed scope seen (reached scope ps rs)
+pub closed-all : (scope : Parts) (seen : List Name) (ps : Parts) → IsInOrder scope seen ps → (rs : List Root) → Closed scope seen (reached scope ps rs)
 closed-all scope seen no_parts h rs m e own here new = true-false (is_among m seen) (h m (there-is (part_named m scope) e here)) new
 closed-all scope seen (part k v ps) h rs m e own here new =
     closed-step scope seen k v (reached scope ps rs) (is_among k (own_names (reached scope ps rs))) refl h.0 h.1 (closed-all scope (k ∷ seen) ps h.2 rs) m e own here new
@@ -118,7 +118,7 @@ kept-step : (rs qs : List Root) (b : Bool) (r : Root) → Contains rs r → Cont
 kept-step rs qs true r c = Contains-append_left rs qs r c
 kept-step rs qs false r c = c
 
-kept : (scope ps : Parts) (rs : List Root) (r : Root) → Contains rs r → Contains (reached scope ps rs) r
+pub kept : (scope ps : Parts) (rs : List Root) (r : Root) → Contains rs r → Contains (reached scope ps rs) r
 kept scope no_parts rs r c = c
 kept scope (part k v ps) rs r c = kept-step (reached scope ps rs) (value_roots (part_named k scope)) (is_among k (own_names (reached scope ps rs))) r (kept scope ps rs r c)
 

@@ -45,7 +45,7 @@ pub fn names_read<'p>(
 }
 
 // The roots, and those of the values of names of `vars` that they reach.
-fn reached_roots<'p>(
+pub(crate) fn reached_roots<'p>(
     alloc: Global,
     scope: &InScope<'p>,
     order: &[&'p Entry],
@@ -128,7 +128,7 @@ fn put_behind<'p>(
 }
 
 // Adds the name of a variable of the host itself.
-fn add_own<'p>(own: &mut BTreeSet<&'p str>, root: &'p Root) -> Result<(), AllocError>
+pub(crate) fn add_own<'p>(own: &mut BTreeSet<&'p str>, root: &'p Root) -> Result<(), AllocError>
     ensures { OnOk result ((n : Name) → is_among n (names_in own.new)
         ≡ is_among n (own_name (root_view root.now) ++ names_in own.old)) }
 {

@@ -1,15 +1,12 @@
 // What a Start finds: items, conditions, names of `vars`, and each action.
-ghost use Rattle.std.specs.Prelude.{◌≡◌, IfOk, true};
-ghost use Rattle.pb_start.specs.Words.{is_ordered};
-ghost use Rattle.pb_template.specs.Words.{are_ascending, entry_names};
-
 use pb_eval::equal::equal;
 use pb_sig::Registry;
 use pb_start::{Action, Entry, Pass, Prepared, all_hold, arguments_of, start};
 use pb_syntax::{Expr, parse_expr, parse_template};
-use pb_template::{Entry as Argument, entries_of};
+use pb_template::expr_of;
 use pb_value::{Fields, Value, read_json};
 use std::alloc::Global;
+use std::collections::BTreeMap;
 use std::test::Fail;
 
 fn fields(alloc: Global, json: &str) -> Result<Fields, Fail> {
@@ -22,13 +19,15 @@ fn fields(alloc: Global, json: &str) -> Result<Fields, Fail> {
     }
 }
 
-fn arguments(alloc: Global, json: &str) -> Result<Vec<Argument>, Fail>
-    ensures { IfOk result (λ es. are_ascending (entry_names es.items) ≡ true) }
-{
-    match entries_of(alloc, &fields(alloc, json)?, None) {
-        Ok(entries) => Ok(entries),
-        Err(_) => Err("no arguments")?,
+fn arguments(alloc: Global, json: &str) -> Result<BTreeMap<String, Expr>, Fail> {
+    let mut arguments = BTreeMap::new(alloc);
+    for (name, value) in fields(alloc, json)?.iter() {
+        match expr_of(alloc, value) {
+            Ok(value) => drop(arguments.insert(name.clone()?, value)?),
+            Err(_) => Err("no arguments")?,
+        }
     }
+    Ok(arguments)
 }
 
 fn conditions(alloc: Global, texts: &[&str]) -> Result<Vec<Expr>, Fail> {
@@ -50,7 +49,6 @@ fn task(
     loop_over: Option<Expr>,
     action: Action,
 ) -> Prepared
-    requires { is_ordered action ≡ true }
 {
     Prepared {
         names,
@@ -67,7 +65,6 @@ fn task(
 
 // What comes of a task that does this for no list and under no condition.
 fn lone_entry(alloc: Global, action: Action) -> Result<Entry, Fail>
-    requires { is_ordered action ≡ true }
 {
     let names = Vec::new(alloc);
     let prepared = task(names, Vec::new(alloc), None, action);
@@ -88,7 +85,6 @@ fn is_value(alloc: Global, found: &Value, expected: &str) -> Result<(), Fail> {
 
 // An assertion or a failure, which says that and is failed or not.
 fn is_said(alloc: Global, action: Action, wanted: bool, expected: &str) -> Result<(), Fail>
-    requires { is_ordered action ≡ true }
 {
     match lone_entry(alloc, action)? {
         Entry::Says { failed, message } => {

@@ -8,6 +8,7 @@ use pb_vars::InScope;
 
 /// The slots of names as they are seen where those values of `vars` are in scope: a name of `vars`
 /// has none of the host's own.
+#[derive(Drop)]
 pub struct SlotsInScope<'s, 'p> {
     /// The names that have slots.
     pub slots: &'s Slots,

@@ -1,5 +1,5 @@
 -- The words of this crate that the contracts of others cite, from one place.
-pub use Rattle.pb_start.specs.Actions.{action_view, is_ordered}
+pub use Rattle.pb_start.specs.Actions.{action_view}
 pub use Rattle.pb_start.specs.Blocks.{block_fields}
 pub use Rattle.pb_start.specs.Conditions.{is_so, truth_of}
 pub use Rattle.pb_start.specs.Locals.{world_with}

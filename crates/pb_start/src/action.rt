@@ -1,39 +1,33 @@
 // What comes of a task's action, or of one item of it.
-ghost use Rattle.std.specs.Prelude.{◌≡◌, IfOk, option_map, true};
+ghost use Rattle.std.specs.Prelude.{◌≡◌, IfOk, option_map};
 ghost use Rattle.pb_semantics.specs.Words.{text};
-ghost use Rattle.pb_language.specs.Expansion.{all_expanded, parts_expanded};
+ghost use Rattle.pb_language.specs.Expansion.{all_expanded};
 ghost use Rattle.pb_language.specs.Plays.{expanded_option};
 ghost use Rattle.pb_language.specs.Start.{eval_text_or, no_changes, set_by, unchanged_with};
 ghost use Rattle.pb_language.specs.Task.{assertion, failure_of};
-ghost use Rattle.pb_language.specs.Words.{acts, eval_action, eval_parts, is_unreadable};
+ghost use Rattle.pb_language.specs.Words.{acts, eval_action};
 ghost use Rattle.pb_value.specs.Words.{view};
-ghost use Rattle.pb_eval.specs.Words.{shown};
 ghost use Rattle.pb_syntax.specs.Words.{expr_view, exprs_view};
-ghost use Rattle.pb_template.specs.Words.{are_ascending, entries_view, entry_names};
-ghost use Rattle.pb_start.specs.Words.{IsMade, IsValue, action_view, entry_view, is_ordered};
-ghost use Rattle.pb_start.specs.Words.{shape_of};
+ghost use Rattle.pb_start.specs.Words.{IsMade, IsValue, action_view, entry_view, shape_of};
 
 use crate::conditions::{all_hold, is_so};
 use crate::passes::Entry;
 use crate::prepared::Action;
-use crate::record::put_value;
 use pb_eval::Vars;
-use pb_eval::eval::eval;
+use pb_eval::eval::{eval, record_of};
 use pb_syntax::Expr;
-use pb_template::Entry as Argument;
-use pb_value::{Fields, Value};
+use pb_value::Value;
 use std::alloc::{AllocError, Global};
 
 // What comes of the action in this world; anything where the definitions make nothing of it.
 pub(crate) fn made<V: Vars>(alloc: Global, action: &Action, vars: &V) -> Result<Entry, AllocError>
-    requires ordered { is_ordered action.now ≡ true }
     ensures { IfOk result (λ e. IsMade e
         (eval_action (V.world vars.now) (action_view (V.trees vars.now) action.now))) }
 {
     match action {
-        Action::Call { arguments, .. } => Ok(Entry::Calls(evaluated(alloc, arguments, vars)?)),
+        Action::Call { arguments, .. } => Ok(Entry::Calls(record_of(alloc, arguments, vars)?)),
         Action::Debug(_) => Ok(Entry::Shows),
-        Action::SetFact(arguments) => Ok(setting(evaluated(alloc, arguments, vars)?)),
+        Action::SetFact(facts) => Ok(setting(record_of(alloc, facts, vars)?)),
         Action::Assert {
             conditions,
             message,
@@ -110,27 +104,4 @@ fn text_of(alloc: Global, letters: &str) -> Result<Value, AllocError>
     ensures { IfOk result (λ v. view v ≡ text letters.now) }
 {
     Value::of_text(alloc, String::from_str(alloc, letters)?)
-}
-
-// The record of the arguments' values; opaque where one may not be read.
-fn evaluated<V: Vars>(alloc: Global, arguments: &[Argument], vars: &V) -> Result<Value, AllocError>
-    requires { are_ascending (entry_names arguments.now) ≡ true }
-    ensures { IfOk result (λ v. view v ≡ shown (eval_parts (V.world vars.now)
-        (parts_expanded (V.trees vars.now) (entries_view arguments.now)))) }
-{
-    let mut fields = Fields::new(alloc);
-    for argument in arguments {
-        let value = eval(alloc, &argument.value, vars)?;
-        if is_opaque(&value) {
-            return Ok(Value::Opaque);
-        }
-        put_value(alloc, &mut fields, argument.name.as_str(), value)?;
-    }
-    Ok(Value::of_fields(alloc, fields)?)
-}
-
-fn is_opaque(value: &Value) -> bool
-    ensures { result ≡ is_unreadable (view value.now) }
-{
-    matches!(value, Value::Opaque)
 }

@@ -1,25 +1,22 @@
 // A task as it runs, prepared once for its place in a play.
-ghost use Rattle.std.specs.Prelude.{◌≡◌, true};
-ghost use Rattle.pb_start.specs.Actions.{is_ordered};
-
 use pb_sig::Known;
 use pb_syntax::Expr;
 use pb_task::Attempts;
-use pb_template::Entry;
+use std::collections::BTreeMap;
 use std::sync::Arc;
 
 /// What a task does.
 #[derive(Drop)]
 pub enum Action {
-    /// Calls the module with these arguments, which stand in the order of their names' bytes.
+    /// Calls the module with these arguments, by their names.
     Call {
         module: Arc<Known>,
-        arguments: Vec<Entry>,
+        arguments: BTreeMap<String, Expr>,
     },
     /// Shows a message; none is `null`.
     Debug(Option<Expr>),
-    /// Sets variables of the host, in the order of their names' bytes.
-    SetFact(Vec<Entry>),
+    /// Sets these variables of the host.
+    SetFact(BTreeMap<String, Expr>),
     /// Fails with the message unless the conditions hold.
     Assert {
         conditions: Vec<Expr>,
@@ -47,5 +44,4 @@ pub struct Prepared {
     pub attempts: Option<Attempts>,
     /// Errors are ignored.
     pub ignores: bool,
-    ghost ordered: { is_ordered action ≡ true },
 }

@@ -4,16 +4,14 @@ use Rattle.pb_language.specs.Expansion.{parts_expanded}
 use Rattle.pb_language.specs.Start.{eval_arguments}
 use Rattle.pb_language.proofs.PlainEval.{arguments_worth}
 use Rattle.pb_sig.specs.ModuleView.{shared_view}
-use Rattle.pb_template.specs.Entries.{entries_view}
-use Rattle.pb_value.specs.View.{view}
-use Rattle.pb_eval.specs.OwnWorld.{shown}
+use Rattle.pb_syntax.specs.ExprView.{parts_view}
 use Rattle.pb_start.proofs.Passed.{made-call}
+use Rattle.pb_value.specs.View.{view}
 use Rattle.pb_start.proofs.action.made.Goals as goal
 
-pub returns-in_ok-evaluated-in-Call : goal.returns-in_ok-evaluated-in-Call
-returns-in_ok-evaluated-in-Call g c = λ x h.
+pub returns-in_ok-record_of-in-Call : goal.returns-in_ok-record_of-in-Call
+returns-in_ok-record_of-in-Call g c = λ x h.
     let w = g.V.Vars.world c.args.vars.now in
-    let ps = parts_expanded (g.V.Vars.trees c.args.vars.now) (entries_view c.in-Call.arguments.items) in
+    let ps = parts_expanded (g.V.Vars.trees c.args.vars.now) (parts_view c.in-Call.arguments.entries) in
     let qs = (shared_view c.in-Call.«module»).params in
-    let told : view c.in_ok-evaluated-in-Call.field-0 ≡ shown (eval_parts w ps) = rw c.deref.ensures.value at c.in_ok-evaluated-in-Call.ensures in
-    made-call (eval_arguments w qs ps) (eval_parts w ps) (view c.in_ok-evaluated-in-Call.field-0) x (arguments_worth w qs ps) told (rw c.in-Call.is at h)
+    made-call (eval_arguments w qs ps) (eval_parts w ps) (view c.in_ok-record_of-in-Call.field-0) x (arguments_worth w qs ps) c.in_ok-record_of-in-Call.ensures (rw c.in-Call.is at h)

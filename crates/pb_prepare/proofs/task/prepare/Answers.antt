@@ -1,0 +1,55 @@
+use denote.Ref.{Bor}
+use Rattle.std.proofs.Common.{◌≡◌, ◌∙◌, Option, Some, None, option_map, refl, sym, ap, subst}
+use Rattle.std.specs.Prelude.{unwrap_or}
+use Rattle.pb_language.specs.Expansion.{all_expanded, trees}
+use Rattle.pb_language.specs.Expression.{Expressions, no_parts}
+use Rattle.pb_language.specs.Plays.{append_expressions, expanded_attempts, expanded_list, expanded_option}
+use Rattle.pb_flow.specs.Nodes.{around_view}
+use Rattle.pb_route.specs.Station.{lone_registry, stands_round}
+use Rattle.pb_syntax.specs.Aliases.{Trees, trees_in}
+use Rattle.pb_syntax.specs.ExprView.{expr_view, exprs_view, parts_view}
+use Rattle.pb_syntax.specs.declared.expr.Expr.{Expr}
+use Rattle.pb_task.specs.Tasks.{task_view}
+use Rattle.pb_vars.specs.Borrowed.{borrowed_view}
+use Rattle.pb_vars.specs.InScope.{in_scope}
+use Rattle.pb_reads.specs.Done.{evaluated}
+use Rattle.pb_reads.specs.Needed.{AreSameAt}
+use Rattle.pb_reads.specs.Roots.{all_roots}
+use Rattle.pb_reads.specs.Round.{conditions_round}
+use Rattle.pb_reads.specs.RootsView.{roots_view}
+use Rattle.pb_prepare.specs.Order.{has_order}
+use Rattle.pb_prepare.proofs.Same.{same-action, same-attempts, same-changed, same-conditions, same-failed, same-loop}
+use Rattle.pb_prepare.proofs.task.prepare.Goals as goal
+
+borrowed : (o : Option (Bor Expr)) → option_map (λ e. expr_view e.now) o ≡ option_map expr_view (option_map (λ e. e.now) o)
+borrowed None = refl
+borrowed (Some e) = refl
+
+pub returns : goal.returns
+returns c = λ ordered.
+    let s = c.args.station.now in
+    let t = s.task.now in
+    let d = task_view t in
+    let ms = lone_registry t.work in
+    let when = exprs_view t.when.items in
+    let cs : Expressions = append_expressions (stands_round s).conditions when in
+    let f : Trees = trees_in (parts_view c.in_ok-names.field-0.items) in
+    let g : Trees = trees (in_scope s.vars) in
+    let roots : roots_view c.as_slice.result.now ≡ all_roots (evaluated cs d) =
+    ap roots_view c.as_slice.ensures.value ∙ c.in_ok-roots.ensures ms no_parts ∙ ap (λ a. all_roots (evaluated (append_expressions (around_view ms no_parts a).conditions when) d)) c.deref.ensures in
+    let names : parts_view c.in_ok-names.field-0.items ≡ borrowed_view c.in_ok-reached.reached.items = c.in_ok-names.ensures ∙ ap borrowed_view c.as_slice-2.ensures.value in
+    let same : AreSameAt (all_roots (evaluated cs d)) f g =
+    subst (λ rs. AreSameAt rs f g) roots (subst (λ ps. AreSameAt (roots_view c.as_slice.result.now) (trees_in ps) g) (sym names) (c.in_ok-reached.ensures.enough c.requires.station.short)) in
+    let work = same-action f g cs d same ms in
+    let conditions : exprs_view c.in_ok-conditions.field-0.items ≡ cs =
+    c.in_ok-conditions.ensures ∙ ap (λ a. append_expressions (conditions_round a) (exprs_view c.deref-3.result.now)) c.deref-2.ensures ∙ ap (λ es. append_expressions (stands_round s).conditions (exprs_view es)) c.deref-3.ensures.value in
+    record {
+      action = sym (c.in_ok-action.ensures f (ap has_order work ∙ ordered) ∙ work);
+      conditions = sym (ap (all_expanded f) conditions ∙ same-conditions f g cs d same);
+      loop = sym (ap (expanded_option f) (c.in_ok-option.ensures ∙ borrowed c.as_ref.result ∙ ap (option_map expr_view) c.as_ref.ensures.value) ∙ same-loop f g cs d same);
+      register = sym c.in_ok-shared.ensures;
+      changed_when = sym (ap (expanded_list f) c.in_ok-list.ensures ∙ same-changed f g cs d same);
+      failed_when = sym (ap (expanded_list f) c.in_ok-list-2.ensures ∙ same-failed f g cs d same);
+      attempts = sym (ap (expanded_attempts f) c.in_ok-attempts.ensures ∙ same-attempts f g cs d same);
+      ignores = sym (c.ignores.ensures ∙ ap (λ a. unwrap_or t.ignore_errors a.ignores) c.deref-4.ensures);
+    }

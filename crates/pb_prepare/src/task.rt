@@ -1,0 +1,70 @@
+// A task of a book as it runs, prepared once for its place in its play.
+ghost use Rattle.std.specs.Prelude.{◌≡◌, IfOk, option_map, string_bytes, true, unwrap_or};
+ghost use Rattle.pb_route.specs.Words.{IsStation, station_task};
+ghost use Rattle.pb_start.specs.Words.{Prepares};
+ghost use Rattle.pb_prepare.specs.Order.{has_order};
+
+use crate::bound::Bound;
+use pb_flow::Around;
+use pb_reads::{names_reached, task_roots};
+use pb_route::Station;
+use pb_slots::{Slots, SlotsInScope};
+use pb_start::Prepared;
+use pb_task::Task;
+use std::alloc::{AllocError, Global};
+use std::sync::Arc;
+
+/// The task as it runs where it stands, with those slots. Its arguments stand in the order of their
+/// names, as the reader leaves them.
+///
+/// # Errors
+///
+/// Want of memory.
+pub fn prepare(
+    alloc: Global,
+    station: &Station<'_>,
+    slots: &Slots,
+) -> Result<Prepared, AllocError>
+    requires station { IsStation station.now }
+    ensures { IfOk result (λ p. has_order (station_task station.now).action ≡ true
+        → Prepares p (station_task station.now)) }
+{
+    let task = station.task;
+    let roots = task_roots(alloc, task, &station.around)?;
+    let reached = names_reached(alloc, &station.vars, roots.as_slice())?;
+    let bound = Bound {
+        alloc,
+        seen: SlotsInScope {
+            slots,
+            scope: &station.vars,
+        },
+    };
+    Ok(Prepared {
+        names: bound.names(reached.as_slice())?,
+        conditions: bound.conditions(&station.around, &task.when)?,
+        loop_over: bound.option(task.loop_over.as_ref())?,
+        action: bound.action(task)?,
+        register: shared(&task.register)?,
+        changed_when: bound.list(&task.changed_when)?,
+        failed_when: bound.list(&task.failed_when)?,
+        attempts: bound.attempts(&task.attempts)?,
+        ignores: ignores(task, &station.around),
+    })
+}
+
+fn shared(name: &Option<Arc<String>>) -> Result<Option<Arc<String>>, AllocError>
+    ensures { IfOk result (λ n. option_map (λ s. string_bytes s.value) n
+        ≡ option_map (λ s. string_bytes s.value) name.now) }
+{
+    match name {
+        Some(name) => Ok(Some(name.clone()?)),
+        None => Ok(None),
+    }
+}
+
+// Whether errors are ignored: as the task says, or else what stands round it.
+fn ignores(task: &Task, around: &Around<'_>) -> bool
+    ensures { result ≡ unwrap_or task.now.ignore_errors around.now.ignores }
+{
+    task.ignore_errors.unwrap_or(around.ignores)
+}

@@ -1,3 +1,4 @@
 pub mod Planned
 pub mod Leads
 pub mod Used
+pub mod Prepared

@@ -5,6 +5,7 @@
 //     let mut names = BTreeSet::new(alloc);
 //     nodes.add_names(alloc, &mut names)?; // of all plays
 //     let slots = Slots::of(alloc, &names)?;
+//     let tasks = nodes.prepared(alloc, &slots)?;
 //     let play = PlaySteps::of(alloc, nodes, &slots)?;
 //     if let Some(first) = play.begin.to {
 //         let step = &play.steps[first as usize - 1]; // nodes are counted from 1 on
@@ -13,6 +14,7 @@
 
 pub mod nodes;
 pub mod step;
+mod tasks;
 mod uses;
 
 pub use nodes::PlayNodes;

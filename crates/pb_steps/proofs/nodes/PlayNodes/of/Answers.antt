@@ -9,6 +9,7 @@ returns-clause-nodes c =
     let all = c.deref.ensures.value in record {
       begin = c.in_ok-graph.ensures.begin;
       steps = c.in_ok-graph.ensures.steps;
+      sound = c.in_ok-graph.ensures.sound;
       stations = c.in_ok-stations.ensures.stations;
       number = c.in_ok-stations.ensures.number ∙ ap length all;
       tasks = λ ms sound gathers.

@@ -1,5 +1,5 @@
 -- The nodes, the slots and the steps of plays, play by play.
-use Rattle.std.proofs.Common.{◌≡◌, ◌∙◌, ℕ, zero, suc, ◌+◌, ◌<◌, List, [], ◌∷◌, ◌++◌, drop, take, get_or, length, map, refl, sym, ap, ap₂, subst, inl, inr, ◌⊎◌, ⊎_elim, arith}
+use Rattle.std.proofs.Common.{Vec, Global, ◌≡◌, ◌∙◌, ℕ, zero, suc, ◌+◌, ◌<◌, List, [], ◌∷◌, ◌++◌, drop, take, get_or, length, map, refl, sym, ap, ap₂, subst, inl, inr, ◌⊎◌, ⊎_elim, arith}
 use Rattle.std.specs.List.{All, AllByRecursion}
 use Rattle.std.proofs.lemmas.List.Elements.{recursion_from_All}
 use Rattle.pb_language.specs.Book.{Registry}
@@ -10,14 +10,16 @@ use Rattle.pb_flow.specs.declared.graph.Node.{Node}
 use Rattle.pb_play.specs.Plays.{play_view}
 use Rattle.pb_play.specs.declared.play.Play.{Play}
 use Rattle.pb_route.specs.Station.{station_task}
+use Rattle.pb_start.specs.declared.prepared.Prepared.{Prepared}
+use Rattle.pb_steps.specs.Tasks.{ArePrepared}
 use Rattle.pb_steps.specs.Nodes.{AreNodes}
 use Rattle.pb_steps.specs.Outlines.{PlayPlan, play_plan}
 use Rattle.pb_steps.specs.Uses.{SomeUses}
 use Rattle.pb_steps.specs.declared.nodes.PlayNodes.{PlayNodes}
 use Rattle.pb_steps.specs.declared.step.PlaySteps.{PlaySteps}
 use Rattle.pb_template.specs.Entries.{entries_view}
-use Rattle.pb_plan.specs.Nodes.{AreNodesOf, AreUsesOf, IsNodesOf, IsUsedIn, SomeNodesUse}
-use Rattle.pb_plan.specs.Plays.{AllUsed, SomePlayUses, plan_tasks}
+use Rattle.pb_plan.specs.Nodes.{AreNodesOf, AreTasksOf, AreUsesOf, IsNodesOf, IsUsedIn, SomeNodesUse}
+use Rattle.pb_plan.specs.Plays.{AllPrepared, AllUsed, SomePlayUses, plan_tasks}
 
 -- ---- one play more
 
@@ -36,6 +38,13 @@ uses-more ms names [] [] s n h x = x
 uses-more ms names [] (m ∷ ns) s n h x = absurd h
 uses-more ms names (t ∷ ss) [] s n h x = absurd h
 uses-more ms names (t ∷ ss) (m ∷ ns) s n h x = (h.0, uses-more ms names ss ns s n h.1 x)
+
+pub tasks-more : (ms : Registry) (tss : List (Vec Prepared Global)) (ns : List PlayNodes) (ts : Vec Prepared Global) (n : PlayNodes) → AreTasksOf ms tss ns → (IsNodesOf ms n.play.now n → ArePrepared ts.items (plan_tasks ms (play_view n.play.now)))
+    → AreTasksOf ms (tss ++ ts ∷ []) (ns ++ n ∷ [])
+tasks-more ms [] [] ts n h x = (x, tt)
+tasks-more ms [] (m ∷ ns) ts n h x = absurd h
+tasks-more ms (us ∷ tss) [] ts n h x = absurd h
+tasks-more ms (us ∷ tss) (m ∷ ns) ts n h x = (h.0, tasks-more ms tss ns ts n h.1 x)
 
 pub use-first : (ps : List PlayNodes) (p : PlayNodes) (n : Name) → SomeNodesUse ps n → SomeNodesUse (ps ++ p ∷ []) n
 use-first [] p n h = absurd h
@@ -89,6 +98,15 @@ all-used ms names [] (n ∷ ns) ss h u = absurd h
 all-used ms names (p ∷ ps) [] ss h u = absurd h
 all-used ms names (p ∷ ps) (n ∷ ns) [] h u = absurd u
 all-used ms names (p ∷ ps) (n ∷ ns) (s ∷ ss) h u = (subst (IsUsedIn ms names s) (h.0).play (u.0 (of-itself ms p n h.0)), all-used ms names ps ns ss h.1 u.1)
+
+pub all-prepared : (ms : Registry) (ps : List Play) (ns : List PlayNodes) (tss : List (Vec Prepared Global)) → AreNodesOf ms ps ns → AreTasksOf ms tss ns → AllPrepared ms tss (map play_view ps)
+all-prepared ms [] [] [] h u = tt
+all-prepared ms [] [] (ts ∷ tss) h u = absurd u
+all-prepared ms [] (n ∷ ns) tss h u = absurd h
+all-prepared ms (p ∷ ps) [] tss h u = absurd h
+all-prepared ms (p ∷ ps) (n ∷ ns) [] h u = absurd u
+all-prepared ms (p ∷ ps) (n ∷ ns) (ts ∷ tss) h u =
+    (subst (λ q. ArePrepared ts.items (plan_tasks ms (play_view q))) (h.0).play (u.0 (of-itself ms p n h.0)), all-prepared ms ps ns tss h.1 u.1)
 
 pub plans-of : (ms : Registry) (ps : List Play) (ns : List PlayNodes) → AreNodesOf ms ps ns → map (λ (n : PlayNodes). play_plan ms (play_view n.play.now)) ns ≡ map (λ p. play_plan ms (play_view p)) ps
 plans-of ms [] [] h = refl

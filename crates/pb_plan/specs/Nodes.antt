@@ -1,5 +1,6 @@
 -- The nodes of the plays of a book.
-use Rattle.std.specs.Prelude.{◌≡◌, ◌⊎◌, List, [], ◌∷◌, map, option_map}
+use Rattle.std.specs.Prelude.{◌≡◌, ◌⊎◌, List, [], ◌∷◌, Vec, map, option_map}
+use Rattle.std.specs.declared.alloc.Global.{Global}
 use Rattle.pb_language.specs.Book.{Registry}
 use Rattle.pb_language.specs.Expression.{Name}
 use Rattle.pb_language.specs.Plays.{names_of_handlers}
@@ -8,6 +9,8 @@ use Rattle.pb_play.specs.Sound.{AreSound, play_tasks}
 use Rattle.pb_play.specs.declared.play.Play.{Play}
 use Rattle.pb_route.specs.Routes.{Gathers}
 use Rattle.pb_route.specs.Station.{station_task}
+use Rattle.pb_start.specs.declared.prepared.Prepared.{Prepared}
+use Rattle.pb_steps.specs.Tasks.{ArePrepared}
 use Rattle.pb_steps.specs.Uses.{AreUsed, SomeUses}
 use Rattle.pb_steps.specs.declared.nodes.PlayNodes.{PlayNodes}
 use Rattle.pb_steps.specs.declared.step.PlaySteps.{PlaySteps}
@@ -34,6 +37,12 @@ AreUsesOf ms names [] [] = Unit {0}
 AreUsesOf ms names (s ∷ ss) (n ∷ ns) =
     (IsNodesOf ms n.play.now n → IsUsedIn ms names s n.play.now) × AreUsesOf ms names ss ns
 AreUsesOf ms names ss ns = ⊥
+
+abbrev pub AreTasksOf : Registry → List (Vec Prepared Global) → List PlayNodes → Type 0
+AreTasksOf ms [] [] = Unit {0}
+AreTasksOf ms (ts ∷ tss) (n ∷ ns) = (IsNodesOf ms n.play.now n
+    → ArePrepared ts.items (plan_tasks ms (play_view n.play.now))) × AreTasksOf ms tss ns
+AreTasksOf ms tss ns = ⊥
 
 abbrev pub SomeNodesUse : List PlayNodes → Name → Type 0
 SomeNodesUse [] n = ⊥

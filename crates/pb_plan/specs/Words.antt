@@ -1,2 +1,2 @@
 -- The words of this crate that the contracts of others cite, from one place.
-pub use Rattle.pb_plan.specs.Plays.{AllUsed, SomePlayUses}
+pub use Rattle.pb_plan.specs.Plays.{AllPrepared, AllUsed, SomePlayUses}

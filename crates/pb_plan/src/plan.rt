@@ -14,21 +14,25 @@ ghost use Rattle.pb_steps.specs.Nodes.{AreNodes};
 ghost use Rattle.pb_steps.specs.Uses.{Adds, Among};
 ghost use Rattle.pb_steps.specs.Words.{plan_view, play_plan};
 ghost use Rattle.pb_verify.specs.Scenes.{AllGather};
-ghost use Rattle.pb_plan.specs.Nodes.{AreNodesOf, AreUsesOf, SomeNodesUse};
-ghost use Rattle.pb_plan.specs.Plays.{AllUsed, SomePlayUses};
+ghost use Rattle.pb_plan.specs.Nodes.{AreNodesOf, AreTasksOf, AreUsesOf, SomeNodesUse};
+ghost use Rattle.pb_plan.specs.Plays.{AllPrepared, AllUsed, SomePlayUses};
 
 use pb_play::Play;
 use pb_slots::Slots;
+use pb_start::Prepared;
 use pb_steps::{PlayNodes, PlaySteps};
 use pb_task::Task;
 use pb_verify::{Checked, gathering_at, gathering_tasks};
 use std::alloc::{AllocError, Global};
 use std::collections::BTreeSet;
 
-/// The plan of each play, in the order of the book, and the slots of the book's variables.
+/// The plan of each play, in the order of the book, with the tasks of its steps as they run, and the
+/// slots of the book's variables.
 #[derive(Drop)]
 pub struct Plan {
     pub plays: Vec<PlaySteps>,
+    /// Of each play its tasks, in the order of its steps.
+    pub tasks: Vec<Vec<Prepared>>,
     pub slots: Slots,
 }
 
@@ -44,6 +48,8 @@ impl Plan {
             ≡ map (play_plan (modules_of checked.now.registry)) (book_view checked.now.book)) }
         ensures uses { IfOk result (λ p. AllUsed (modules_of checked.now.registry)
             (names_of_slots p.slots) p.plays.items (book_view checked.now.book)) }
+        ensures tasks { IfOk result (λ p. AllPrepared (modules_of checked.now.registry)
+            p.tasks.items (book_view checked.now.book)) }
         ensures whole { IfOk result (λ p. (n : Name)
             → SomePlayUses (modules_of checked.now.registry) (book_view checked.now.book) n
             → Among (names_of_slots p.slots) n) }
@@ -55,8 +61,13 @@ impl Plan {
         let gathering = gathering_tasks(alloc, checked.registry(), plays)?;
         let nodes = nodes_of_plays(alloc, plays, &gathering)?;
         let slots = slots_of_plays(alloc, &nodes)?;
+        let tasks = tasks_of_plays(alloc, &nodes, &slots)?;
         let plays = steps_of_plays(alloc, nodes, &slots)?;
-        Ok(Plan { plays, slots })
+        Ok(Plan {
+            plays,
+            tasks,
+            slots,
+        })
     }
 }
 
@@ -87,6 +98,22 @@ fn slots_of_plays(alloc: Global, plays: &[PlayNodes<'_>]) -> Result<Slots, Alloc
         nodes.add_names(alloc, &mut names)?;
     }
     Slots::of(alloc, &names)
+}
+
+fn tasks_of_plays(
+    alloc: Global,
+    plays: &[PlayNodes<'_>],
+    slots: &Slots,
+) -> Result<Vec<Vec<Prepared>>, AllocError>
+    requires nodes { All AreNodes plays.now }
+    ensures { IfOk result (λ ts. (ms : Registry) → AreTasksOf ms ts.items plays.now) }
+{
+    let mut tasks = Vec::with_capacity(alloc, plays.len())?;
+    for nodes in plays {
+        let prepared = nodes.prepared(alloc, slots)?;
+        tasks.push(prepared)?;
+    }
+    Ok(tasks)
 }
 
 fn steps_of_plays(

@@ -12,10 +12,10 @@ use Rattle.pb_slots.specs.Words.{names_of_slots}
 use Rattle.pb_steps.specs.Outlines.{play_plan}
 use Rattle.pb_steps.specs.Uses.{Adds}
 use Rattle.pb_verify.specs.Scenes.{AllGather}
-use Rattle.pb_plan.specs.Nodes.{AreNodesOf, SomeNodesUse}
-use Rattle.pb_plan.specs.Plays.{AllUsed, SomePlayUses}
+use Rattle.pb_plan.specs.Nodes.{AreNodesOf, AreTasksOf, SomeNodesUse}
+use Rattle.pb_plan.specs.Plays.{AllPrepared, AllUsed, SomePlayUses}
 use Rattle.pb_plan.proofs.Accepted.{accepted-few, plans-of-views}
-use Rattle.pb_plan.proofs.Planned.{all-used, nodes-use, plans-of, plays-use}
+use Rattle.pb_plan.proofs.Planned.{all-prepared, all-used, nodes-use, plans-of, plays-use}
 use Rattle.pb_plan.proofs.plan.Plan.of.Goals as goal
 
 pub nodes_of_plays-requires : goal.nodes_of_plays-requires
@@ -44,6 +44,17 @@ returns-clause-uses c =
     subst (λ qs. AllUsed ms names c.in_ok-plays.plays.items (map play_view qs)) (c.plays-plays.ensures ∙ ap plays_of c.book.ensures.value)
     (all-used ms names ps c.in_ok-nodes.nodes.items c.in_ok-plays.plays.items of (c.in_ok-plays.ensures.uses ms))
 
+pub returns-clause-tasks : goal.returns-clause-tasks
+returns-clause-tasks c =
+    let ms = modules_of c.args.checked.now.registry in
+    let ps = c.plays-plays.result.now in
+    let ns = c.in_ok-nodes.nodes.items in
+    let sound = subst (λ qs. AreSound ms (all_tasks qs)) (sym c.plays-plays.ensures) c.book.ensures.sound in
+    let gather = subst₂ (λ r ts. AllGather (modules_of r) ps ts) c.registry.ensures (sym c.deref.ensures.value) c.in_ok-gathering.ensures in
+    let of : AreNodesOf ms ps ns = c.in_ok-nodes.ensures.plays ms sound gather in
+    let made : AreTasksOf ms c.in_ok-tasks.tasks.items ns = subst (AreTasksOf ms c.in_ok-tasks.tasks.items) c.deref-3.ensures.value (c.in_ok-tasks.ensures ms) in
+    subst (λ qs. AllPrepared ms c.in_ok-tasks.tasks.items (map play_view qs)) (c.plays-plays.ensures ∙ ap plays_of c.book.ensures.value) (all-prepared ms ps ns c.in_ok-tasks.tasks.items of made)
+
 pub returns-clause-whole : goal.returns-clause-whole
 returns-clause-whole c n u =
     let ms = modules_of c.args.checked.now.registry in
@@ -65,3 +76,8 @@ returns-clause-sound c n h =
     let of : AreNodesOf ms ps ns = c.in_ok-nodes.ensures.plays ms sound gather in
     let adds : Adds (SomeNodesUse ns) [] (names_of_slots c.in_ok-slots.slots) = subst (λ xs. Adds (SomeNodesUse xs) [] (names_of_slots c.in_ok-slots.slots)) c.deref-2.ensures.value c.in_ok-slots.ensures in
     subst (λ qs. SomePlayUses ms (map play_view qs) n) (c.plays-plays.ensures ∙ ap plays_of c.book.ensures.value) (plays-use ms ps ns n c.in_ok-nodes.ensures.nodes of (⊎_elim (λ e. untrue e) (λ x. x) (adds.sound n h)))
+
+pub tasks_of_plays-requires : goal.tasks_of_plays-requires
+tasks_of_plays-requires c = record {
+  nodes = subst (λ (ns : List PlayNodes). All AreNodes ns) (sym c.deref-3.ensures.value) c.in_ok-nodes.ensures.nodes;
+}

@@ -7,11 +7,12 @@ use Rattle.pb_semantics.specs.Kind.{ok_shape}
 use Rattle.pb_semantics.specs.Signature.{ModuleData}
 use Rattle.pb_language.specs.Give as language
 use Rattle.pb_language.specs.Expression.{Parts}
-use Rattle.pb_language.specs.Give.{admitted, breached, unreached, with_own, own_of, set_by_answer, admit_answer, object, unreachable, broken}
-use Rattle.pb_language.specs.Task.{call_of}
+use Rattle.pb_language.specs.Give.{admitted, breached, unreached, with_own, own_of, set_by_answer, admit_answer, admit_passes, object, unreachable, broken}
+use Rattle.pb_language.specs.Start as started
+use Rattle.pb_language.specs.Task.{Action, call_of}
 use Rattle.pb_finish.specs.Answers.{answer_data, first_of, other_answers}
 use Rattle.pb_finish.specs.Facts.{fields_in}
-use Rattle.pb_finish.specs.Results.{answers_after, own_with, put_item}
+use Rattle.pb_finish.specs.Results.{IsAdmitted, answers_after, is_call_entry, own_with, put_item}
 use Rattle.pb_finish.specs.declared.admission.AdmittedItem.{AdmittedItem}
 use Rattle.pb_finish.specs.declared.answer.Answer.{Answer}
 
@@ -75,3 +76,8 @@ object-admitted i m ps d go [] k is h = absurd (cc)
 object-admitted i m ps d go (object e ∷ xs) k is h = let same : e ≡ d = cc in rw same (h (go xs))
 object-admitted i m ps d go (unreachable ∷ xs) k is h = absurd (cc)
 object-admitted i m ps d go (broken ∷ xs) k is h = absurd (cc)
+
+-- a pass and its answer, and then the others
+pub pass-admitted : (a : Action) (done : List language.Own) (p : started.Pass) (ps : List started.Pass) (xs : List language.Answer) (o : Option language.Answer) (k : AdmittedItem) (whole : language.Admitted)
+    → whole ≡ after_owns done (admit_passes a (p ∷ ps) xs) → first_of xs ≡ o → IsAdmitted k a p o → whole ≡ after_owns done (put_item k (admit_passes a ps (answers_after (is_call_entry p.entry) xs)))
+pass-admitted a done p ps xs o k whole all is h = all ∙ ap (after_owns done) (h (admit_passes a ps) xs is)

@@ -180,7 +180,7 @@ fn shape_of_status(failed: bool) -> Shape
     if failed { Shape::Failure } else { Shape::Ok }
 }
 
-// What is made of the answer to a call.
+// What is made of a call and its answer.
 fn admit_call(
     alloc: Global,
     action: &Action,
@@ -192,13 +192,28 @@ fn admit_call(
     ensures explains { IfOk result (λ k. Explains k (option_map (λ a. a.now) answer.entry)) }
 {
     match answer {
-        Some(Answer::Object(value)) => match action {
+        Some(answer) => admit_answer(alloc, action, pass, answer),
+        None => Ok(AdmittedItem::Breached(AnswerFault::Missing)),
+    }
+}
+
+fn admit_answer(
+    alloc: Global,
+    action: &Action,
+    pass: &Pass,
+    answer: &Answer,
+) -> Result<AdmittedItem, AllocError>
+    ensures admits { IfOk result (λ k. (f : Trees) → IsCallAdmitted k (action_view f action.now)
+        (option_map view pass.now.item) (Some (answer_data answer.now))) }
+    ensures explains { IfOk result (λ k. Explains k (Some answer.now)) }
+{
+    match answer {
+        Answer::Object(value) => match action {
             Action::Call { module, .. } => admit_object(alloc, module, pass, value),
             _ => Ok(AdmittedItem::Breached(AnswerFault::WrongKind)),
         },
-        Some(Answer::Unreachable) => Ok(AdmittedItem::Unreached),
-        Some(Answer::Broken(why)) => Ok(AdmittedItem::Breached(AnswerFault::Broken(*why))),
-        None => Ok(AdmittedItem::Breached(AnswerFault::Missing)),
+        Answer::Unreachable => Ok(AdmittedItem::Unreached),
+        Answer::Broken(why) => Ok(AdmittedItem::Breached(AnswerFault::Broken(*why))),
     }
 }
 

@@ -1,6 +1,6 @@
 -- What the facts of an answer set, with their prefix and without it.
 use denote.Ref.{Bor}
-use Rattle.std.proofs.Common.{◌≡◌, ◌==◌, ℕ, List, [], ◌∷◌, ◌++◌, Bool, true, false, ◌&&◌, cond, nat_eq, bytes_eq, Option, Some, None, option_map, unwrap_or, length, take, drop, String, Global, string_bytes, string_cmp, nat_cmp, Less, Equal, Greater, refl, sym, ap, ◌∙◌, subst}
+use Rattle.std.proofs.Common.{◌≡◌, ◌==◌, ℕ, List, [], ◌∷◌, ◌++◌, Bool, true, false, ◌&&◌, cond, nat_eq, bytes_eq, Option, Some, None, option_map, length, take, drop, String, Global, string_bytes, string_cmp, nat_cmp, Less, Equal, Greater, refl, sym, ap, ◌∙◌, subst}
 use Rattle.std.proofs.lemmas.Cmp.{nat_list_cmp_total}
 use Rattle.std.specs.Cmp.{nat_cmp_is}
 use Rattle.std.specs.Cmp.Lexicographic.{pointwise, slice_cmp}
@@ -14,8 +14,8 @@ use Rattle.std.specs.Str.Pattern.{FindsTextPrefix, StripsPrefix}
 use Rattle.std.proofs.lemmas.Bool.{eqb-true}
 use Rattle.std.proofs.lemmas.Str.Pattern.{starts_text}
 use Rattle.pb_semantics.specs.Data.{Data, Fields, rec, no_fields, field_value}
-use Rattle.pb_semantics.specs.Kind.{KindData, Slots, Spot, no_slots, recs, spot}
-use Rattle.pb_language.specs.Cases.{after_prefix, fact_prefix, is_lawful_shape, shape_slots}
+use Rattle.pb_semantics.specs.Kind.{Spot, recs, spot}
+use Rattle.pb_language.specs.Cases.{after_prefix, fact_prefix}
 use Rattle.pb_language.specs.Expression.{Name}
 use Rattle.pb_language.specs.Give.{stripped, stripped_with, facts_of}
 use Rattle.pb_language.specs.Start.{Changes, no_changes, change}
@@ -25,7 +25,7 @@ use Rattle.pb_finish.specs.Results.{changes_view}
 use Rattle.pb_kind.specs.KindView.{slots_view}
 use Rattle.pb_kind.specs.declared.kind.Kind.{Kind}
 use Rattle.pb_kind.specs.declared.kind.Slot.{Slot}
-use Rattle.pb_finish.specs.Facts.{named_kind, named_in, fields_in, facts_when, put_fact}
+use Rattle.pb_finish.specs.Facts.{named_in, fields_in, facts_when, put_fact}
 
 pub facts-when : (s : Spot) (o : Option Data) → facts_of s o ≡ facts_when (named_in s) (fields_in o)
 facts-when (spot a (recs ss)) (Some (rec fs)) = refl

@@ -1,11 +1,10 @@
 -- Fields that the test of equality calls the same are the same.
 use Rattle.std.proofs.Common.{◌≡◌, Bool, true, false, ◌&&◌, refl, ap, ap₂}
-use Rattle.std.specs.Ordering.{int_eq}
 use Rattle.std.specs.Str.{bytes_eq}
 use Rattle.std.proofs.lemmas.Bool.Decides.{Decides-int_eq}
 use Rattle.std.proofs.lemmas.Slice.Eq.{bytes_eq-Decides}
 use Rattle.pb_semantics.proofs.Bools.{and-left, and-right, untrue}
-use Rattle.pb_semantics.specs.Data.{Data, Items, Fields, null, boolean, int, text, list, rec, opaque}
+use Rattle.pb_semantics.specs.Data.{Data, Items, Fields, null, boolean, int, text, list, rec}
 use Rattle.pb_semantics.specs.Data.{no_items, item, no_fields, field, bool_eq}
 use Rattle.pb_semantics.specs.Equal.{data_eq, items_eq, fields_eq}
 

@@ -4,7 +4,7 @@ use Rattle.pb_language.specs.Give.{admit_passes}
 use Rattle.pb_syntax.proofs.Left.{drop-at}
 use Rattle.pb_start.specs.Actions.{action_view}
 use Rattle.pb_start.specs.Passes.{entry_view, pass_view}
-use Rattle.pb_finish.specs.Answers.{answer_data, first_of}
+use Rattle.pb_finish.specs.Answers.{answer_data}
 use Rattle.pb_finish.specs.Results.{answers_after, result_view, is_call_entry, put_item}
 use Rattle.pb_finish.proofs.Admissions.{after_owns, owns-step, answers-left, cond-small, next-answer, pass-admitted}
 use Rattle.pb_finish.proofs.admission.admit_answers.Goals as goal

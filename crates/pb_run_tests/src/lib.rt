@@ -2,4 +2,6 @@
 #![tactic(auto)]
 
 #[cfg(test)]
+mod finishes;
+#[cfg(test)]
 mod starts;

@@ -1,0 +1,7 @@
+use Rattle.std.proofs.Common.{◌≡◌, map, drop}
+use Rattle.pb_language.specs.Give.{any_failed}
+use Rattle.pb_finish.specs.Endings.{final_view}
+use Rattle.pb_finish.proofs.outcome.any_failed.Given as goal
+
+abbrev pub invariant-loop-item : goal.invariant-loop-item
+invariant-loop-item l = any_failed (map final_view l.results) ≡ any_failed (map final_view (drop l.item-index l.results))

@@ -1,0 +1,5 @@
+pub mod Answers
+pub mod Results
+pub mod Facts
+pub mod Endings
+pub mod Words

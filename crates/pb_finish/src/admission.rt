@@ -9,11 +9,12 @@ ghost use Rattle.pb_kind.specs.Words.{shape_view};
 ghost use Rattle.pb_value.specs.Words.{fields_view, view};
 ghost use Rattle.pb_syntax.specs.Words.{Trees};
 ghost use Rattle.pb_sig.specs.Words.{known_view};
-ghost use Rattle.pb_start.specs.Words.{action_view, block_fields, entry_view, pass_view, shape_of};
+ghost use Rattle.pb_start.specs.Words.{action_view, block_fields, entry_view, pass_view};
+ghost use Rattle.pb_start.specs.Words.{shape_of};
 ghost use Rattle.pb_finish.specs.Answers.{answer_data, first_of};
-ghost use Rattle.pb_finish.specs.Results.{Explains, IsAdmitted, admitted_view, assignments_view};
-ghost use Rattle.pb_finish.specs.Results.{is_call_entry, own_with, put_item, put_result, result_view};
-ghost use Rattle.pb_finish.specs.Results.{AllExplained, IsCallAdmitted};
+ghost use Rattle.pb_finish.specs.Results.{AllExplained, Explains, IsAdmitted, IsCallAdmitted};
+ghost use Rattle.pb_finish.specs.Results.{admitted_view, assignments_view, is_call_entry};
+ghost use Rattle.pb_finish.specs.Results.{own_with, put_item, put_result, result_view};
 
 use crate::answer::{Answer, AnswerFault, Breach};
 use crate::assignments::Assignments;
@@ -35,7 +36,7 @@ pub struct ItemResult {
     pub assigns: Assignments,
 }
 
-/// What is made of the answers to a task's calls.
+// What is made of the answers to a task's calls.
 #[derive(Drop)]
 pub(crate) enum Admitted {
     /// The result of each item.
@@ -52,9 +53,9 @@ pub(crate) enum AdmittedItem {
     Unreached,
 }
 
-/// What is made of the answers to the calls of these passes, in their order: the first breach or
-/// unreachable answer decides, and a missing answer is a breach. Those past the calls are never
-/// looked at.
+// What is made of the answers to the calls of these passes, in their order: the first breach or
+// unreachable answer decides, and a missing answer is a breach. Those past the calls are never
+// looked at.
 pub(crate) fn admit_answers(
     alloc: Global,
     action: &Action,

@@ -32,14 +32,14 @@ impl Fixed {
         Ok(Fixed { skipped, acted })
     }
 
-    /// The result of what is skipped.
+    // The result of what is skipped.
     pub(crate) fn skipped(&self) -> &Arc<Weighed<Fields>>
         ensures { block_fields result.now ≡ skip_fields }
     {
         &self.skipped
     }
 
-    /// The result of an action that isn't failed and says nothing.
+    // The result of an action that isn't failed and says nothing.
     pub(crate) fn acted(&self) -> &Arc<Weighed<Fields>>
         ensures { block_fields result.now ≡ acted_fields }
     {

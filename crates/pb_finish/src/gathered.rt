@@ -24,13 +24,13 @@ const PREFIX: &str = "ansible_";
 
 const FACTS: &str = "ansible_facts";
 
-/// `ansible_facts`, with the facts that the module's shape names by their names without the prefix
-/// `ansible_`, and then each of them by its own name (Ansible's page on facts). A fact that wasn't
-/// answered stays as it was.
-///
-/// # Errors
-///
-/// Want of memory.
+// `ansible_facts`, with the facts that the module's shape names by their names without the prefix
+// `ansible_`, and then each of them by its own name (Ansible's page on facts). A fact that wasn't
+// answered stays as it was.
+//
+// # Errors
+//
+// Want of memory.
 pub(crate) fn gather_facts(
     alloc: Global,
     module: &Known,
@@ -94,7 +94,7 @@ fn slots_of(kind: &Kind) -> Option<&Arc<Weighed<Slots>>>
     }
 }
 
-/// The fields of a record.
+// The fields of a record.
 pub(crate) fn record_in(value: Option<&Value>) -> Option<&Arc<Weighed<Fields>>>
     ensures { option_map (λ r. block_fields r.now) result
         ≡ fields_in (option_map (λ v. view v.now) value.entry) }

@@ -33,11 +33,11 @@ pub struct Outcome {
     pub failure: Option<Arc<String>>,
 }
 
-/// How the task ended with these results.
-///
-/// # Errors
-///
-/// Want of memory.
+// How the task ended with these results.
+//
+// # Errors
+//
+// Want of memory.
 pub(crate) fn outcome_of(
     alloc: Global,
     prepared: &Prepared,
@@ -67,7 +67,7 @@ fn is_failing(prepared: &Prepared, failed: bool) -> bool
     failed && !prepared.ignores
 }
 
-/// Whether `until` holds of each result.
+// Whether `until` holds of each result.
 pub(crate) fn until_holds(results: &[FinalResult]) -> bool
     ensures { result ≡ all_hold (map final_view results.now) }
 {

@@ -1,5 +1,5 @@
 // The results of a task's items with their final statuses.
-ghost use Rattle.std.specs.Prelude.{◌≡◌, IfOk, Some, codes, map, option_map, string_bytes, true};
+ghost use Rattle.std.specs.Prelude.{◌≡◌, IfOk, Some, map, option_map, string_bytes, true};
 ghost use Rattle.pb_semantics.specs.Words.{boolean, field_value, flag_is, put_field};
 ghost use Rattle.pb_semantics.specs.Kind.{is_skipped};
 ghost use Rattle.pb_language.specs.Expansion.{all_expanded};
@@ -38,12 +38,12 @@ pub struct FinalResult {
     pub holds: bool,
 }
 
-/// The results with what `changed_when`, `failed_when` and `until` say of each that wasn't
-/// skipped, in the world of the Start.
-///
-/// # Errors
-///
-/// Want of memory.
+// The results with what `changed_when`, `failed_when` and `until` say of each that wasn't
+// skipped, in the world of the Start.
+//
+// # Errors
+//
+// Want of memory.
 pub(crate) fn end_results<V: Vars>(
     alloc: Global,
     prepared: &Prepared,
@@ -235,11 +235,11 @@ fn end_with(
     })
 }
 
-/// The fields with these statuses; where they say so already, the same block.
-///
-/// # Errors
-///
-/// Want of memory.
+// The fields with these statuses; where they say so already, the same block.
+//
+// # Errors
+//
+// Want of memory.
 pub(crate) fn with_statuses(
     alloc: Global,
     changed: bool,
@@ -283,7 +283,7 @@ fn is_flag(value: Option<&Value>, flag: bool) -> bool
     }
 }
 
-/// Whether a condition was false.
+// Whether a condition was false.
 pub(crate) fn is_skipped(shape: Shape) -> bool
     ensures { result ≡ is_skipped (shape_view shape) }
 {

@@ -26,8 +26,8 @@ use pb_verify::{Checked, gathering_at, gathering_tasks};
 use std::alloc::{AllocError, Global};
 use std::collections::BTreeSet;
 
-/// The plan of each play, in the order of the book, with the tasks of its steps as they run, and the
-/// slots of the book's variables.
+/// The plan of each play, in the order of the book, with the tasks of its steps as they run; and
+/// the slots of the book's variables.
 #[derive(Drop)]
 pub struct Plan {
     pub plays: Vec<PlaySteps>,

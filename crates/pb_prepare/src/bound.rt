@@ -150,7 +150,8 @@ impl Bound<'_, '_> {
     }
 
     fn asserted(&self, asserted: &Asserted) -> Result<Vec<Expr>, AllocError>
-        ensures { IfOk result (λ es. exprs_view es.items ≡ conditions_of (asserted_view asserted.now)) }
+        ensures { IfOk result (λ es. exprs_view es.items
+            ≡ conditions_of (asserted_view asserted.now)) }
     {
         match asserted {
             Asserted::Conditions(conditions) => self.all(conditions),

@@ -20,11 +20,7 @@ use std::sync::Arc;
 /// # Errors
 ///
 /// Want of memory.
-pub fn prepare(
-    alloc: Global,
-    station: &Station<'_>,
-    slots: &Slots,
-) -> Result<Prepared, AllocError>
+pub fn prepare(alloc: Global, station: &Station<'_>, slots: &Slots) -> Result<Prepared, AllocError>
     requires station { IsStation station.now }
     ensures { IfOk result (λ p. has_order (station_task station.now).action ≡ true
         → Prepares p (station_task station.now)) }

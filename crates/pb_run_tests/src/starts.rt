@@ -48,8 +48,7 @@ fn task(
     conditions: Vec<Expr>,
     loop_over: Option<Expr>,
     action: Action,
-) -> Prepared
-{
+) -> Prepared {
     Prepared {
         names,
         conditions,
@@ -64,8 +63,7 @@ fn task(
 }
 
 // What comes of a task that does this for no list and under no condition.
-fn lone_entry(alloc: Global, action: Action) -> Result<Entry, Fail>
-{
+fn lone_entry(alloc: Global, action: Action) -> Result<Entry, Fail> {
     let names = Vec::new(alloc);
     let prepared = task(names, Vec::new(alloc), None, action);
     let mut passes = start(alloc, &prepared, &fields(alloc, HOST)?)?;
@@ -84,8 +82,7 @@ fn is_value(alloc: Global, found: &Value, expected: &str) -> Result<(), Fail> {
 }
 
 // An assertion or a failure, which says that and is failed or not.
-fn is_said(alloc: Global, action: Action, wanted: bool, expected: &str) -> Result<(), Fail>
-{
+fn is_said(alloc: Global, action: Action, wanted: bool, expected: &str) -> Result<(), Fail> {
     match lone_entry(alloc, action)? {
         Entry::Says { failed, message } => {
             if failed != wanted {

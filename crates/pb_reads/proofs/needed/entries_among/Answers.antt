@@ -21,10 +21,10 @@ loop-entry-preserved c =
     let named : c.as_str.result.now ≡ entry_name e = c.as_str.ensures.value ∙ ap string_bytes c.deref.ensures in
     let told : f (entry_name e) ≡ c.contains.result = ap f (sym named) ∙ sym (set-finds c.as_str.result.now c.args.names.now.keys) ∙ sym c.contains.ensures in
     elim c.if-contains.branch [
-      then-contains+in_ok-push w ↦ entry-kept f all l.found.items es l.entry-index e c.loop-entry-test.true c.entry-item.is c.if-contains.found.items
-      (ap (λ v. v.items) w.found-is ∙ w.in_ok-push.ensures.items) (told ∙ w.if-contains.true) l.invariant
-    | else-contains w ↦ entry-passed f all l.found.items es l.entry-index e c.loop-entry-test.true c.entry-item.is (told ∙ w.if-contains.false) l.invariant
-      ∙ ap (λ v. append_parts (borrowed_view v.items) (parts_among f (borrowed_view (drop (l.entry-index + 1) es)))) (sym w.found-is)
+      | then-contains+in_ok-push w ↦ entry-kept f all l.found.items es l.entry-index e c.loop-entry-test.true c.entry-item.is c.if-contains.found.items
+          (ap (λ v. v.items) w.found-is ∙ w.in_ok-push.ensures.items) (told ∙ w.if-contains.true) l.invariant
+      | else-contains w ↦ entry-passed f all l.found.items es l.entry-index e c.loop-entry-test.true c.entry-item.is (told ∙ w.if-contains.false) l.invariant
+          ∙ ap (λ v. append_parts (borrowed_view v.items) (parts_among f (borrowed_view (drop (l.entry-index + 1) es)))) (sym w.found-is)
     ]
 
 pub returns : goal.returns

@@ -1,4 +1,5 @@
-// Tests of plans and of what tasks do on a host. They stand here, so that no crate with code is proved twice.
+// Tests of plans and of what tasks do on a host. They stand here, so that no crate with code is
+// proved twice.
 #![tactic(auto)]
 
 #[cfg(test)]

@@ -3,15 +3,15 @@
 built=crates/pb_cli/out/pb_cli
 ready=dist/playcheck
 
-# The crates that the program stands on, and itself: pb_cli, and what crates.txt lists for each of them.
-program_crates() {
+# The named crates and those that they stand on: what crates.txt lists for each of them.
+crates_below() {
     local -A needs=() seen=()
     local name rest
     while IFS=: read -r name rest; do
         name=${name%%#*}
         [ -z "${name// /}" ] || needs[$name]=${rest%%#*}
     done <"$top/crates.txt"
-    local left=(pb_cli)
+    local left=("$@")
     while [ ${#left[@]} -gt 0 ]; do
         name=${left[0]}
         left=("${left[@]:1}")
@@ -31,7 +31,7 @@ program_sources() {
     local LC_ALL=C
     shopt -s globstar nullglob
     local found=(crates.txt)
-    for name in $(program_crates); do
+    for name in $(crates_below pb_cli); do
         found+=("$top/crates/$name/src/"**/*.rt)
     done
     printf '%s\n' "${found[@]#"$top/"}" | sort

@@ -113,6 +113,19 @@ def wrong_long_texts():
             yield f"a long text of {name}: wanted {wanted!r}, found {outcome}"
 
 
+def wrong_many_forms():
+    """Of many tasks each with a form that only the program refuses, each is told, in a time that grows as the book does."""
+    count = 1500
+    tasks = "".join(f"    - {{command: /bin/ask, when: port == {number}.5}}\n" for number in range(count))
+    book = f"- hosts: all\n  gather_facts: false\n  vars: {{port: 1}}\n  tasks:\n{tasks}"
+    files = {"book.yml": book, "hosts.json": INVENTORY}
+    outcome = outcome_of(TOOL, Check("forms", ["check", "book.yml", "-i", "hosts.json"], None, files), WAITED)
+    said = outcome.stdout.decode().splitlines()
+    told = sum(line.endswith(": not judged: an expression that the profile lacks") for line in said)
+    if told != count or said[-1] != f"book.yml: accepted, 0 of {count} tasks judged" or outcome.seconds > SECONDS:
+        yield f"many forms: {told} of {count} told in {outcome.seconds:.1f} s, {said[-1:]}"
+
+
 def wrong_conversion():
     """What `convert` writes is what the program is asked, and the map of its lines."""
     folder = CASES / "converted"
@@ -187,9 +200,9 @@ def lost_passes():
     return [f"docs/FROM_ANSIBLE.md doesn't name {one.__name__}" for one in passes if f"`{one.__name__}`" not in page]
 
 
-SEARCHES = (lost_titles, lost_passes, lost_hook, wrong_long_texts, wrong_conversion, wrong_warnings, wrong_signatures,
-            wrong_gitlab, wrong_junit, wrong_strict, wrong_sarif, wrong_lookups, wrong_time_limit, wrong_rewritings,
-            wrong_completion, lost_words, wrong_action, wrong_gitlab_job)
+SEARCHES = (lost_titles, lost_passes, lost_hook, wrong_long_texts, wrong_many_forms, wrong_conversion, wrong_warnings,
+            wrong_signatures, wrong_gitlab, wrong_junit, wrong_strict, wrong_sarif, wrong_lookups, wrong_time_limit,
+            wrong_rewritings, wrong_completion, lost_words, wrong_action, wrong_gitlab_job)
 
 
 def main():

@@ -1,9 +1,9 @@
 # Tries the wrong programs of crates/*/wrong, each of which the prover must refuse:
-#     python3 tests/wrong_programs.py [--again] [--below] [CRATE..]
-#     python3 tests/wrong_programs.py [--again] --beside LOG, while rt ci runs and writes to LOG
+#     python3 tests/wrong_programs.py [--again] [CRATE..]
+#     python3 tests/wrong_programs.py [--again] --tree TREE --beside LOG, while rt ci runs in TREE and writes to LOG
 #
 # Those that were refused before, of the very same sources, are taken from tests/refused (record.py), unless all are tried
-# again; --below is for the crates below the named ones too. What is refused by a goal of its own is recorded.
+# again. What is refused by a goal of its own is recorded. TREE may hold some of the crates alone.
 #
 # An edit says which function it makes wrong, and how (`function:`, then `file:`, `old:` and `new:`). A function is proved
 # against the contracts of what it calls and not against their bodies, so all edits are tried at once, in a crate in which no
@@ -382,27 +382,25 @@ def tell(crates, libraries, record, try_edits, is_again=False):
 def options():
     parser = argparse.ArgumentParser(description="Tries the wrong programs, each of which the prover must refuse.")
     parser.add_argument("--again", action="store_true", help="try also those that the record has")
-    parser.add_argument("--below", action="store_true", help="also those of the crates below the named ones")
+    parser.add_argument("--tree", metavar="TREE", type=Path, default=TOP, help="where the crates stand, if not here")
     parser.add_argument("--beside", metavar="LOG", help="stand on what rt ci builds, which writes to that file")
     parser.add_argument("crates", nargs="*", metavar="CRATE")
     return parser.parse_args()
 
 
-def chosen(every, names, with_below):
-    """The crates of these names, all where there is none; with those below them."""
+def chosen(every, names):
+    """The crates of these names, all where there is none."""
     unknown = set(names) - {it.name for it in every}
     if unknown:
         sys.exit(f"no crate is named {' or '.join(sorted(unknown))}")
-    wanted = [it for it in every if not names or it.name in names]
-    below = {it.name for crate in wanted for it in crate.below()} if with_below else set()
-    return [it for it in every if it in wanted or it.name in below]
+    return [it for it in every if not names or it.name in names]
 
 
 def main():
     rt, said = kit(), options()
-    os.chdir(TOP)
+    os.chdir(said.tree)
     rt.rtlib.guarded()
-    crates = chosen(rt.rtlib.crates_below(os.getcwd()), said.crates, said.below)
+    crates = chosen(rt.rtlib.crates_below(os.getcwd()), said.crates)
     line = subprocess.run(["rt", "version"], capture_output=True, text=True, check=True).stdout.strip()
     with tempfile.TemporaryDirectory(prefix="libraries-") as room:
         libraries = Followed(said.beside, room, len(os.sched_getaffinity(0))) if said.beside else Built()
@@ -410,7 +408,9 @@ def main():
         passed, taken, failed = tell(crates, libraries, Record(RECORD, line), try_edits, said.again)
     print(f"{taken} of {passed + failed} wrong programs were taken from the record")
     print(f"{passed} passed, {failed} failed")
-    return 1 if failed or not passed else 0
+    # some of the crates may have none
+    is_lost = not passed and said.tree == TOP
+    return 1 if failed or is_lost else 0
 
 
 if __name__ == "__main__":

@@ -37,6 +37,9 @@ class Numbered:
     json: object
     lines: list = field(default_factory=lambda: [None])
 
+    def line(self, number):
+        return self.lines[number] if 0 < number < len(self.lines) else None
+
 
 class Printer:
     def __init__(self, unjudged_module):
@@ -49,6 +52,16 @@ class Printer:
             return Numbered(plain(book.node), self.lines)
         plays = [self.play(play) for play in book.plays]
         return Numbered(plays, self.lines)
+
+    def part(self, play, tasks):
+        """A book of some tasks of a play alone, in the order of their lines."""
+        self.lines.append(Line("play", play))
+        printed = {"hosts": "all"}
+        for section, are_handlers in (("tasks", False), ("handlers", True)):
+            steps = [task for task in tasks if task.is_handler == are_handlers]
+            if steps:
+                printed[section] = self.steps(steps, play)
+        return Numbered([printed], self.lines)
 
     def play(self, play):
         if isinstance(play, Raw):

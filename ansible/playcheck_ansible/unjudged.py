@@ -11,11 +11,14 @@ from .names import (FACTS, KNOWN, given_names, mentioned, names_of_vars, outside
                     outside_node, read_places, without_texts)
 from .nodes import Mapping, has_template, is_text, texts_of
 from .scope import Scope
+from .unread import leave_unread
 
 CUT = "refused: "
 RESULT_FIELDS = {"changed", "failed", "skipped", "skip_reason", "msg", "results"}
 # Codes of a form that the profile lacks; the other P codes are mistakes in Ansible too.
 FORM_CODES = ("P03", "P04", "P06", "P07")
+# From so many of them on, the other tasks are asked in small books, and not one question of the whole book for each.
+MANY_FORMS = 8
 FORM_REASONS = {
     "P03": "a word that the profile lacks",
     "P04": "a value that hasn't the form which the profile wants",
@@ -179,11 +182,16 @@ class Settler(Scope):
 
     def settle(self, finding, go_on=False):
         """Asks until the answer is about the flow; `finding` makes one of a refusal, with `go_on` its task is left."""
+        forms = 0
         for _ in range(2 * len(self.tasks) + 3 * len(self.plays) + 8):
             answer = self.ask()
             if not answer.code:
                 return
-            if self.is_left(answer):
+            if self.is_left(answer, self.line(answer)):
+                forms += answer.code in FORM_CODES
+                if forms == MANY_FORMS:
+                    leave_unread(self, self.numbered.lines[answer.line:])
+                    forms = 0
                 continue
             self.findings.append((self.line(answer), finding(answer, self.line(answer), self)))
             if not go_on or not self.cut(answer):
@@ -200,12 +208,10 @@ class Settler(Scope):
                 task.is_still_asked = False
 
     def line(self, answer):
-        lines = self.numbered.lines
-        return lines[answer.line] if 0 < answer.line < len(lines) else None
+        return self.numbered.line(answer.line)
 
-    def is_left(self, answer):
+    def is_left(self, answer, line):
         """Whether the refusal is of a form outside the profile, whose task isn't judged from now on."""
-        line = self.line(answer)
         if line is None or line.play is None:
             return False
         step = line.step

@@ -5,7 +5,8 @@
 // the modules whose results they are; `values`, what variables hold beside what is known; `set`, a
 // list of records of a `name` and a `text`, facts that are set one after the other before the text
 // is asked; `then`, an expression that is asked behind the text; `repeat`, how many times more than
-// the once each step is done. Or it is a record of a text under `inventory`, which is told.
+// the once each step is done. Or it is a record of a text under `inventory`, which is told; or of a
+// book under `plan` with its inventory under `hosts`, whose plan is told.
 ghost use Rattle.std.specs.Prelude.{◌≡◌, cond};
 ghost use Rattle.pb_semantics.specs.Words.{Gives};
 ghost use Rattle.pb_language.specs.Words.{expression_of, template_of};
@@ -14,6 +15,7 @@ ghost use Rattle.pb_syntax.specs.Trees.{no_tree};
 
 use crate::inventory::told_of;
 use crate::lines::line_for;
+use crate::plan::plan_told;
 use crate::question::{fields_at, flag_at, items_at, text_at};
 use crate::records::{put, put_record, said};
 use crate::repeat::repeat;
@@ -36,8 +38,11 @@ pub fn line_of(alloc: Global, question: &Value) -> Result<String, AllocError> {
 }
 
 fn answer_of(alloc: Global, asked: &Fields) -> Result<Fields, AllocError> {
-    match text_at(asked, "inventory") {
-        Some(text) => told_of(alloc, text),
+    if let Some(text) = text_at(asked, "inventory") {
+        return told_of(alloc, text);
+    }
+    match text_at(asked, "plan") {
+        Some(book) => plan_told(alloc, asked, book),
         None => expression_told(alloc, asked),
     }
 }

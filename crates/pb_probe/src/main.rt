@@ -1,5 +1,5 @@
 // Puts texts to the libraries: what each is read as, its kind and its value, or the inventory that
-// it is.
+// it is, or a book's plan.
 //
 // Standard input is a JSON list of questions (`answer.rt` says what stands in one); a line of JSON
 // is printed for each. The status is 64 where it is no such list.
@@ -8,6 +8,7 @@
 mod answer;
 mod inventory;
 mod lines;
+mod plan;
 mod question;
 mod records;
 mod repeat;

@@ -34,7 +34,8 @@ pub fn repeat(
     evaluate_again(alloc, expr, scene, times(counts, "value"))
 }
 
-fn times(counts: &Fields, step: &str) -> u64
+// How often that step is done again.
+pub(crate) fn times(counts: &Fields, step: &str) -> u64
     ensures { result ≤ 1000000 }
 {
     let count = count_at(counts, step);

@@ -1,5 +1,5 @@
 -- The core goes on as the machine does, event by event.
-use Rattle.std.proofs.Common.{◌≡◌, ◌<◌, ◌≤◌, ◌^◌, ℕ, zero, suc, ◌+◌, ◌-◌, List, [], ◌∷◌, ◌++◌, length, set, map, drop, IsSome, Bool, true, false, not, ◌&&◌, nat_lt, cond, All, Option, Some, None, Result, Ok, Err, IfErr, slice_get, unwrap_or, refl, sym, ap, ap₂, subst, ◌∙◌, arith}
+use Rattle.std.proofs.Common.{◌≡◌, ◌<◌, ◌≤◌, ◌^◌, ℕ, zero, suc, ◌+◌, List, [], ◌∷◌, ◌++◌, length, set, drop, IsSome, Bool, true, false, not, ◌&&◌, nat_lt, cond, All, Option, Some, None, Result, Ok, Err, IfErr, slice_get, unwrap_or, refl, sym, ap, ap₂, subst, ◌∙◌, arith}
 use Rattle.std.proofs.lemmas.Bool.{lt-ltb}
 use Rattle.std.specs.Global.{Vec}
 use Rattle.pb_semantics.specs.Data.{Fields}
@@ -7,18 +7,16 @@ use Rattle.pb_semantics.proofs.Bools.{untrue, and-left, and-right, and-both}
 use Rattle.pb_language.specs.Expression.{Name}
 use Rattle.pb_language.specs.Start.{Pass, call_count}
 use Rattle.pb_language.specs.Task.{Task}
-use Rattle.pb_language.specs.Give.{Answer, Ended, all_skipped, any_changed, any_failed, last_attempts, message_of}
+use Rattle.pb_language.specs.Give.{Answer, Ended, all_skipped, any_changed, any_failed, last_attempts}
 use Rattle.pb_language.specs.Notify.{HandlerNames, Notified, handlers_are, names_nothing, is_named, notified, with_numbers, all_notified}
 use Rattle.pb_language.specs.Program as program
 use Rattle.pb_language.specs.Machine as machine
 use Rattle.pb_language.specs.Machine.{ended_recap, give, start, notified_by}
 use Rattle.pb_machine.specs.Steps as flat
-use Rattle.pb_machine.specs.Hosts.{FlatHost, FlatStage, stands, works, at, at_end, left_play, arrived}
+use Rattle.pb_machine.specs.Hosts.{FlatHost, FlatStage, stands, works, at, at_end, left_play}
 use Rattle.pb_machine.specs.Ways.{step_at}
-use Rattle.pb_machine.specs.Run.{FlatState, host_at, put_host, current_steps, plan_steps, after_task, target_on, enabled, is_possible, of_host, can_start, is_out, step}
+use Rattle.pb_machine.specs.Run.{FlatState, host_at, put_host, current_steps, plan_steps, after_task, target_on, is_possible, of_host, can_start, is_out}
 use Rattle.pb_steps.specs.declared.step.Step.{Step}
-use Rattle.pb_steps.specs.Words.{outline, outline_view}
-use Rattle.pb_position.specs.declared.position.Position.{Position}
 use Rattle.pb_position.specs.declared.position.TaskEnd.{TaskEnd}
 use Rattle.pb_position.specs.Texts.{text_of}
 use Rattle.pb_position.specs.Positions.{IsAs, IsAt, handlers_of}
@@ -33,16 +31,15 @@ use Rattle.pb_core.specs.declared.host.Stage.{Stage}
 use Rattle.pb_core.specs.declared.host.Stage.TheVariants.{Waits, Runs}
 use Rattle.pb_core.specs.declared.index.ReadyIndex.{ReadyIndex}
 use Rattle.pb_core.specs.declared.outcome.TaskOutcome.{TaskOutcome}
-use Rattle.pb_core.specs.declared.outcome.TaskStatus.{TaskStatus}
 use Rattle.pb_core.specs.declared.recap.Recap.{Recap}
 use Rattle.pb_core.specs.declared.run.RunCore.{RunCore}
 use Rattle.pb_core.specs.Readings.{Reading}
-use Rattle.pb_core.specs.Activities.{Activity, ready, runs, idle, activity_in, activities}
+use Rattle.pb_core.specs.Activities.{Activity, ready, runs, idle, activity_in}
 use Rattle.pb_core.specs.Indexes.{IsIndexOf, BeginsIn, LeavesIn, GoesOnIn, waits_at}
-use Rattle.pb_core.specs.Hosts.{recap_view, recap_after, left_recap, counts_of, goes_wrong, location_in, place_in, PlaySize, Fits, job_of, repeated, IsStage, IsHost, IsHostAt, IsOutcome, IsPlaceAt, standing_at, gone_on, GoesTo, HasGone, are_below}
+use Rattle.pb_core.specs.Hosts.{recap_view, recap_after, left_recap, counts_of, goes_wrong, location_in, place_in, PlaySize, Fits, job_of, repeated, IsStage, IsHost, IsOutcome, IsPlaceAt, standing_at, gone_on, GoesTo, HasGone, are_below}
 use Rattle.pb_core.specs.Entries.{AreHosts}
-use Rattle.pb_core.specs.Cores.{row_plan, IsPlay, IsBatch, AreBatches, counts_in, counts_at, size_of, activities_of, IsCore, play_in, running_place, ready_place, play_of, GoesFrom, HasGoneFrom, IsRunningAt, IsReadyAt}
-use Rattle.pb_core.specs.Events.{Starts, Works, step_in, answered, left_by, Comes, Begins, Repeats, Leaves, Settles, IsDisabled, HasNoJob}
+use Rattle.pb_core.specs.Cores.{IsPlay, IsBatch, AreBatches, counts_in, counts_at, size_of, activities_of, IsCore, play_in, running_place, ready_place, play_of, GoesFrom, HasGoneFrom, IsRunningAt, IsReadyAt}
+use Rattle.pb_core.specs.Events.{Begins, Repeats, Leaves, Settles, IsDisabled, HasNoJob}
 use Rattle.pb_core.proofs.Steps.{steps_start, steps_left, steps_again, steps_settled}
 use Rattle.pb_core.proofs.Hosts.{set_same, activity_at, no_activity, activities_put, ready_is, running_is, waits_where, as_same, stands_there, arrived_fits, arrived_kept, host_in, hosts_put, host_there, host_missing, waits_ready, waits_not_run, runs_at, runs_not_ready, fits_nowhere}
 use Rattle.pb_core.proofs.Places.{as_many}

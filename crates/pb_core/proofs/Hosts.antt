@@ -1,22 +1,16 @@
 -- One host of the core goes on as the machine's.
-use Rattle.std.proofs.Common.{◌≡◌, ◌≢◌, ◌<◌, ◌≤◌, ℕ, zero, suc, ◌+◌, List, [], ◌∷◌, set, length, map, Bool, true, false, not, ◌&&◌, nat_eq, nat_lt, cond, Option, Some, None, slice_get, get_or, unwrap_or, refl, sym, ap, ap₂, subst, ◌∙◌, eq-eqb, arith}
-use Rattle.std.proofs.lemmas.Bool.{eqb-true, ltb-true, ltb-false}
+use Rattle.std.proofs.Common.{◌≡◌, ◌≢◌, ◌<◌, ◌≤◌, ℕ, zero, suc, ◌+◌, List, [], ◌∷◌, set, length, Bool, true, false, nat_eq, nat_lt, Option, Some, None, slice_get, get_or, unwrap_or, refl, sym, ap, subst, ◌∙◌, eq-eqb, arith}
+use Rattle.std.proofs.lemmas.Bool.{eqb-true}
 use Rattle.std.proofs.lemmas.Option.{slice_get-get_or, slice_get_past}
 use Rattle.pb_semantics.proofs.Bools.{untrue}
 use Rattle.pb_language.specs.Expression.{Name}
-use Rattle.pb_language.specs.Start.{Pass, call_count}
 use Rattle.pb_language.specs.Machine.{is_marked}
 use Rattle.pb_machine.specs.Steps as flat
 use Rattle.pb_machine.specs.Steps.{rescuing, holding, releasing}
 use Rattle.pb_machine.specs.Hosts.{Location, FlatHost, FlatStage, stands, works, at, at_end, left_play, at_step, arrival, arrived, all_moved, moved, is_passed}
-use Rattle.pb_machine.specs.Ways.{step_along, step_at}
-use Rattle.pb_machine.specs.Run.{FlatState, host_at, put_host}
-use Rattle.pb_steps.specs.declared.step.Step.{Step}
-use Rattle.pb_steps.specs.Words.{outline, outline_view}
+use Rattle.pb_machine.specs.Run.{host_at, put_host}
 use Rattle.pb_position.specs.declared.position.Position.{Position}
-use Rattle.pb_position.specs.Positions.{IsAs, IsAt, location_view}
-use Rattle.pb_position.specs.Calls.{AreKept}
-use Rattle.pb_core.specs.declared.host.Stage.{Stage}
+use Rattle.pb_position.specs.Positions.{IsAs, IsAt}
 use Rattle.pb_core.specs.declared.host.Stage.TheVariants.{Waits, Runs}
 use Rattle.pb_core.specs.declared.host.HostState.{HostState}
 use Rattle.pb_core.specs.Readings.{Reading}

@@ -4,8 +4,8 @@ use Rattle.std.proofs.lemmas.Bool.{ltb-true, ltb-false, leb-true, le-leb, lt-ltb
 use Rattle.pb_semantics.proofs.Bools.{untrue}
 use Rattle.pb_language.specs.Drive.{Starting, lower}
 use Rattle.pb_core.specs.declared.index.ReadyIndex.{ReadyIndex}
-use Rattle.pb_core.specs.Activities.{Activity, idle, ready, runs, count_running, running_in, is_idle, all_idle_in, is_at_least, none_behind, can_start_in, start_of, first_in, always, next_in, number_of, starting_of, is_not_behind}
-use Rattle.pb_core.specs.Indexes.{Places, place_cmp, has_place, is_ready, HasPlaces, exchanged, IsIndexOf, HoldsOnly, is_not_ready, TakesOut, PutsIn, BeginsIn, LeavesIn, waits_at, GoesOnIn}
+use Rattle.pb_core.specs.Activities.{Activity, idle, ready, runs, running_in, all_idle_in, is_at_least, none_behind, can_start_in, start_of, first_in, always, next_in, number_of, starting_of, is_not_behind}
+use Rattle.pb_core.specs.Indexes.{Places, has_place, is_ready, HasPlaces, exchanged, IsIndexOf, HoldsOnly, is_not_ready, TakesOut, PutsIn, BeginsIn, LeavesIn, waits_at, GoesOnIn}
 use Rattle.pb_core.proofs.Nexts.{kept, next_kept}
 
 below_both : (p : ℕ) (x y : Starting) (l a b : Bool) → nat_lt y.place x.place ≡ l → nat_le p x.place ≡ a → nat_le p y.place ≡ b → is_not_behind p (cond l (Some y) (Some x)) ≡ a && b

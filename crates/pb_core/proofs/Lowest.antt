@@ -3,12 +3,12 @@ use Rattle.std.proofs.Common.{◌≡◌, ◌≢◌, ◌<◌, ◌≤◌, ℕ, zer
 use Rattle.std.proofs.lemmas.Bool.{ltb-true, lt-ltb, eqb-true}
 use Rattle.std.proofs.lemmas.Bool.Decides.{nat_tests}
 use Rattle.std.specs.Ordering.{nat_cmp, ordering_then, is_gt, is_eq}
-use Rattle.std.specs.BTreeSet.{BTreeSet, contains}
+use Rattle.std.specs.BTreeSet.{contains}
 use Rattle.std.specs.List.{list_any}
 use Rattle.pb_semantics.proofs.Bools.{untrue}
 use Rattle.pb_language.specs.Drive.{Starting, lower}
 use Rattle.pb_core.specs.Activities.{Activity, idle, ready, runs, start_of, first_in, always}
-use Rattle.pb_core.specs.Indexes.{Places, place_cmp, has_place, is_ready, HasPlaces, is_not_ready, AddsPlace}
+use Rattle.pb_core.specs.Indexes.{Places, place_cmp, is_ready, HasPlaces, is_not_ready, AddsPlace}
 use Rattle.std.specs.declared.cmp.Ordering.{Ordering}
 use Rattle.std.specs.declared.cmp.Ordering.TheVariants.{Less, Equal, Greater}
 

@@ -1,5 +1,5 @@
 -- Which host starts next, by where the hosts are.
-use Rattle.std.proofs.Common.{◌≡◌, ◌<◌, ◌≤◌, ℕ, suc, ◌+◌, List, [], ◌∷◌, map, Bool, true, false, not, ◌&&◌, ◌||◌, nat_lt, cond, Option, Some, None, refl, sym, ap, ap₂, ◌∙◌, arith}
+use Rattle.std.proofs.Common.{◌≡◌, ◌<◌, ◌≤◌, ℕ, suc, ◌+◌, List, [], ◌∷◌, Bool, true, false, not, ◌&&◌, ◌||◌, nat_lt, cond, Option, Some, None, refl, sym, ap, ap₂, ◌∙◌, arith}
 use Rattle.std.proofs.lemmas.Bool.{ltb-true, ltb-false, leb-true, le-leb}
 use Rattle.pb_semantics.proofs.Bools.{untrue, and-left, and-right, and-both}
 use Rattle.pb_language.specs.Program as program
@@ -9,8 +9,7 @@ use Rattle.pb_machine.specs.Steps.{Step}
 use Rattle.pb_machine.specs.Hosts.{FlatHost, FlatStage, stands, works, at, at_end, left_play}
 use Rattle.pb_machine.specs.Ways.{step_at}
 use Rattle.pb_machine.specs.Run.{FlatState, plan_steps, host_at, running, is_out, stands_at, all_stand, can_start, of_host, is_possible, enabled, current_steps, starting, first_starting, next_start}
-use Rattle.pb_core.specs.Activities.{Activity, idle, ready, runs, activity_in, activities, count_running, running_in, is_at_least, none_behind, can_start_in, start_of, first_in, always, next_in, all_idle_in}
-use Rattle.pb_core.specs.Activities.{is_idle as idle_one}
+use Rattle.pb_core.specs.Activities.{Activity, idle, ready, runs, activity_in, activities, count_running, running_in, is_at_least, none_behind, can_start_in, start_of, first_in, always, next_in}
 
 -- of the lowest, where it can start
 abbrev pub kept : (ℕ → Bool) → Option Starting → Option Starting

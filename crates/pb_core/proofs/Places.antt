@@ -1,5 +1,5 @@
 -- Where positions are in the book, and where they go on.
-use Rattle.std.proofs.Common.{◌≡◌, ◌<◌, ◌≤◌, ℕ, zero, suc, ◌+◌, ◌-◌, List, [], ◌∷◌, length, map, get_or, Bool, true, false, ◌&&◌, nat_lt, nat_le, cond, All, Option, Some, None, refl, sym, ap, ap₂, subst, ◌∙◌, arith}
+use Rattle.std.proofs.Common.{◌≡◌, ◌<◌, ◌≤◌, ℕ, zero, suc, ◌+◌, ◌-◌, List, [], ◌∷◌, length, map, get_or, true, nat_lt, nat_le, cond, All, Option, Some, None, refl, sym, ap, subst, ◌∙◌, arith}
 use Rattle.std.proofs.lemmas.Bool.{ltb-true, lt-ltb}
 use Rattle.std.proofs.lemmas.List.{length-map}
 use Rattle.pb_semantics.proofs.Bools.{and-left, and-right, and-both}
@@ -16,7 +16,7 @@ use Rattle.pb_position.specs.declared.position.Position.{Position}
 use Rattle.pb_position.specs.declared.position.Location.{Location}
 use Rattle.pb_position.specs.declared.position.Location.TheVariants.{End, Left, Node}
 use Rattle.pb_position.specs.declared.position.TaskEnd.{TaskEnd}
-use Rattle.pb_position.specs.Positions.{IsAs, IsAt, location_view}
+use Rattle.pb_position.specs.Positions.{IsAt, location_view}
 use Rattle.pb_position.specs.Calls.{AreKept, IsEndOf, GoesOn}
 use Rattle.pb_core.specs.Hosts.{place_in, standing_at, gone_on, are_below}
 use Rattle.pb_core.proofs.Hosts.{as_same}

@@ -1,5 +1,5 @@
 -- Which host starts next, Turns, and a run's beginning and end.
-use Rattle.std.proofs.Common.{◌≡◌, ◌<◌, ◌≤◌, ℕ, zero, suc, ◌+◌, List, [], ◌∷◌, ◌++◌, map, length, drop, get_or, All, Bool, true, false, not, ◌&&◌, cond, Option, Some, None, Result, Ok, Err, IfErr, slice_get, unwrap_or, option_map, refl, sym, ap, ap₂, subst, ◌∙◌, arith}
+use Rattle.std.proofs.Common.{◌≡◌, ◌<◌, ℕ, zero, suc, List, [], ◌∷◌, ◌++◌, map, length, drop, get_or, All, Bool, true, false, not, ◌&&◌, cond, Option, Some, None, slice_get, unwrap_or, option_map, refl, sym, ap, ap₂, subst, ◌∙◌, arith}
 use Rattle.std.specs.Global.{Vec}
 use Rattle.pb_semantics.proofs.Bools.{untrue, and-right}
 use Rattle.pb_language.specs.Expression.{Name}
@@ -9,25 +9,21 @@ use Rattle.pb_language.specs.Program.{all_batches}
 use Rattle.pb_language.specs.Machine.{any_names, empty_recap, turn, stop}
 use Rattle.pb_machine.specs.Steps as flat
 use Rattle.pb_machine.specs.Hosts.{FlatHost, stands, at_end}
-use Rattle.pb_machine.specs.Run.{FlatState, plan_steps, current_steps, host_at, still_active, with_batches, all_idle, enabled, is_possible, happened, on_turn, step, opening_hosts, next_start}
+use Rattle.pb_machine.specs.Run.{FlatState, current_steps, host_at, still_active, all_idle, enabled, is_possible, happened, on_turn, step, opening_hosts}
 use Rattle.pb_core.specs.declared.batch.Batch.{Batch}
 use Rattle.pb_core.specs.declared.batch.RunPlay.{RunPlay}
-use Rattle.pb_core.specs.declared.fault.CoreFault.{CoreFault}
-use Rattle.pb_core.specs.declared.fault.CoreFault.TheVariants.{NotThere}
 use Rattle.pb_core.specs.declared.host.HostState.{HostState}
-use Rattle.pb_core.specs.declared.host.Stage.TheVariants.{Waits}
 use Rattle.pb_core.specs.declared.index.ReadyIndex.{ReadyIndex}
 use Rattle.pb_core.specs.declared.run.RunCore.{RunCore}
 use Rattle.pb_core.specs.Readings.{Reading}
-use Rattle.pb_core.specs.Activities.{Activity, idle, activities, running_in, all_idle_in, next_in, number_of}
+use Rattle.pb_core.specs.Activities.{Activity, activities, running_in, all_idle_in, next_in, number_of}
 use Rattle.pb_core.specs.Indexes.{is_ready, IsIndexOf, HoldsOnly}
-use Rattle.pb_core.specs.Hosts.{PlaySize, recap_view, IsStage, IsHost, IsHostAt, IsFresh}
+use Rattle.pb_core.specs.Hosts.{PlaySize, IsStage, IsHost, IsHostAt, IsFresh}
 use Rattle.pb_core.specs.declared.entry.Entry.{Entry}
-use Rattle.pb_core.specs.Entries.{any_on, found, entered, waits_in, AreEntries, AreHosts, IsAnyHere}
-use Rattle.pb_core.specs.Cores.{AreEntriesAt, LeadsTo, IsBatch, AreBatches, AreOfNoProgram, size_of, activities_of, IsCore, play_in, play_of, HasNoPlay, IsNoCore, AreVariablesAt, AreVariables}
-use Rattle.pb_core.specs.Events.{IsDisabled, IsNext, RunsBatch, Turns, CanTurn, turned, Turned, Advances, Opens, Stops}
+use Rattle.pb_core.specs.Entries.{found, entered, waits_in, AreEntries, AreHosts, IsAnyHere}
+use Rattle.pb_core.specs.Cores.{AreEntriesAt, LeadsTo, AreBatches, size_of, activities_of, IsCore, play_in, play_of, HasNoPlay, IsNoCore, AreVariablesAt, AreVariables}
+use Rattle.pb_core.specs.Events.{IsDisabled, IsNext, RunsBatch, Turns, CanTurn, turned, Advances, Opens, Stops}
 use Rattle.pb_core.proofs.Nexts.{next_same, next_stopped, next_ended}
-use Rattle.pb_core.proofs.Hosts.{there, past}
 use Rattle.pb_core.proofs.Indexes.{holds_only}
 use Rattle.pb_core.proofs.Cores.{drop_at, drop_past, no_batches, play_is, play_none}
 use Rattle.pb_core.proofs.Turns.{any_active, idle_same, runs_on}

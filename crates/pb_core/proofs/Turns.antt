@@ -1,5 +1,5 @@
 -- How the hosts of a batch begin their play.
-use Rattle.std.proofs.Common.{◌≡◌, ◌<◌, ◌≤◌, ℕ, zero, suc, ◌+◌, ◌-◌, List, [], ◌∷◌, ◌++◌, map, length, drop, take, set, get_or, Bool, true, false, not, ◌&&◌, ◌||◌, nat_eq, nat_lt, cond, is_some, IfSome, Option, Some, None, slice_get, refl, sym, ap, ap₂, subst, ◌∙◌, arith}
+use Rattle.std.proofs.Common.{◌≡◌, ◌<◌, ℕ, zero, suc, ◌+◌, List, [], ◌∷◌, ◌++◌, map, length, drop, take, set, get_or, Bool, true, false, ◌&&◌, ◌||◌, nat_eq, cond, is_some, IfSome, Option, Some, None, slice_get, refl, sym, ap, ap₂, subst, ◌∙◌, arith}
 use Rattle.std.proofs.lemmas.Bool.{eqb-true}
 use Rattle.std.proofs.lemmas.Bool.Decides.{nat_tests}
 use Rattle.std.proofs.lemmas.List.{take_more}
@@ -14,30 +14,27 @@ use Rattle.pb_machine.specs.Steps as flat
 use Rattle.pb_machine.specs.Steps.{play_begin, play_steps}
 use Rattle.pb_machine.specs.Hosts.{FlatHost, FlatStage, stands, works, at, at_end, left_play, arrived}
 use Rattle.pb_machine.specs.Run.{FlatState, plan_steps, current_steps, is_on_stage, is_on, is_active_host, still_active, host_at, begun, all_begun, with_batches, all_idle, is_idle}
-use Rattle.pb_flow.specs.Nodes.{target_view}
-use Rattle.pb_position.specs.declared.position.Position.{Position}
 use Rattle.pb_position.specs.declared.position.Location.{Location}
 use Rattle.pb_position.specs.declared.position.Location.TheVariants.{End, Left, Node}
 use Rattle.std.proofs.Math.Nat.{ℕ_set}
 use Rattle.pb_position.specs.Positions.{IsAt, handlers_of, location_view}
-use Rattle.pb_position.specs.Calls.{AreKept, BeginsPlay, emptied}
+use Rattle.pb_position.specs.Calls.{BeginsPlay}
 use Rattle.pb_steps.specs.declared.step.Step.{Step}
 use Rattle.pb_steps.specs.Words.{outline_view}
 use Rattle.pb_core.specs.declared.batch.Batch.{Batch}
 use Rattle.pb_core.specs.declared.batch.RunPlay.{RunPlay}
 use Rattle.pb_core.specs.declared.entry.Entry.{Entry}
 use Rattle.pb_core.specs.declared.host.HostState.{HostState}
-use Rattle.pb_core.specs.declared.host.Stage.{Stage}
-use Rattle.pb_core.specs.declared.host.Stage.TheVariants.{Waits, Runs}
+use Rattle.pb_core.specs.declared.host.Stage.TheVariants.{Waits}
 use Rattle.pb_core.specs.declared.index.ReadyIndex.{ReadyIndex}
 use Rattle.pb_core.specs.declared.run.RunCore.{RunCore}
 use Rattle.pb_core.specs.Readings.{Reading}
-use Rattle.pb_core.specs.Activities.{Activity, idle, ready, runs, activity_in, activities, count_running, running_in, all_idle_in}
+use Rattle.pb_core.specs.Activities.{idle, activity_in, activities, count_running, running_in, all_idle_in}
 use Rattle.pb_core.specs.Activities.{is_idle as is_idle_one}
 use Rattle.pb_core.specs.Indexes.{Places, has_place, is_ready, IsIndexOf, HoldsOnly, AddsPlace, waits_at}
 use Rattle.pb_core.specs.Hosts.{IsPlaceAt, place_in, location_in, PlaySize, Fits, IsStage, IsHost, IsHostAt}
 use Rattle.pb_core.specs.Entries.{is_here, on_at, any_on, is_in, Begins, BeginsAt, EntryIf, EntryFor, or_else, found_one, found, with_entry, is_at, waits_in, AllBegin, HaveEntries, AddsEntry, AreOthersGone, AreHosts, IsHere, IsAnyHere, IsEntry, AreEntries, entered}
-use Rattle.pb_core.specs.Cores.{IsPlay, IsBatch, AreBatches, size_of, activities_of, IsCore, play_of}
+use Rattle.pb_core.specs.Cores.{IsPlay, IsBatch, AreBatches, size_of, IsCore, play_of}
 use Rattle.pb_core.specs.Events.{RunsBatch}
 use Rattle.pb_core.proofs.Hosts.{as_same, host_there, host_missing, set_here, set_there, apart, activity_at, no_activity, waits_where, stands_there, arrived_fits, arrived_kept, arrived_no_run}
 use Rattle.pb_core.proofs.Indexes.{holds_only}

@@ -1,7 +1,6 @@
 -- The core of a run, as a state of pb_machine's machine.
-use Rattle.std.specs.Prelude.{◌≡◌, ℕ, ◌-◌, List, [], ◌∷◌, Bool, Option, Some, None, drop, length}
+use Rattle.std.specs.Prelude.{◌≡◌, ℕ, ◌-◌, List, [], ◌∷◌, Option, Some, None, drop, length}
 use Rattle.std.specs.Prelude.{cond, map, slice_get}
-use Rattle.pb_semantics.specs.Data.{Fields}
 use Rattle.pb_language.specs.Expression.{Name}
 use Rattle.pb_language.specs.World.{HostVariables}
 use Rattle.pb_language.specs.Task.{Row}
@@ -9,8 +8,7 @@ use Rattle.pb_language.specs.Machine.{any_names}
 use Rattle.pb_language.specs.Program as program
 use Rattle.pb_language.specs.Program.{Play}
 use Rattle.pb_machine.specs.Steps.{play_steps, play_begin}
-use Rattle.pb_machine.specs.Hosts.{FlatHost}
-use Rattle.pb_machine.specs.Run.{FlatState, current_steps, host_at, plan_steps, still_active}
+use Rattle.pb_machine.specs.Run.{FlatState, current_steps, plan_steps, still_active}
 use Rattle.pb_steps.specs.Words.{PlayPlan, outline, plan_view}
 use Rattle.pb_position.specs.declared.position.TaskEnd.{TaskEnd}
 use Rattle.pb_position.specs.Positions.{handlers_of}
@@ -20,7 +18,6 @@ use Rattle.pb_core.specs.declared.run.RunCore.{RunCore}
 use Rattle.pb_core.specs.declared.entry.Entry.{Entry}
 use Rattle.pb_core.specs.declared.host.HostState.{HostState}
 use Rattle.pb_core.specs.declared.host.Onward.{Onward}
-use Rattle.pb_core.specs.declared.recap.Recap.{Recap}
 use Rattle.pb_core.specs.Readings.{Reading}
 use Rattle.pb_core.specs.Activities.{Activity, activities, runs, ready}
 use Rattle.pb_core.specs.Indexes.{IsIndexOf}

@@ -3,7 +3,7 @@ use Rattle.std.specs.Prelude.{◌≡◌, ◌<◌, ◌≤◌, ℕ, suc, List, [],
 use Rattle.std.specs.Prelude.{nat_lt, Option, Some, None, length}
 use Rattle.pb_semantics.specs.Data.{Fields}
 use Rattle.pb_language.specs.Expression.{Name}
-use Rattle.pb_language.specs.Start.{Pass, call_count}
+use Rattle.pb_language.specs.Start.{call_count}
 use Rattle.pb_language.specs.Machine as machine
 use Rattle.pb_language.specs.Machine.{ended_recap, empty_recap}
 use Rattle.pb_language.specs.Task.{Task}

@@ -1,4 +1,4 @@
-use Rattle.std.proofs.Common.{◌≡◌, ◌<◌, ◌≤◌, false, true, length, refl, sym, subst, arith}
+use Rattle.std.proofs.Common.{refl, sym, subst}
 use Rattle.pb_position.specs.Calls.{BeginsPlay}
 use Rattle.pb_core.specs.Hosts.{IsPlaceAt}
 use Rattle.pb_core.specs.Entries.{IsHere}

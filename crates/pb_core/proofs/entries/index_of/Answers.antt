@@ -1,4 +1,3 @@
-use Rattle.std.proofs.Common.{arith}
 use Rattle.pb_core.proofs.Turns.{holds_next}
 use Rattle.pb_core.proofs.entries.index_of.Goals as goal
 

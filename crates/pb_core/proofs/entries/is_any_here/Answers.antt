@@ -1,4 +1,4 @@
-use Rattle.std.proofs.Common.{false, true, get_or, subst, arith}
+use Rattle.std.proofs.Common.{get_or, subst}
 use Rattle.std.proofs.lemmas.List.{drop_all}
 use Rattle.pb_core.specs.Entries.{IsHere}
 use Rattle.pb_core.proofs.Turns.{gone_more, one_here, none_here}

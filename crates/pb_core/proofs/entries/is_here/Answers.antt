@@ -1,7 +1,6 @@
-use Rattle.std.proofs.Common.{◌≤◌, length, refl, sym, ap, subst, ◌∙◌, arith}
+use Rattle.std.proofs.Common.{ap, subst}
 use Rattle.pb_position.specs.Positions.{IsAt}
 use Rattle.pb_core.specs.Entries.{is_here}
-use Rattle.pb_core.specs.declared.host.HostState.{HostState}
 use Rattle.pb_core.proofs.Hosts.{there, past}
 use Rattle.pb_core.proofs.Turns.{here_past, here_by}
 use Rattle.pb_core.proofs.entries.is_here.Goals as goal

@@ -1,6 +1,5 @@
-use Rattle.std.proofs.Common.{◌≡◌, ◌++◌, ◌∷◌, [], ◌∙◌, All, List, map, sym, ap, subst, append-nil}
+use Rattle.std.proofs.Common.{◌++◌, ◌∷◌, [], ◌∙◌, All, map, sym, ap, subst, append-nil}
 use Rattle.std.proofs.lemmas.List.Elements.{All-append}
-use Rattle.pb_core.specs.declared.host.HostState.{HostState}
 use Rattle.pb_core.specs.Hosts.{IsFresh}
 use Rattle.pb_core.proofs.Runs.{all_one, one_made, none_left}
 use Rattle.pb_core.proofs.run.hosts_of.Goals as goal

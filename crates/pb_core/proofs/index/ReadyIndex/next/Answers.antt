@@ -1,4 +1,4 @@
-use Rattle.std.proofs.Common.{◌≡◌, ◌<◌, sym, map, ◌∙◌, length}
+use Rattle.std.proofs.Common.{◌<◌, sym, map, ◌∙◌}
 use Rattle.pb_core.specs.Indexes.{exchanged}
 use Rattle.pb_core.proofs.Indexes.{next_empty, next_full, next_behind, next_free, next_linear}
 use Rattle.pb_core.proofs.index.ReadyIndex.next.Goals as goal

@@ -1,4 +1,4 @@
-use Rattle.std.proofs.Common.{◌<◌, length, refl, sym, ◌∙◌, arith}
+use Rattle.std.proofs.Common.{refl}
 use Rattle.pb_core.proofs.Hosts.{there}
 use Rattle.pb_core.proofs.Cores.{begins_by, cannot_start}
 use Rattle.pb_core.proofs.run.RunCore.begin.Goals as goal

@@ -1,4 +1,4 @@
-use Rattle.std.proofs.Common.{◌<◌, ◌≤◌, length, sym, subst₂, arith}
+use Rattle.std.proofs.Common.{sym, subst₂}
 use Rattle.pb_core.specs.Entries.{AreEntries}
 use Rattle.pb_core.proofs.Hosts.{there}
 use Rattle.pb_core.proofs.Runs.{no_play_at, entries_at}

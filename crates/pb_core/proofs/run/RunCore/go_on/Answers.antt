@@ -1,5 +1,5 @@
-use Rattle.std.proofs.Common.{◌<◌, ◌≤◌, IfErr, length, refl, sym, ◌∙◌, arith}
-use Rattle.pb_core.proofs.Hosts.{there, past}
+use Rattle.std.proofs.Common.{◌<◌, length, sym, arith}
+use Rattle.pb_core.proofs.Hosts.{there}
 use Rattle.pb_core.proofs.Cores.{gone_from}
 use Rattle.pb_core.proofs.run.RunCore.go_on.Goals as goal
 

@@ -1,4 +1,4 @@
-use Rattle.std.proofs.Common.{◌<◌, length, refl, ap, sym, ◌∙◌, arith}
+use Rattle.std.proofs.Common.{refl, ap, sym, ◌∙◌}
 use Rattle.pb_core.specs.Hosts.{left_recap, recap_view}
 use Rattle.pb_core.proofs.Hosts.{there, same_item}
 use Rattle.pb_core.proofs.Cores.{leaves_by, cannot_give, full_recap}

@@ -1,4 +1,4 @@
-use Rattle.std.proofs.Common.{◌≡◌, ◌<◌, ◌≤◌, ◌+◌, suc, length, drop, true, false, refl, ap, sym, subst, subst₂, ◌∙◌, arith}
+use Rattle.std.proofs.Common.{◌≡◌, ◌<◌, ◌≤◌, ◌+◌, suc, length, drop, true, false, ap, subst, subst₂, arith}
 use Rattle.std.proofs.lemmas.List.{drop_all}
 use Rattle.pb_core.specs.Entries.{IsAnyHere}
 use Rattle.pb_core.proofs.Hosts.{there}

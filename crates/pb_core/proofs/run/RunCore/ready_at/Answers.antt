@@ -1,5 +1,4 @@
-use Rattle.std.proofs.Common.{◌<◌, ◌≤◌, length, refl, sym, ◌∙◌, arith}
-use Rattle.pb_core.proofs.Turns.{runs_on}
+use Rattle.std.proofs.Common.{◌<◌, ◌≤◌, length, sym, arith}
 use Rattle.pb_core.proofs.Hosts.{there, past}
 use Rattle.pb_core.proofs.Cores.{ended_ready, missing_ready, waits_ready_at, runs_ready}
 use Rattle.pb_core.proofs.run.RunCore.ready_at.Goals as goal

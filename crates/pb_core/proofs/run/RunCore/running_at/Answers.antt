@@ -1,4 +1,4 @@
-use Rattle.std.proofs.Common.{◌<◌, ◌≤◌, length, refl, sym, ◌∙◌, arith}
+use Rattle.std.proofs.Common.{◌<◌, ◌≤◌, length, sym, arith}
 use Rattle.pb_core.proofs.Hosts.{there, past}
 use Rattle.pb_core.proofs.Cores.{ended_runs, missing_runs, runs_running_at, waits_runs}
 use Rattle.pb_core.proofs.run.RunCore.running_at.Goals as goal

@@ -1,7 +1,6 @@
-use Rattle.std.proofs.Common.{◌≡◌, ◌<◌, length, refl, ap, sym, ◌∙◌, arith}
+use Rattle.std.proofs.Common.{refl, ap, sym, ◌∙◌}
 use Rattle.std.proofs.lemmas.Result.{err_from_is_err_and}
-use Rattle.pb_core.specs.Hosts.{counts_of, recap_after, recap_view}
-use Rattle.pb_core.specs.Cores.{counts_in}
+use Rattle.pb_core.specs.Hosts.{recap_after, recap_view}
 use Rattle.pb_position.specs.declared.position.TaskEnd.{TaskEnd}
 use Rattle.pb_core.proofs.Hosts.{there, same_item}
 use Rattle.pb_core.proofs.Cores.{settles_by, gone_job, no_running_job, full_recap}

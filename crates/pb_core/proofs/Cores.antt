@@ -1,5 +1,5 @@
 -- The core goes on as the machine does, event by event.
-use Rattle.std.proofs.Common.{◌≡◌, ◌<◌, ◌≤◌, ◌^◌, ℕ, zero, suc, ◌+◌, List, [], ◌∷◌, ◌++◌, length, set, drop, IsSome, Bool, true, false, not, ◌&&◌, nat_lt, cond, All, Option, Some, None, Result, Ok, Err, IfErr, slice_get, unwrap_or, refl, sym, ap, ap₂, subst, ◌∙◌, arith}
+use Rattle.std.proofs.Common.{◌≡◌, ◌<◌, ◌≤◌, ◌^◌, ℕ, zero, suc, ◌+◌, List, [], ◌∷◌, ◌++◌, length, set, map, drop, IsSome, Bool, true, false, not, ◌&&◌, nat_lt, cond, All, Option, Some, None, Result, Ok, Err, IfErr, slice_get, unwrap_or, refl, sym, ap, ap₂, subst, ◌∙◌, arith}
 use Rattle.std.proofs.lemmas.Bool.{lt-ltb}
 use Rattle.std.specs.Global.{Vec}
 use Rattle.pb_semantics.specs.Data.{Fields}
@@ -36,12 +36,13 @@ use Rattle.pb_core.specs.declared.run.RunCore.{RunCore}
 use Rattle.pb_core.specs.Readings.{Reading}
 use Rattle.pb_core.specs.Activities.{Activity, ready, runs, idle, activity_in}
 use Rattle.pb_core.specs.Indexes.{IsIndexOf, BeginsIn, LeavesIn, GoesOnIn, waits_at}
-use Rattle.pb_core.specs.Hosts.{recap_view, recap_after, left_recap, counts_of, goes_wrong, location_in, place_in, PlaySize, Fits, job_of, repeated, IsStage, IsHost, IsOutcome, IsPlaceAt, standing_at, gone_on, GoesTo, HasGone, are_below}
+use Rattle.pb_core.specs.Hosts.{recap_view, recap_after, left_recap, counts_of, ticket_of, goes_wrong, location_in, place_in, PlaySize, Fits, job_of, repeated, IsStage, IsHost, IsOutcome, IsPlaceAt, standing_at, gone_on, GoesTo, HasGone, are_below}
 use Rattle.pb_core.specs.Entries.{AreHosts}
 use Rattle.pb_core.specs.Cores.{IsPlay, IsBatch, AreBatches, counts_in, counts_at, size_of, activities_of, IsCore, play_in, running_place, ready_place, play_of, GoesFrom, HasGoneFrom, IsRunningAt, IsReadyAt}
 use Rattle.pb_core.specs.Events.{Begins, Repeats, Leaves, Settles, IsDisabled, HasNoJob}
 use Rattle.pb_core.proofs.Steps.{steps_start, steps_left, steps_again, steps_settled}
 use Rattle.pb_core.proofs.Hosts.{set_same, activity_at, no_activity, activities_put, ready_is, running_is, waits_where, as_same, stands_there, arrived_fits, arrived_kept, host_in, hosts_put, host_there, host_missing, waits_ready, waits_not_run, runs_at, runs_not_ready, fits_nowhere}
+use Rattle.pb_core.proofs.Indexes.{map_at, map_set}
 use Rattle.pb_core.proofs.Places.{as_many}
 
 -- the batch that runs
@@ -324,6 +325,19 @@ module _ {V P : Type 0} where
         let none : s.batches ≡ [] = play_none reading.name old.plays.items old.batches.items old.current s.batches i.batches f in
         let no : w.batch ∷ w.later ≡ [] = sym w.batches ∙ none in cc
     by (Some play) f = settles_on old hosts index k place o end play onward x y e made f fails texts notes (to.goes play x f e) moved marks waits written counts is_running goes
+
+-- the tickets of the hosts, of which one is in another stage
+pub tickets_set : {V P : Type 0} → (xs : List (HostState V P)) (k : ℕ) (y : HostState V P) → map (λ x. ticket_of x.stage) (set xs k y) ≡ set (map (λ x. ticket_of x.stage) xs) k (ticket_of y.stage)
+tickets_set xs k y = map_set (λ x. ticket_of x.stage) xs k y
+
+again_ticket : {P : Type 0} → (n : ℕ) (g : Stage P) → ticket_of (repeated n g) ≡ ticket_of g
+again_ticket n Waits = refl
+again_ticket n (Runs t i c ps) = refl
+
+pub tickets_again : {V P : Type 0} → (xs : List (HostState V P)) (k n : ℕ) (x y : HostState V P) → slice_get xs k ≡ Some x → y.stage ≡ repeated n x.stage → map (λ x. ticket_of x.stage) (set xs k y) ≡ map (λ x. ticket_of x.stage) xs
+tickets_again xs k n x y e f =
+    tickets_set xs k y
+    ∙ set_same (map (λ x. ticket_of x.stage) xs) k (ticket_of y.stage) (map_at (λ x. ticket_of x.stage) xs k x e ∙ ap Some (sym (ap ticket_of f ∙ again_ticket n x.stage)))
 
 -- where an event can't happen
 module _ {V P : Type 0} (old : RunCore V P) (k : ℕ) where

@@ -21,7 +21,7 @@ use Rattle.pb_core.specs.declared.host.Onward.{Onward}
 use Rattle.pb_core.specs.Readings.{Reading}
 use Rattle.pb_core.specs.Activities.{Activity, activities, runs, ready}
 use Rattle.pb_core.specs.Indexes.{IsIndexOf}
-use Rattle.pb_core.specs.Hosts.{PlaySize, GoesTo, HasGone, counts_of, job_of}
+use Rattle.pb_core.specs.Hosts.{PlaySize, GoesTo, HasGone, counts_of, job_of, ticket_of}
 use Rattle.pb_core.specs.Entries.{AreEntries, AreHosts}
 
 -- what is kept of a row's plan
@@ -98,6 +98,10 @@ module _ {V P : Type 0} where
   -- the attempts and the calls of a host's job that is out
   abbrev pub job_at : RunCore V P → ℕ → Option (ℕ × ℕ)
   job_at c k = job_in (slice_get c.hosts.items k)
+
+  -- the tickets of the jobs that are out, host by host
+  abbrev pub tickets_of : RunCore V P → List (Option ℕ)
+  tickets_of c = map (λ x. ticket_of x.stage) c.hosts.items
 
   abbrev pub counts_in : Option (HostState V P) → List ℕ
   counts_in None = []

@@ -86,6 +86,11 @@ abbrev pub job_of : {P : Type 0} → Stage P → Option (ℕ × ℕ)
 job_of Waits = None
 job_of (Runs ticket attempts calls passes) = Some (attempts, calls)
 
+-- the ticket of its job
+abbrev pub ticket_of : {P : Type 0} → Stage P → Option ℕ
+ticket_of Waits = None
+ticket_of (Runs ticket attempts calls passes) = Some ticket
+
 abbrev pub repeated : {P : Type 0} → ℕ → Stage P → Stage P
 repeated i Waits = Waits
 repeated i (Runs ticket attempts calls passes) = Runs ticket i calls passes

@@ -5,7 +5,8 @@ ghost use Rattle.std.specs.Prelude.{false, true};
 ghost use Rattle.pb_language.specs.Give.{Answer};
 ghost use Rattle.pb_language.specs.Machine.{give, start, stop, turn};
 ghost use Rattle.pb_core.specs.Cores.{AreOfNoProgram, GoesFrom, HasGoneFrom, HasNoPlay, IsNoCore, IsReadyAt, IsRunningAt, batches_left, counts_at, job_at};
-ghost use Rattle.pb_core.specs.Cores.{AreEntriesAt, LeadsTo, play_of};
+ghost use Rattle.pb_core.specs.Cores.{AreEntriesAt, LeadsTo, play_of, tickets_of};
+ghost use Rattle.std.specs.Prelude.{None, Some, slice_set};
 ghost use Rattle.pb_core.specs.Hosts.{IsFresh};
 ghost use Rattle.pb_core.specs.Events.{Advances, Begins, CanTurn, HasNoJob, IsDisabled, IsNext};
 ghost use Rattle.pb_core.specs.Events.{Leaves, Opens, Repeats, RunsBatch, Settles, Stops, Turns};
@@ -190,6 +191,8 @@ impl<V: Drop, P: Drop> RunCore<V, P> {
         calls: u64,
     ) -> Result<(), CoreFault>
         ensures begins { OnOk result (Begins host passes calls self.old self.new) }
+        ensures tickets { OnOk result
+            (tickets_of self.new ≡ slice_set (tickets_of self.old) host (Some ticket)) }
         ensures err { OnErr result (self.new ≡ self.old) }
         ensures there { IfErr result (λ e. e ≡ CoreFault.NotThere
             → IsDisabled (start host) self.old) }
@@ -221,6 +224,7 @@ impl<V: Drop, P: Drop> RunCore<V, P> {
     /// Nothing has changed then.
     pub fn again(&mut self, host: usize) -> Result<(), CoreFault>
         ensures repeats { OnOk result (Repeats host self.old self.new) }
+        ensures tickets { OnOk result (tickets_of self.new ≡ tickets_of self.old) }
         ensures err { OnErr result (self.new ≡ self.old) }
         ensures there { IfErr result (λ e. e ≡ CoreFault.NotThere
             → (xs : List Answer) → IsDisabled (give host xs) self.old) }
@@ -253,6 +257,8 @@ impl<V: Drop, P: Drop> RunCore<V, P> {
     /// has changed then.
     pub fn leave(&mut self, host: usize, is_reached: bool) -> Result<(), CoreFault>
         ensures leaves { OnOk result (Leaves host is_reached self.old self.new) }
+        ensures tickets { OnOk result
+            (tickets_of self.new ≡ slice_set (tickets_of self.old) host None) }
         ensures err { OnErr result (self.new ≡ self.old) }
         ensures there { IfErr result (λ e. e ≡ CoreFault.NotThere
             → (xs : List Answer) → IsDisabled (give host xs) self.old) }
@@ -281,6 +287,8 @@ impl<V: Drop, P: Drop> RunCore<V, P> {
     /// the play doesn't have; `Full` where a count of its recap is. Nothing has changed then.
     pub fn settle(&mut self, host: usize, outcome: TaskOutcome<V>) -> Result<(), CoreFault>
         ensures settles { OnOk result (Settles host outcome self.old self.new) }
+        ensures tickets { OnOk result
+            (tickets_of self.new ≡ slice_set (tickets_of self.old) host None) }
         ensures err { OnErr result (self.new ≡ self.old) }
         ensures there { IfErr result (λ e. e ≡ CoreFault.NotThere
             → HasNoJob host outcome.notified.items self.old) }

@@ -1,6 +1,6 @@
 use Rattle.std.proofs.Common.{refl}
 use Rattle.pb_core.proofs.Hosts.{there}
-use Rattle.pb_core.proofs.Cores.{begins_by, cannot_start}
+use Rattle.pb_core.proofs.Cores.{tickets_set, begins_by, cannot_start}
 use Rattle.pb_core.proofs.run.RunCore.begin.Goals as goal
 
 pub returns-clause-begins : goal.returns-clause-begins
@@ -10,3 +10,6 @@ returns-clause-begins g c =
 
 pub returns-in_default-ready_at-clause-there : goal.returns-in_default-ready_at-clause-there
 returns-in_default-ready_at-clause-there g c = λ e. cannot_start c.args.self.now c.args.host c.in_default-ready_at.ensures.place
+
+pub returns-clause-tickets : goal.returns-clause-tickets
+returns-clause-tickets g c = tickets_set c.args.self.now.hosts.items c.args.host _

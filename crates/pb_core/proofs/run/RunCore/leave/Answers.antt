@@ -1,7 +1,7 @@
 use Rattle.std.proofs.Common.{refl, ap, sym, ◌∙◌}
 use Rattle.pb_core.specs.Hosts.{left_recap, recap_view}
 use Rattle.pb_core.proofs.Hosts.{there, same_item}
-use Rattle.pb_core.proofs.Cores.{leaves_by, cannot_give, full_recap}
+use Rattle.pb_core.proofs.Cores.{tickets_set, leaves_by, cannot_give, full_recap}
 use Rattle.pb_core.proofs.run.RunCore.leave.Goals as goal
 
 pub returns-clause-leaves : goal.returns-clause-leaves
@@ -18,3 +18,6 @@ returns-in_default-clause-there g c = λ e. cannot_give c.args.self.now c.args.h
 pub returns-in_default-left-clause-full : goal.returns-in_default-left-clause-full
 returns-in_default-left-clause-full g c = λ e room.
     full_recap c.args.self.now c.args.host c.index.result.now c.left.result (there c.args.self.now.hosts.items c.args.host c.index.result.now c.in-Some.ensures.within c.index.ensures) c.left.ensures.room c.in_default-left.not-Some room
+
+pub returns-clause-tickets : goal.returns-clause-tickets
+returns-clause-tickets g c = tickets_set c.args.self.now.hosts.items c.args.host _

@@ -3,7 +3,7 @@ use Rattle.std.proofs.lemmas.Result.{err_from_is_err_and}
 use Rattle.pb_core.specs.Hosts.{recap_after, recap_view}
 use Rattle.pb_position.specs.declared.position.TaskEnd.{TaskEnd}
 use Rattle.pb_core.proofs.Hosts.{there, same_item}
-use Rattle.pb_core.proofs.Cores.{settles_by, gone_job, no_running_job, full_recap}
+use Rattle.pb_core.proofs.Cores.{tickets_set, settles_by, gone_job, no_running_job, full_recap}
 use Rattle.pb_core.proofs.run.RunCore.settle.Goals as goal
 
 pub returns-clause-settles : goal.returns-clause-settles
@@ -43,3 +43,6 @@ pub invariant_of-state : goal.invariant_of-state
 invariant_of-state g c = record {
   room = c.in_ok-onward.ensures.goes.handlers c.index_mut-state.result.now (there c.args.self.now.hosts.items c.args.host c.index_mut-state.result.now c.in-Some.ensures.within c.index_mut-state.ensures.value);
 }
+
+pub returns-clause-tickets : goal.returns-clause-tickets
+returns-clause-tickets g c = tickets_set c.args.self.now.hosts.items c.args.host _

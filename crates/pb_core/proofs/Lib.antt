@@ -1,0 +1,9 @@
+pub mod Nexts
+pub mod Lowest
+pub mod Indexes
+pub mod Steps
+pub mod Hosts
+pub mod Places
+pub mod Cores
+pub mod Turns
+pub mod Runs

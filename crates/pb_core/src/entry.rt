@@ -1,0 +1,17 @@
+// Where a host begins its play.
+ghost use Rattle.std.specs.Prelude.{◌≡◌};
+ghost use Rattle.pb_position.specs.Positions.{handlers_of};
+
+use pb_position::Position;
+
+/// Where a host begins its play.
+#[derive(Drop)]
+pub struct Entry {
+    pub host: usize,
+    pub position: Position,
+    /// How many handlers the play has.
+    pub handlers: usize,
+    /// The place of the first task, where there is one.
+    pub place: Option<usize>,
+    ghost room: { handlers_of position ≡ handlers },
+}

@@ -84,7 +84,8 @@ waits_in p k (e ∷ es) = (is_at p e.place && nat_eq k e.host) || waits_in p k e
 -- the host of the entry waits where that says
 pub record AddsEntry (e : Entry) (old new : ReadyIndex) : Type 0 where
   pub waiting : (p k : ℕ)
-      → has_place p k new.waiting ≡ (is_at p e.place && nat_eq k e.host) || has_place p k old.waiting
+      → has_place p k new.waiting
+      ≡ (is_at p e.place && nat_eq k e.host) || has_place p k old.waiting
   pub running : new.running ≡ old.running
 
 abbrev pub AllBegin : RunPlay → List FlatHost → List Entry → Type 0

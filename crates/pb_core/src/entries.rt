@@ -1,6 +1,7 @@
 // How the hosts of a batch begin their play.
 ghost use Rattle.std.specs.Prelude.{◌≡◌, ℕ, IfOk, IfSome, OnOk, slice_get};
-ghost use Rattle.pb_core.specs.Entries.{AddsEntry, AreEntries, IsAnyHere, IsEntry, IsHere, entered, found};
+ghost use Rattle.pb_core.specs.Entries.{AddsEntry, AreEntries, IsAnyHere, IsEntry, IsHere};
+ghost use Rattle.pb_core.specs.Entries.{entered, found};
 ghost use Rattle.pb_core.specs.Entries.{found_one, waits_in, with_entry};
 ghost use Rattle.pb_core.specs.Indexes.{HoldsOnly};
 

@@ -4,7 +4,9 @@ ghost use Rattle.std.specs.Prelude.{List, OnErr, OnOk, length, map, option_map, 
 ghost use Rattle.std.specs.Prelude.{false, true};
 ghost use Rattle.pb_language.specs.Give.{Answer};
 ghost use Rattle.pb_language.specs.Machine.{give, start, stop, turn};
-ghost use Rattle.pb_core.specs.Cores.{AreOfNoProgram, GoesFrom, HasGoneFrom, HasNoPlay, IsNoCore, IsReadyAt, IsRunningAt, batches_left, counts_at, job_at};
+ghost use Rattle.pb_core.specs.Cores.{AreOfNoProgram, GoesFrom, HasGoneFrom, HasNoPlay};
+ghost use Rattle.pb_core.specs.Cores.{IsNoCore, IsReadyAt, IsRunningAt, batches_left, counts_at};
+ghost use Rattle.pb_core.specs.Cores.{job_at};
 ghost use Rattle.pb_core.specs.Cores.{AreEntriesAt, LeadsTo, play_of, tickets_of};
 ghost use Rattle.std.specs.Prelude.{None, Some, slice_set};
 ghost use Rattle.pb_core.specs.Hosts.{IsFresh};

@@ -9,8 +9,10 @@ use Rattle.pb_play.specs.Sound.{AreSound, all_tasks}
 use Rattle.pb_play.specs.declared.play.Play.{Play}
 use Rattle.pb_book.specs.Books.{plays_of}
 use Rattle.pb_slots.specs.Words.{names_of_slots}
+use Rattle.pb_steps.specs.Nodes.{AreNodes}
 use Rattle.pb_steps.specs.Outlines.{play_plan}
 use Rattle.pb_steps.specs.Uses.{Adds}
+use Rattle.pb_steps.specs.declared.nodes.PlayNodes.{PlayNodes}
 use Rattle.pb_verify.specs.Scenes.{AllGather}
 use Rattle.pb_plan.specs.Nodes.{AreNodesOf, AreTasksOf, SomeNodesUse}
 use Rattle.pb_plan.specs.Plays.{AllPrepared, AllUsed, SomePlayUses}

@@ -16,6 +16,7 @@ const HOST: &str = r#"{"port": 1, "ready": false}"#;
 // A command that ran, and one that failed.
 const RAN: &str = r#"{"changed": true, "rc": 0, "stdout": "a", "stderr": "",
     "stdout_lines": ["a"], "stderr_lines": []}"#;
+
 const FAILED: &str = r#"{"failed": true, "changed": false, "msg": "no", "rc": 1, "stdout": "",
     "stderr": "", "stdout_lines": [], "stderr_lines": []}"#;
 
@@ -222,7 +223,8 @@ fn a_loop_registers_its_items(rt: HostRuntime) -> Result<(), Fail> {
         "skip_reason": "Conditional result was False"}"#;
     let items = format!(in alloc; "[{ran}, {skipped}, {FAILED}]")?;
     let whole = format!(in alloc;
-        r#"{{"changed": true, "failed": true, "results": {items}, "skipped": false}}"#)?;
+        r#"{{"changed": true, "failed": true, "results": {items}, "skipped": false}}"#
+    )?;
     wrote(alloc, &failed, 0, "out", whole.as_str())?;
     prepared.loop_over = Some(parse_expr(alloc, "[]")?);
     let none = outcome(alloc, &prepared, &[RAN])?;

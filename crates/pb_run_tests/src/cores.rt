@@ -115,31 +115,34 @@ fn is_not_there(answer: Result<(), CoreFault>) -> bool {
     }
 }
 
-fn location(hosts: &[HostState<u32, u32>], host: usize) -> Option<Location> {
-    if host >= hosts.len() {
-        return None;
+fn host_at(core: &RunCore<u32, u32>, host: usize) -> Result<&HostState<u32, u32>, Fail> {
+    let hosts = core.hosts();
+    if host < hosts.len() {
+        Ok(&hosts[host])
+    } else {
+        Err("no such host")?
     }
-    Some(hosts[host].position.location())
 }
 
 #[test]
 fn two_hosts_go_on_together(rt: HostRuntime) -> Result<(), Fail> {
     let alloc = rt.alloc();
     let mut core = open(alloc, 5)?;
-    assert!(rt; location(core.hosts(), 0) == Some(Location::Node(1)));
+    assert!(rt; host_at(&core, 0)?.position.location() == Location::Node(1));
     assert!(rt; core.ready() == Some(0));
     done(core.begin(0, 7, 0, 1))?;
     assert!(rt; core.ready() == Some(1));
     done(core.begin(1, 8, 1, 1))?;
     assert!(rt; core.ready().is_none());
     done(core.settle(0, outcome(alloc, true, false, 11)))?;
-    assert!(rt; location(core.hosts(), 0) == Some(Location::Node(2)));
+    assert!(rt; host_at(&core, 0)?.position.location() == Location::Node(2));
     // under `linear` it waits for the other
     assert!(rt; core.ready().is_none());
     done(core.settle(1, outcome(alloc, false, false, 21)))?;
     assert!(rt; core.ready() == Some(0));
-    assert!(rt; core.hosts()[0].variables == 11);
-    assert!(rt; core.hosts()[0].recap.changed == 1);
+    let first = host_at(&core, 0)?;
+    assert!(rt; first.variables == 11);
+    assert!(rt; first.recap.changed == 1);
     Ok(())
 }
 
@@ -155,14 +158,14 @@ fn a_host_that_fails_leaves(rt: HostRuntime) -> Result<(), Fail> {
     assert!(rt; core.ready() == Some(1));
     done(core.begin(1, 8, 1, 1))?;
     done(core.settle(1, outcome(alloc, false, true, 21)))?;
-    assert!(rt; location(core.hosts(), 1) == Some(Location::Left));
-    assert!(rt; core.hosts()[1].recap.failed == 1);
+    assert!(rt; host_at(&core, 1)?.position.location() == Location::Left);
+    assert!(rt; host_at(&core, 1)?.recap.failed == 1);
     assert!(rt; core.ready() == Some(0));
     assert!(rt; !core.can_turn());
     done(core.begin(0, 9, 2, 1))?;
     done(core.settle(0, outcome(alloc, false, false, 12)))?;
-    assert!(rt; location(core.hosts(), 0) == Some(Location::End));
-    assert!(rt; core.hosts()[0].recap.ok == 2);
+    assert!(rt; host_at(&core, 0)?.position.location() == Location::End);
+    assert!(rt; host_at(&core, 0)?.recap.ok == 2);
     assert!(rt; core.can_turn());
     // the second batch has no host that is left, so the run ends
     done(core.turn())?;
@@ -189,7 +192,7 @@ fn events_out_of_place_are_refused(rt: HostRuntime) -> Result<(), Fail> {
     notifies.notified.push(1)?;
     assert!(rt; is_not_there(core.settle(0, notifies)));
     done(core.leave(0, false))?;
-    assert!(rt; core.hosts()[0].recap.unreachable == 1);
+    assert!(rt; host_at(&core, 0)?.recap.unreachable == 1);
     core.stop();
     assert!(rt; core.ready().is_none());
     assert!(rt; !core.can_turn());

@@ -1,7 +1,7 @@
 -- Entries by their row and their place in it.
 use Rattle.std.proofs.Common.{◌≡◌, ◌<◌, ◌+◌, ◌*◌, ℕ, zero, suc, List, [], ◌∷◌, take, drop, get_or, set, length, map, ◌++◌}
 use Rattle.std.proofs.Common.{replicate, refl, sym, ap, ◌∙◌, arith}
-use Rattle.std.proofs.lemmas.List.{get_or-take, get_or-drop, drop-set-lt, drop-set-add, take-set-le}
+use Rattle.std.proofs.lemmas.List.{get_or_default, get_or-take, get_or-drop, drop-set-lt, drop-set-add, take-set-le}
 use Rattle.std.proofs.lemmas.List.{take-replicate, drop-replicate, length-take-le, length-drop, map-append, take_more}
 use Rattle.std.proofs.Math.Seq.{take-set-lt}
 use Rattle.pb_facts.specs.Rows.{rows}
@@ -68,3 +68,14 @@ pub next_copy : {A B : Type 0} (f : A → B) (done row : List A) (i : ℕ) (x d 
 next_copy f done row i x d h g k =
     map-append f done (x ∷ []) ∙ ap (λ ys. ys ++ f x ∷ []) h ∙ ap (λ y. map f (take i row) ++ y ∷ []) g
     ∙ sym (ap (map f) (take_more row i d k) ∙ map-append f (take i row) (get_or row i d ∷ []))
+
+pub length-rows : {A : Type 0} (count length_ : ℕ) (values : List A)
+    → length (rows count length_ values) ≡ count
+length-rows zero n vs = refl
+length-rows (suc count) n vs = ap suc (length-rows count n (drop n vs))
+
+-- an element that is there doesn't hang on what stands for one that isn't
+pub row-default : {A : Type 0} (count length_ : ℕ) (values : List A) (row : ℕ) (d : List A)
+    → row < length (rows count length_ values)
+    → length (get_or (rows count length_ values) row d) ≡ length (get_or (rows count length_ values) row [])
+row-default count n vs row d h = ap length (get_or_default (rows count n vs) row d [] h)

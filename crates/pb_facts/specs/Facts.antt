@@ -1,5 +1,7 @@
 -- What hosts hold in numbered slots: a finite map from a host and a slot to a value.
-use Rattle.std.specs.Prelude.{ℕ, List, [], Option, Some, None, replicate, slice_index_or, slice_set}
+use Rattle.std.specs.Prelude.{◌≡◌, ℕ, List, [], length, Option, Some, None, replicate}
+use Rattle.std.specs.Prelude.{slice_index_or, slice_set}
+use Rattle.std.specs.List.{All}
 use Rattle.pb_value.specs.declared.value.Value.{Value}
 
 -- how many hosts and slots there are, and of each host, slot by slot, the value that was set, or
@@ -8,6 +10,11 @@ pub record Held : Type 0 where
   pub hosts : ℕ
   pub slots : ℕ
   pub rows : List (List (Option Value))
+
+-- there is a row for each host, and in it an entry for each slot
+pub record IsBlock (held : Held) : Type 0 where
+  pub hosts : length held.rows ≡ held.hosts
+  pub slots : All (λ row. length row ≡ held.slots) held.rows
 
 abbrev pub empty_held : ℕ → ℕ → Held
 empty_held hosts slots =

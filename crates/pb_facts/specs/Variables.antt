@@ -2,7 +2,7 @@
 use Rattle.std.specs.Prelude.{◌≡◌, ◌<◌, ℕ, List, [], ◌∷◌, length, cond, true, Option, Some, None}
 use Rattle.std.specs.Prelude.{slice_index_or, slice_set}
 use Rattle.std.specs.Str.{bytes_eq}
-use Rattle.pb_semantics.specs.Data.{Data, Fields, field_value, put_field}
+use Rattle.pb_semantics.specs.Data.{Data, Fields, no_fields, field, field_value, put_field}
 use Rattle.pb_language.specs.Expression.{Name}
 use Rattle.pb_language.specs.Theorem.{are_distinct}
 
@@ -10,6 +10,11 @@ use Rattle.pb_language.specs.Theorem.{are_distinct}
 abbrev pub put_value : Name → Option Data → Fields → Fields
 put_value name None base = base
 put_value name (Some value) base = put_field name value base
+
+-- the fields are put one after the other
+abbrev pub put_all : Fields → Fields → Fields
+put_all no_fields vars = vars
+put_all (field n d fs) vars = put_all fs (put_field n d vars)
 
 -- the names of the slots in their order, and what is in them
 abbrev pub variables_over : Fields → List Name → List (Option Data) → Fields

@@ -1,6 +1,6 @@
 // The values of all hosts' slots, in one block.
 ghost use Rattle.std.specs.Prelude.{◌≡◌, ◌<◌, IfOk, None, map, option_map, replicate};
-ghost use Rattle.pb_facts.specs.Words.{empty_held, row_of, value_at, with_value};
+ghost use Rattle.pb_facts.specs.Words.{IsBlock, empty_held, row_of, value_at, with_value};
 ghost use Rattle.pb_value.specs.Words.{view};
 
 use pb_value::Value;
@@ -57,7 +57,8 @@ impl Facts {
 
     /// How many hosts there are.
     pub fn hosts(&self) -> usize
-        ensures { result ≡ self.now.hosts }
+        ensures count { result ≡ self.now.hosts }
+        ensures rows { IsBlock self.now }
     {
         self.hosts
     }

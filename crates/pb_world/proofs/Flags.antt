@@ -1,8 +1,11 @@
 -- Flags that are set for hosts.
-use Rattle.std.proofs.Common.{◌≡◌, ◌∙◌, ℕ, ◌+◌, ◌<◌, List, [], ◌∷◌, ◌++◌, length, get_or, set, take, replicate, Bool, true, false, ◌||◌, nat_eq, ◌⊎◌, ⊎_elim, refl, sym, ap, subst, arith}
-use Rattle.std.specs.List.{fold}
+use Rattle.std.proofs.Common.{◌≡◌, ◌∙◌, ℕ, ◌+◌, ◌<◌, List, [], ◌∷◌, length, get_or, set, take, replicate, Bool, true, false, ◌||◌, nat_eq, ⊎_elim, sym, ap, subst, arith}
+use Rattle.std.specs.List.{All, fold, list_all}
+use Rattle.std.specs.Prelude.{nat_lt}
+use Rattle.std.proofs.lemmas.List.Elements.{All-head, All-tail}
+use Rattle.pb_semantics.proofs.Bools.{and-both}
 use Rattle.std.proofs.Math.Bool.{or-false}
-use Rattle.std.proofs.lemmas.Bool.Decides.{eqb_tells}
+use Rattle.std.proofs.lemmas.Bool.Decides.{eqb_tells, nat_tests}
 use Rattle.std.proofs.lemmas.List.{get_or-replicate, get_or-set_other, get_or-set_same, length-set, take_more}
 use Rattle.std.proofs.lemmas.List.Sums.{fold-append}
 use Rattle.pb_inventory.specs.Graph.{is_in}
@@ -33,3 +36,12 @@ flag-at d hosts ms k flags count is l =
 pub flags-next : (hosts : ℕ) (ms : List ℕ) (i d : ℕ) (flags : List Bool) → i < length ms → flags ≡ flags_of hosts (take i ms) → set flags (get_or ms i d) true ≡ flags_of hosts (take (i + 1) ms)
 flags-next hosts ms i d flags l is =
     ap (λ fs. set fs (get_or ms i d) true) is ∙ sym (fold-append with_flag (replicate hosts false) (take i ms) (get_or ms i d ∷ [])) ∙ ap (fold with_flag (replicate hosts false)) (sym (take_more ms i d l))
+
+-- they are hosts
+pub all-below : (hosts : ℕ) (ms : List ℕ) → All (λ k. k < hosts) ms → list_all (λ k. nat_lt k hosts) ms ≡ true
+all-below hosts [] h = none where
+  none : true ≡ true
+  none = λ i. true
+all-below hosts (m ∷ ms) h = and-both (nat_lt m hosts) (list_all (λ k. nat_lt k hosts) ms) (below (All-head (λ k. k < hosts) m ms h)) (all-below hosts ms (All-tail (λ k. k < hosts) m ms h)) where
+  below : m < hosts → nat_lt m hosts ≡ true
+  below l = grind (arith, nat_tests, l)

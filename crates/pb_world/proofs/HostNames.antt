@@ -1,8 +1,8 @@
 -- Hosts by their names and by their places.
-use Rattle.std.proofs.Common.{◌≡◌, ◌∙◌, ℕ, zero, suc, ◌+◌, ◌<◌, List, [], ◌∷◌, length, get_or, map, Bool, true, false, not, ◌||◌, ◌&&◌, bytes_eq, cond, nat_eq, Option, Some, None, refl, sym, ap, subst, arith}
-use Rattle.std.specs.Prelude.{slice_get, option_map}
+use Rattle.std.proofs.Common.{◌≡◌, ◌∙◌, ℕ, zero, suc, ◌+◌, ◌<◌, List, [], ◌∷◌, length, Bool, true, false, not, ◌||◌, bytes_eq, cond, nat_eq, Option, Some, None, refl, sym, ap, subst, arith}
+use Rattle.std.specs.Prelude.{slice_get}
 use Rattle.std.specs.List.{All}
-use Rattle.pb_semantics.specs.Data.{Fields, no_fields, field_value}
+use Rattle.pb_semantics.specs.Data.{Fields, no_fields}
 use Rattle.pb_semantics.specs.Keeps.{is_among}
 use Rattle.pb_semantics.proofs.Bools.{and-left, and-right, neither-left, neither-right, not-true, true-false, untrue}
 use Rattle.pb_semantics.proofs.Names.{own_name, same_name}

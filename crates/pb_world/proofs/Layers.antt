@@ -1,12 +1,11 @@
 -- The value of a name in layers of variables: that of the last one that has it.
-use Rattle.std.proofs.Common.{◌≡◌, ◌∙◌, ℕ, ◌+◌, ◌<◌, List, [], ◌∷◌, ◌++◌, length, get_or, take, map, Bool, true, false, bytes_eq, cond, Option, Some, None, String, Global, Less, string_bytes, string_cmp, nat_cmp, refl, sym, ap, arith}
-use Rattle.std.specs.Cmp.Lexicographic.{slice_cmp}
-use Rattle.std.specs.List.{AllByRecursion, fold}
+use Rattle.std.proofs.Common.{◌≡◌, ◌∙◌, ℕ, ◌+◌, ◌<◌, List, [], ◌∷◌, length, get_or, take, map, Bool, true, false, bytes_eq, cond, Some, None, String, Global, Less, string_bytes, string_cmp, refl, ap}
+use Rattle.std.specs.List.{AllByRecursion}
 use Rattle.std.specs.List.Sorted.{IsStrictlySortedBy}
 use Rattle.std.specs.Map.{keys_of}
 use Rattle.std.proofs.lemmas.List.{take_more, map-append}
 use Rattle.std.proofs.lemmas.List.Sums.{fold-append}
-use Rattle.pb_semantics.specs.Data.{Data, Fields, no_fields, field, field_value, put_field}
+use Rattle.pb_semantics.specs.Data.{Fields, no_fields, field, field_value, put_field}
 use Rattle.pb_semantics.proofs.Names.{same_name}
 use Rattle.pb_language.specs.Expression.{Name}
 use Rattle.pb_language.proofs.GivenFields.{at_put_field}

@@ -3,3 +3,8 @@ pub mod Layers
 pub mod HostNames
 pub mod Shown
 pub mod Flags
+pub mod HostLists
+pub mod GroupFields
+pub mod Written
+pub mod Runs
+pub mod GroupNames

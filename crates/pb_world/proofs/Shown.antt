@@ -1,5 +1,5 @@
 -- What a host sees of other hosts, by their names in an inventory.
-use Rattle.std.proofs.Common.{◌≡◌, ◌∙◌, ℕ, ◌+◌, ◌<◌, List, length, map, Bool, true, false, sym, ap, subst, arith}
+use Rattle.std.proofs.Common.{◌≡◌, ◌∙◌, ℕ, ◌+◌, ◌<◌, List, length, true, false, sym, ap, subst, arith}
 use Rattle.std.specs.Prelude.{nat_lt}
 use Rattle.std.proofs.lemmas.Bool.Decides.{nat_tests}
 use Rattle.std.specs.List.{All, list_all}
@@ -22,7 +22,7 @@ use Rattle.pb_world.specs.World.{hosts_shown}
 use Rattle.pb_world.specs.declared.variables.Variables.{Variables}
 use Rattle.pb_world.proofs.HostNames.{among-named, unknown-named, variables-at, variables-unknown}
 
-below-all : (count : ℕ) (ps : List ℕ) → list_all (λ i. nat_lt i count) ps ≡ true → All (λ p. p < count) ps
+pub below-all : (count : ℕ) (ps : List ℕ) → list_all (λ i. nat_lt i count) ps ≡ true → All (λ p. p < count) ps
 below-all count ps h = All-weaker (λ p. nat_lt p count ≡ true) (λ p. p < count) (λ p e. grind (arith, nat_tests, e)) ps (AllPass-from_list_all (λ i. nat_lt i count) ps h)
 
 module _ (i : Inventory) where

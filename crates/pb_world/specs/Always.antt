@@ -1,7 +1,7 @@
 -- The names that are always there, over a host's variables.
 use denote.Ref.{Bor}
 use Rattle.std.specs.Prelude.{Option, Some, None, codes}
-use Rattle.pb_semantics.specs.Data.{Data, Fields, field}
+use Rattle.pb_semantics.specs.Data.{Fields, field}
 use Rattle.pb_value.specs.View.{view}
 use Rattle.pb_value.specs.declared.value.Value.{Value}
 use Rattle.pb_world.specs.declared.always.AlwaysThere.{AlwaysThere}

@@ -4,4 +4,8 @@ pub mod Hosts
 pub mod Active
 pub mod Always
 pub mod World
+pub mod Constants
+pub mod Failure
+pub mod Writes
+pub mod RunWorld
 pub mod Words

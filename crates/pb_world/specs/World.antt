@@ -1,9 +1,8 @@
 -- The world that is shown, and what has to be known of a run's state for it to be the one of the
 -- definitions.
-use Rattle.std.specs.Prelude.{◌≡◌, ℕ, zero, suc, List, [], ◌∷◌, Option, Some, None, map, option_map}
+use Rattle.std.specs.Prelude.{◌≡◌, ℕ, zero, suc, List, Option, Some, None, option_map}
 use Rattle.std.specs.Prelude.{codes}
-use Rattle.pb_semantics.specs.Data.{Data, Fields, text, list, rec, no_fields, field}
-use Rattle.pb_language.specs.Expression.{Name}
+use Rattle.pb_semantics.specs.Data.{Data, text, list, rec, no_fields, field}
 use Rattle.pb_language.specs.Machine.{innermost, outermost}
 use Rattle.pb_language.specs.Program.{Batch, memberships_of}
 use Rattle.pb_language.specs.Setting.{group_fields, names_list}

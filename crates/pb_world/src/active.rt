@@ -1,5 +1,6 @@
 // The hosts of a batch that are active.
-ghost use Rattle.std.specs.Prelude.{◌<◌, ◌≡◌, All, IfOk};
+ghost use Rattle.std.specs.List.{list_all};
+ghost use Rattle.std.specs.Prelude.{◌<◌, ◌≡◌, All, IfOk, nat_lt, true};
 ghost use Rattle.pb_inventory.specs.Graph.{is_in};
 
 use std::alloc::{AllocError, Global};
@@ -15,14 +16,16 @@ pub struct ActiveHosts {
 }
 
 impl Model for ActiveHosts {
-    ghost use Rattle.std.specs.Prelude.{◌≡◌, length};
+    ghost use Rattle.std.specs.Prelude.{◌≡◌, length, nat_lt, true};
+    ghost use Rattle.std.specs.List.{list_all};
     ghost use Rattle.pb_world.specs.Active.{Active, flags_of};
 
     ghost Value = { Active };
 
     ghost view = { λ a. record { hosts = length a.flags.items; members = a.members.items } };
 
-    ghost invariant = { λ a. a.flags.items ≡ flags_of (length a.flags.items) a.members.items };
+    ghost invariant = { λ a. (a.flags.items ≡ flags_of (length a.flags.items) a.members.items)
+        × (list_all (λ k. nat_lt k (length a.flags.items)) a.members.items ≡ true) };
 }
 
 impl ActiveHosts {
@@ -45,7 +48,8 @@ impl ActiveHosts {
 
     /// In the order of the batch.
     pub fn members(&self) -> &[usize]
-        ensures { result.now ≡ self.now.members }
+        ensures members { result.now ≡ self.now.members }
+        ensures within { list_all (λ k. nat_lt k self.now.hosts) self.now.members ≡ true }
     {
         self.members.as_slice()
     }

@@ -1,4 +1,4 @@
-use Rattle.std.proofs.Common.{◌≡◌, ◌∙◌, sym, ap}
+use Rattle.std.proofs.Common.{◌∙◌, sym, ap}
 use Rattle.pb_inventory.specs.Inventory.{inventory_view}
 use Rattle.pb_world.proofs.HostNames.{member-in, member_in}
 use Rattle.pb_world.proofs.members.member_at.Goals as goal

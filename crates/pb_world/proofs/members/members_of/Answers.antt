@@ -1,8 +1,7 @@
-use Rattle.std.proofs.Common.{◌∙◌, ◌≡◌, ◌<◌, ℕ, List, Some, Vec, Global, ap, length, map, option_map, subst, sym}
+use Rattle.std.proofs.Common.{◌∙◌, ◌<◌, ℕ, List, Some, Vec, Global, ap, length, map, option_map, subst, sym}
 use Rattle.std.specs.List.{All}
-use Rattle.std.proofs.lemmas.List.{length-map}
 use Rattle.pb_inventory.specs.Numbered.{named}
-use Rattle.pb_inventory.specs.Views.{host_names, host_view}
+use Rattle.pb_inventory.specs.Views.{host_view}
 use Rattle.pb_language.specs.Plays.{group_named}
 use Rattle.pb_inventory.proofs.PatternHosts.{group-found, group-placed}
 use Rattle.pb_world.specs.Hosts.{names_of_hosts}

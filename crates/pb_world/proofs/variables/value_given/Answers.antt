@@ -1,5 +1,5 @@
-use Rattle.std.proofs.Common.{◌≡◌, ◌∙◌, ℕ, ◌+◌, ◌-◌, ◌<◌, length, map, take, None, Some, sym, ap, subst, arith}
-use Rattle.pb_semantics.specs.Data.{Fields, field_value}
+use Rattle.std.proofs.Common.{◌≡◌, ◌∙◌, ◌+◌, ◌-◌, ◌<◌, length, map, take, None, Some, sym, ap, subst, arith}
+use Rattle.pb_semantics.specs.Data.{field_value}
 use Rattle.pb_facts.specs.Variables.{or_else}
 use Rattle.pb_inventory.specs.Views.{layered}
 use Rattle.pb_value.specs.View.{fields_view, view}

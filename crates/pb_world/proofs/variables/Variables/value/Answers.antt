@@ -1,4 +1,4 @@
-use Rattle.std.proofs.Common.{◌≡◌, ◌∙◌, map, option_map, sym, ap}
+use Rattle.std.proofs.Common.{◌∙◌, map, option_map, sym, ap}
 use Rattle.std.specs.Prelude.{unwrap_or}
 use Rattle.pb_semantics.specs.Data.{field_value, no_fields}
 use Rattle.pb_facts.specs.Facts.{row_of}

@@ -7,6 +7,7 @@
 #![tactic(auto)]
 
 mod bound;
+mod item;
 mod task;
 
 pub use task::prepare;

@@ -5,6 +5,7 @@ ghost use Rattle.pb_start.specs.Words.{Prepares};
 ghost use Rattle.pb_prepare.specs.Order.{has_order};
 
 use crate::bound::Bound;
+use crate::item::read_item;
 use pb_flow::Around;
 use pb_reads::{names_reached, task_roots};
 use pb_route::Station;
@@ -26,7 +27,8 @@ pub fn prepare(alloc: Global, station: &Station<'_>, slots: &Slots) -> Result<Pr
         → Prepares p (station_task station.now)) }
 {
     let task = station.task;
-    let roots = task_roots(alloc, task, &station.around)?;
+    let around: &Around<'_> = &station.around;
+    let roots = task_roots(alloc, task, around)?;
     let reached = names_reached(alloc, &station.vars, roots.as_slice())?;
     let bound = Bound {
         alloc,
@@ -37,14 +39,17 @@ pub fn prepare(alloc: Global, station: &Station<'_>, slots: &Slots) -> Result<Pr
     };
     Ok(Prepared {
         names: bound.names(reached.as_slice())?,
-        conditions: bound.conditions(&station.around, &task.when)?,
+        names_read_item: read_item(alloc, reached.as_slice())?,
+        conditions: bound.conditions(around, &task.when)?,
         loop_over: bound.option(task.loop_over.as_ref())?,
         action: bound.action(task)?,
         register: shared(&task.register)?,
         changed_when: bound.list(&task.changed_when)?,
         failed_when: bound.list(&task.failed_when)?,
         attempts: bound.attempts(&task.attempts)?,
-        ignores: ignores(task, &station.around),
+        ignores: ignores(task, around),
+        rescued: around.rescued,
+        depth: around.depth,
     })
 }
 

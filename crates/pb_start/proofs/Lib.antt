@@ -1,2 +1,3 @@
 pub mod Passed
 pub mod Messages
+pub mod Items

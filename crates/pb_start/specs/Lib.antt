@@ -1,3 +1,4 @@
+pub mod Items
 pub mod Locals
 pub mod Conditions
 pub mod Actions

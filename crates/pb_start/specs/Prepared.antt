@@ -26,3 +26,5 @@ pub record Prepares (p : Prepared) (t : Task) : Type 0 where
   pub attempts : t.attempts
       ≡ expanded_attempts (trees_of p) (option_map attempts_view p.attempts)
   pub ignores : t.ignores ≡ p.ignores
+  pub rescued : t.rescued ≡ p.rescued
+  pub depth : t.depth ≡ p.depth

@@ -11,6 +11,7 @@ mod local;
 mod passes;
 mod prepared;
 mod record;
+mod shared;
 
 pub use conditions::{all_hold, is_so};
 pub use local::Local;

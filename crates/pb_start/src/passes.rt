@@ -1,6 +1,6 @@
 // What a task does at its Start: for each item a skip, a call of its module with the arguments, or
 // what its action does.
-ghost use Rattle.std.specs.Prelude.{◌++◌, ◌≡◌, IfOk, None, OnOk, map, option_map};
+ghost use Rattle.std.specs.Prelude.{◌++◌, ◌≡◌, IfOk, None, OnOk, Some, map, option_map};
 ghost use Rattle.pb_language.specs.Expansion.{expanded};
 ghost use Rattle.pb_language.specs.Start.{eval_item, plan_items, plan_loop, with_local_item};
 ghost use Rattle.pb_language.specs.Task.{Task};
@@ -14,8 +14,9 @@ use crate::action::made;
 use crate::conditions::{all_hold, is_so};
 use crate::local::Local;
 use crate::prepared::Prepared;
+use crate::shared::Shared;
 use pb_eval::eval::eval;
-use pb_eval::{Vars, values_of};
+use pb_eval::{Aliased, Vars, values_of};
 use pb_syntax::Expr;
 use pb_value::{Fields, Value, Weighed};
 use std::alloc::{AllocError, Global};
@@ -111,21 +112,23 @@ fn over<V: Vars>(
 {
     let known = values_of(alloc, &prepared.names, vars)?;
     let worth = eval(alloc, items, &known)?;
-    looped(alloc, prepared, worth, vars)
+    looped(alloc, prepared, worth, vars, &known)
 }
 
-// The passes of a task's items, given what its loop is worth.
+// The passes of a task's items, given what its loop is worth, and what its names of `vars` are.
 fn looped<V: Vars>(
     alloc: Global,
     prepared: &Prepared,
     items: Value,
     vars: &V,
+    known: &Aliased<'_, V>,
 ) -> Result<Vec<Pass>, AllocError>
+    requires { known.now ≡ (vars.now, prepared.now.names.items) }
     ensures { IfOk result (λ ps. (t : Task) → Prepares prepared.now t
         → ArePlanned ps.items (plan_loop (V.world vars.now) t (value (view items)))) }
 {
     match &items {
-        Value::List(items) => passes_of(alloc, prepared, items, vars),
+        Value::List(items) => passes_of(alloc, prepared, items, vars, known),
         _ => Ok(Vec::new(alloc)),
     }
 }
@@ -135,19 +138,45 @@ fn passes_of<V: Vars>(
     prepared: &Prepared,
     items: &[Value],
     vars: &V,
+    known: &Aliased<'_, V>,
 ) -> Result<Vec<Pass>, AllocError>
+    requires { known.now ≡ (vars.now, prepared.now.names.items) }
     ensures { IfOk result (λ ps. (t : Task) → Prepares prepared.now t
         → ArePlanned ps.items (plan_items (V.world vars.now) t (items_view items.now))) }
 {
     let mut passes = Vec::with_capacity(alloc, items.len())?;
     for item in items {
-        let entry = entry_of(alloc, prepared, Some(item), vars)?;
+        let entry = item_entry(alloc, prepared, item, vars, known)?;
         passes.push(Pass {
             item: Some(item.clone()?),
             entry,
         })?;
     }
     Ok(passes)
+}
+
+// What comes of an item. Names of `vars` that may read it are worked out for it, and others aren't.
+fn item_entry<V: Vars>(
+    alloc: Global,
+    prepared: &Prepared,
+    item: &Value,
+    vars: &V,
+    known: &Aliased<'_, V>,
+) -> Result<Entry, AllocError>
+    requires { known.now ≡ (vars.now, prepared.now.names.items) }
+    ensures { IfOk result (λ e. (t : Task) → Prepares prepared.now t
+        → IsMade e (eval_item (with_local_item (V.world vars.now) (Some (view item.now))) t)) }
+{
+    if prepared.names_read_item {
+        return entry_of(alloc, prepared, Some(item), vars);
+    }
+    let local = Local {
+        vars,
+        name: "item",
+        value: Some(item),
+    };
+    let shared = Shared::of(&local, known);
+    entry_in(alloc, prepared, &shared)
 }
 
 // What comes of an item, or of the task itself.
@@ -167,9 +196,18 @@ fn entry_of<V: Vars>(
         value: item,
     };
     let known = values_of(alloc, &prepared.names, &local)?;
-    let holds = all_hold(alloc, &prepared.conditions, &known)?;
+    entry_in(alloc, prepared, &known)
+}
+
+// What comes of the task in a world in which its names of `vars` are worked out.
+fn entry_in<K: Vars>(alloc: Global, prepared: &Prepared, known: &K) -> Result<Entry, AllocError>
+    requires { K.trees known.now ≡ trees_of prepared.now }
+    ensures { IfOk result (λ e. (t : Task) → Prepares prepared.now t
+        → IsMade e (eval_item (K.world known.now) t)) }
+{
+    let holds = all_hold(alloc, &prepared.conditions, known)?;
     if is_so(holds) {
-        return made(alloc, &prepared.action, &known);
+        return made(alloc, &prepared.action, known);
     }
     Ok(Entry::Skips)
 }

@@ -1,4 +1,8 @@
 // A task as it runs, prepared once for its place in a play.
+ghost use Rattle.std.specs.Prelude.{◌≡◌, false, true};
+ghost use Rattle.pb_syntax.specs.ExprView.{parts_view};
+ghost use Rattle.pb_start.specs.Items.{read_no_item};
+
 use pb_sig::Known;
 use pb_syntax::Expr;
 use pb_task::Attempts;
@@ -31,6 +35,9 @@ pub enum Action {
 pub struct Prepared {
     /// The names of `vars` that it reads, each before those that read it, with their values.
     pub names: Vec<(String, Expr)>,
+    /// Some value of these names may read the item of the loop, or a variable of the host that the
+    /// item names.
+    pub names_read_item: bool,
     /// Every `when` round it, the outermost block's first, and its own.
     pub conditions: Vec<Expr>,
     /// The list for whose items the task is done, one by one.
@@ -44,4 +51,9 @@ pub struct Prepared {
     pub attempts: Option<Attempts>,
     /// Errors are ignored.
     pub ignores: bool,
+    /// It stands in a block that rescues a failure.
+    pub rescued: bool,
+    /// In how many `rescue` parts it stands.
+    pub depth: usize,
+    ghost no_item: { names_read_item ≡ false → read_no_item (parts_view names.items) ≡ true },
 }

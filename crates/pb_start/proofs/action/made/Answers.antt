@@ -1,4 +1,3 @@
-use Rattle.std.proofs.Common.{◌≡◌}
 use Rattle.pb_language.specs.Evaluation.{eval_parts}
 use Rattle.pb_language.specs.Expansion.{parts_expanded}
 use Rattle.pb_language.specs.Start.{eval_arguments}

@@ -3,7 +3,7 @@ use Rattle.std.proofs.Common.{◌≡◌, ◌≢◌, ◌<◌, ◌≤◌, ℕ, zer
 use Rattle.std.proofs.lemmas.Bool.{eqb-true}
 use Rattle.std.proofs.lemmas.Option.{slice_get-get_or, slice_get_past}
 use Rattle.pb_semantics.proofs.Bools.{untrue}
-use Rattle.pb_language.specs.Expression.{Name}
+use Rattle.pb_semantics.specs.Data.{Fields}
 use Rattle.pb_language.specs.Machine.{is_marked}
 use Rattle.pb_machine.specs.Steps as flat
 use Rattle.pb_machine.specs.Steps.{rescuing, holding, releasing}
@@ -183,34 +183,56 @@ arrival_kept (s ∷ ss) o (Some n) h = step_kept (arrival ss (suc o)) (arrival_k
 pub arrived_kept : (ss : List flat.Step) (t : flat.Target) (h : FlatHost) → IsKept h (arrived ss t h)
 arrived_kept ss t h = kept_twice h (all_moved t.moves h) (arrived ss t h) (all_kept t.moves h) (arrival_kept ss 1 t.to (all_moved t.moves h))
 
-module _ {V P : Type 0} (reading : Reading V P) where
-  pub hosts_in : (z : PlaySize) (n : Name) (a b : Option (HostState V P)) (c d : Option FlatHost) → a ≡ b → c ≡ d → IsHostAt reading z n a c → IsHostAt reading z n b d
-  hosts_in z n a b c d e f i = subst (λ o. IsHostAt reading z n o d) e (subst (λ o. IsHostAt reading z n a o) f i)
+at_in : {P : Type 0} → (reading : Reading P) (z : PlaySize) (n : ℕ) (a b : Option (HostState P)) (c d : Option FlatHost) → a ≡ b → c ≡ d → IsHostAt reading z n a c → IsHostAt reading z n b d
+at_in reading z n a b c d e f i = subst (λ o. IsHostAt reading z n o d) e (subst (λ o. IsHostAt reading z n a o) f i)
 
-  pub host_in : (z : PlaySize) (xs : List (HostState V P)) (hs : List FlatHost) (k : ℕ) (x : HostState V P) (h : FlatHost) → AreHosts reading z xs hs → slice_get xs k ≡ Some x → host_at k hs ≡ Some h → IsHost reading z (reading.name k) x h
-  host_in z xs hs k x h i e f = hosts_in z (reading.name k) (slice_get xs k) (Some x) (host_at k hs) (Some h) e f (i k)
+module _ {P : Type 0} (reading : Reading P) where
+  pub host_in : (z : PlaySize) (xs : List (HostState P)) (hs : List FlatHost) (k : ℕ) (x : HostState P) (h : FlatHost) → AreHosts reading z xs hs → slice_get xs k ≡ Some x → host_at k hs ≡ Some h → IsHost reading z k x h
+  host_in z xs hs k x h i e f = at_in reading z k (slice_get xs k) (Some x) (host_at k hs) (Some h) e f (i k)
 
-  pub hosts_put : (z : PlaySize) (xs : List (HostState V P)) (hs : List FlatHost) (k : ℕ) (x y : HostState V P) (h g : FlatHost) → AreHosts reading z xs hs → slice_get xs k ≡ Some x → host_at k hs ≡ Some h → IsHost reading z (reading.name k) y g → AreHosts reading z (set xs k y) (put_host k g hs)
-  hosts_put z xs hs k x y h g i e f new j = by (nat_eq k j) refl where
-    by : (q : Bool) → nat_eq k j ≡ q → IsHostAt reading z (reading.name j) (slice_get (set xs k y) j) (host_at j (put_host k g hs))
+  -- the variables of one host change, and the others' don't
+  abbrev pub KeepsOthers : ℕ → (ℕ → Fields) → Type 0
+  KeepsOthers k fs = (j : ℕ) → nat_eq k j ≡ false → fs j ≡ reading.variables j
+
+  pub others_kept : (z : PlaySize) (k j : ℕ) (fs : ℕ → Fields) (o : Option (HostState P)) (p : Option FlatHost) → KeepsOthers k fs → nat_eq k j ≡ false → IsHostAt reading z j o p → IsHostAt (record reading { variables = fs }) z j o p
+  others_kept z k j fs None None keeps other i = tt
+  others_kept z k j fs None (Some h) keeps other i = absurd i
+  others_kept z k j fs (Some x) None keeps other i = absurd i
+  others_kept z k j fs (Some x) (Some h) keeps other i = record {
+    position = i.position;
+    stage = i.stage;
+    fits = i.fits;
+    name_is = i.name_is;
+    variables = i.variables ∙ sym (keeps j other);
+    recap = i.recap;
+  }
+
+  pub hosts_put : (fs : ℕ → Fields) (z : PlaySize) (xs : List (HostState P)) (hs : List FlatHost) (k : ℕ) (x y : HostState P) (h g : FlatHost) → KeepsOthers k fs → AreHosts reading z xs hs → slice_get xs k ≡ Some x → host_at k hs ≡ Some h
+      → IsHost (record reading { variables = fs }) z k y g → AreHosts (record reading { variables = fs }) z (set xs k y) (put_host k g hs)
+  hosts_put fs z xs hs k x y h g keeps i e f new j = by (nat_eq k j) refl where
+    r : Reading P
+    r = record reading { variables = fs }
+
+    by : (q : Bool) → nat_eq k j ≡ q → IsHostAt r z j (slice_get (set xs k y) j) (host_at j (put_host k g hs))
     by true same =
-        subst (λ m. IsHostAt reading z (reading.name m) (slice_get (set xs k y) m) (host_at m (put_host k g hs))) (eqb-true k j same)
-        (hosts_in z (reading.name k) (Some y) (slice_get (set xs k y) k) (Some g) (host_at k (put_host k g hs)) (sym (set_here xs k x y e)) (sym (put_here hs k h g f)) new)
+        subst (λ m. IsHostAt r z m (slice_get (set xs k y) m) (host_at m (put_host k g hs))) (eqb-true k j same)
+        (at_in r z k (Some y) (slice_get (set xs k y) k) (Some g) (host_at k (put_host k g hs)) (sym (set_here xs k x y e)) (sym (put_here hs k h g f)) new)
     by false other =
-        hosts_in z (reading.name j) (slice_get xs j) (slice_get (set xs k y) j) (host_at j hs) (host_at j (put_host k g hs)) (sym (set_there xs k j y (apart k j other))) (sym (put_there hs k j g (apart k j other))) (i j)
+        at_in r z j (slice_get xs j) (slice_get (set xs k y) j) (host_at j hs) (host_at j (put_host k g hs)) (sym (set_there xs k j y (apart k j other))) (sym (put_there hs k j g (apart k j other)))
+        (others_kept z k j fs (slice_get xs j) (host_at j hs) keeps other (i j))
 
   -- a host is there where the other is
-  pub host_there : (z : PlaySize) (xs : List (HostState V P)) (hs : List FlatHost) (k : ℕ) (x : HostState V P) → AreHosts reading z xs hs → slice_get xs k ≡ Some x → (h : FlatHost) × (host_at k hs ≡ Some h) × (IsHost reading z (reading.name k) x h)
-  host_there z xs hs k x i e = by (host_at k hs) refl (subst (λ o. IsHostAt reading z (reading.name k) o (host_at k hs)) e (i k)) where
-    by : (o : Option FlatHost) → host_at k hs ≡ o → IsHostAt reading z (reading.name k) (Some x) (host_at k hs) → (h : FlatHost) × (host_at k hs ≡ Some h) × (IsHost reading z (reading.name k) x h)
-    by None f j = absurd (subst (λ o. IsHostAt reading z (reading.name k) (Some x) o) f j)
-    by (Some h) f j = (h, f, subst (λ o. IsHostAt reading z (reading.name k) (Some x) o) f j)
+  pub host_there : (z : PlaySize) (xs : List (HostState P)) (hs : List FlatHost) (k : ℕ) (x : HostState P) → AreHosts reading z xs hs → slice_get xs k ≡ Some x → (h : FlatHost) × (host_at k hs ≡ Some h) × (IsHost reading z k x h)
+  host_there z xs hs k x i e = by (host_at k hs) refl (subst (λ o. IsHostAt reading z k o (host_at k hs)) e (i k)) where
+    by : (o : Option FlatHost) → host_at k hs ≡ o → IsHostAt reading z k (Some x) (host_at k hs) → (h : FlatHost) × (host_at k hs ≡ Some h) × (IsHost reading z k x h)
+    by None f j = absurd (subst (λ o. IsHostAt reading z k (Some x) o) f j)
+    by (Some h) f j = (h, f, subst (λ o. IsHostAt reading z k (Some x) o) f j)
 
-  pub host_missing : (z : PlaySize) (xs : List (HostState V P)) (hs : List FlatHost) (k : ℕ) → AreHosts reading z xs hs → slice_get xs k ≡ None → host_at k hs ≡ None
+  pub host_missing : (z : PlaySize) (xs : List (HostState P)) (hs : List FlatHost) (k : ℕ) → AreHosts reading z xs hs → slice_get xs k ≡ None → host_at k hs ≡ None
   host_missing z xs hs k i e = by (host_at k hs) refl where
     by : (o : Option FlatHost) → host_at k hs ≡ o → host_at k hs ≡ None
     by None f = f
-    by (Some h) f = absurd (subst (λ o. IsHostAt reading z (reading.name k) o (Some h)) e (subst (λ o. IsHostAt reading z (reading.name k) (slice_get xs k) o) f (i k)))
+    by (Some h) f = absurd (subst (λ o. IsHostAt reading z k o (Some h)) e (subst (λ o. IsHostAt reading z k (slice_get xs k) o) f (i k)))
 
   -- the stage of the code's host says whether it is ready or runs
   pub waits_ready : (ss : List flat.Step) (g : FlatStage) → IsStage reading Waits g → ready_place (Some (activity_in ss g)) ≡ place_in ss (stands (location_in g))

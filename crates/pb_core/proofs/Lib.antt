@@ -5,5 +5,8 @@ pub mod Steps
 pub mod Hosts
 pub mod Places
 pub mod Cores
-pub mod Turns
+pub mod Beginnings
 pub mod Runs
+pub mod Copies
+pub mod Readings
+pub mod Tickets

@@ -1,5 +1,6 @@
 -- Which host starts next, Turns, and a run's beginning and end.
-use Rattle.std.proofs.Common.{◌≡◌, ◌<◌, ℕ, zero, suc, List, [], ◌∷◌, ◌++◌, map, length, drop, get_or, All, Bool, true, false, not, ◌&&◌, cond, Option, Some, None, slice_get, unwrap_or, option_map, refl, sym, ap, ap₂, subst, ◌∙◌, arith}
+use Rattle.std.proofs.Common.{◌≡◌, ◌<◌, ◌≤◌, ℕ, zero, suc, List, [], ◌∷◌, length, drop, get_or, All, IfSome, Bool, true, false, not, ◌&&◌, cond, Option, Some, None, is_none, slice_get, unwrap_or, option_map, nat_le, refl, sym, ap, ap₂, subst, ◌∙◌, arith}
+use Rattle.std.proofs.lemmas.Bool.{leb-true, leb-false}
 use Rattle.std.specs.Global.{Vec}
 use Rattle.pb_semantics.proofs.Bools.{untrue, and-right}
 use Rattle.pb_language.specs.Expression.{Name}
@@ -15,29 +16,35 @@ use Rattle.pb_core.specs.declared.batch.RunPlay.{RunPlay}
 use Rattle.pb_core.specs.declared.host.HostState.{HostState}
 use Rattle.pb_core.specs.declared.index.ReadyIndex.{ReadyIndex}
 use Rattle.pb_core.specs.declared.run.RunCore.{RunCore}
-use Rattle.pb_core.specs.Readings.{Reading}
+use Rattle.pb_core.specs.Readings.{Reading, AreGiven}
 use Rattle.pb_core.specs.Activities.{Activity, activities, running_in, all_idle_in, next_in, number_of}
 use Rattle.pb_core.specs.Indexes.{is_ready, IsIndexOf, HoldsOnly}
 use Rattle.pb_core.specs.Hosts.{PlaySize, IsStage, IsHost, IsHostAt, IsFresh}
 use Rattle.pb_core.specs.declared.entry.Entry.{Entry}
 use Rattle.pb_core.specs.Entries.{found, entered, waits_in, AreEntries, AreHosts, IsAnyHere}
-use Rattle.pb_core.specs.Cores.{AreEntriesAt, LeadsTo, AreBatches, size_of, activities_of, IsCore, play_in, play_of, HasNoPlay, IsNoCore, AreVariablesAt, AreVariables}
-use Rattle.pb_core.specs.Events.{IsDisabled, IsNext, RunsBatch, Turns, CanTurn, turned, Advances, Opens, Stops}
+use Rattle.pb_core.specs.Cores.{AreEntriesAt, LeadsTo, AreBatches, size_of, activities_of, IsCore, scheduled_batches, scheduled_plays, play_in, play_of, HasNoPlay}
+use Rattle.pb_core.specs.Events.{IsDisabled, IsNext, RunsBatch, TellsEnd, Turns, CanTurn, is_over, Opens, Stops}
+use Rattle.pb_core.proofs.Hosts.{past}
 use Rattle.pb_core.proofs.Nexts.{next_same, next_stopped, next_ended}
 use Rattle.pb_core.proofs.Indexes.{holds_only}
 use Rattle.pb_core.proofs.Cores.{drop_at, drop_past, no_batches, play_is, play_none}
-use Rattle.pb_core.proofs.Turns.{any_active, idle_same, runs_on}
+use Rattle.pb_core.proofs.Beginnings.{any_active, idle_same, runs_on}
 
-module _ {V P : Type 0} (core : RunCore V P) where
+some_at : {A : Type 0} → (xs : List A) (k : ℕ) → k < length xs → slice_get xs k ≡ None → ⊥
+some_at [] k h e = omega arith
+some_at (x ∷ xs) zero h e = let no : Some x ≡ None = e in cc
+some_at (x ∷ xs) (suc k) h e = some_at xs k (omega arith) e
+
+module _ {P : Type 0} (core : RunCore P) where
   pub ready_stopped : core.is_stopped ≡ true → IsNext core None
   ready_stopped e reading s i = sym (ap number_of (next_stopped s (i.stopped ∙ e)))
 
   pub ready_ended : play_of core core.current ≡ None → IsNext core None
-  ready_ended e reading s i = sym (ap number_of (next_ended s (play_none reading.name core.plays.items core.batches.items core.current s.batches i.batches e)))
+  ready_ended e reading s i = sym (ap number_of (next_ended s (play_none reading.name (scheduled_plays core) (scheduled_batches core) core.current s.batches i.batches e)))
 
   pub ready_by : (play : RunPlay) (r : Option ℕ) → core.is_stopped ≡ false → play_of core core.current ≡ Some play → ((xs : List Activity) → IsIndexOf core.index xs → r ≡ number_of (next_in core.forks play.is_linear xs)) → IsNext core r
   ready_by play r going e next reading s i =
-      let found = play_is reading.name core.plays.items core.batches.items core.current play s.batches i.batches e in
+      let found = play_is reading.name (scheduled_plays core) (scheduled_batches core) core.current play s.batches i.batches e in
       next (activities_of s) i.index
       ∙ ap₂ (λ n l. number_of (next_in n l (activities_of s))) (sym i.forks) found.6.linear
       ∙ ap (λ bs. number_of (next_in s.forks found.0.play.is_linear (activities (current_steps bs) s.hosts))) found.3
@@ -51,29 +58,48 @@ module _ {V P : Type 0} (core : RunCore V P) where
   pub turn_stopped : core.is_stopped ≡ true → CanTurn core false
   turn_stopped e reading s i = sym (ap (λ q. not q && is_possible s s.batches turn) (i.stopped ∙ e))
 
-  pub turn_ended : slice_get core.batches.items core.current ≡ None → CanTurn core false
-  turn_ended e reading s i =
-      sym (ap (λ bs. not s.is_stopped && is_possible s bs turn) (no_batches reading.name core.plays.items (drop core.current core.batches.items) s.batches (drop_past core.batches.items core.current e) i.batches) ∙ and_none (not s.is_stopped))
+  over_none : (bs : List program.Batch) → true ≡ is_over bs → bs ≡ []
+  over_none [] e = refl
+  over_none (b ∷ bs) e = untrue (sym e)
 
-  possible : (s : FlatState) (bs : List program.Batch) (name : ℕ → Name) (c : Batch) (cs : List Batch) → AreBatches name core.plays.items (c ∷ cs) bs → is_possible s bs turn ≡ all_idle s.hosts
+  pub turn_ended : TellsEnd core true → CanTurn core false
+  turn_ended ends reading s i = sym (ap (λ bs. not s.is_stopped && is_possible s bs turn) (over_none s.batches (ends reading s i)) ∙ and_none (not s.is_stopped))
+
+  possible : (s : FlatState) (bs : List program.Batch) (name : ℕ → Name) (c : Batch) (cs : List Batch) → AreBatches name (scheduled_plays core) (c ∷ cs) bs → is_possible s bs turn ≡ all_idle s.hosts
   possible s [] name c cs i = absurd i
   possible s (b ∷ bs) name c cs i = refl
 
-  pub turn_idle : (c : Batch) (q : Bool) → core.is_stopped ≡ false → slice_get core.batches.items core.current ≡ Some c → ((xs : List Activity) → IsIndexOf core.index xs → q ≡ all_idle_in xs) → CanTurn core q
+  pub turn_idle : (c : Batch) (q : Bool) → core.is_stopped ≡ false → slice_get (scheduled_batches core) core.current ≡ Some c → ((xs : List Activity) → IsIndexOf core.index xs → q ≡ all_idle_in xs) → CanTurn core q
   turn_idle c q going e idles reading s i =
       idles (activities_of s) i.index ∙ sym (idle_same (current_steps s.batches) s.hosts)
       ∙ sym (ap (λ x. not x && is_possible s s.batches turn) (i.stopped ∙ going)
-      ∙ possible s s.batches reading.name c (drop (suc core.current) core.batches.items) (subst (λ cs. AreBatches reading.name core.plays.items cs s.batches) (drop_at core.batches.items core.current c e) i.batches))
+      ∙ possible s s.batches reading.name c (drop (suc core.current) (scheduled_batches core)) (subst (λ cs. AreBatches reading.name (scheduled_plays core) cs s.batches) (drop_at (scheduled_batches core) core.current c e) i.batches))
 
-  some_at : {A : Type 0} → (xs : List A) (k : ℕ) → k < length xs → slice_get xs k ≡ None → ⊥
-  some_at [] k h e = omega arith
-  some_at (x ∷ xs) zero h e = let no : Some x ≡ None = e in cc
-  some_at (x ∷ xs) (suc k) h e = some_at xs k (omega arith) e
+  over_here : (name : ℕ → Name) (o : Option Batch) (bs : List program.Batch) → slice_get (scheduled_batches core) core.current ≡ o → AreBatches name (scheduled_plays core) (drop core.current (scheduled_batches core)) bs → is_none o ≡ is_over bs
+  over_here name None bs e i = sym (ap is_over (no_batches name (scheduled_plays core) (drop core.current (scheduled_batches core)) bs (drop_past (scheduled_batches core) core.current e) i))
+  over_here name (Some c) bs e i = by bs (subst (λ cs. AreBatches name (scheduled_plays core) cs bs) (drop_at (scheduled_batches core) core.current c e) i) where
+    by : (bs : List program.Batch) → AreBatches name (scheduled_plays core) (c ∷ drop (suc core.current) (scheduled_batches core)) bs → is_none (Some c) ≡ is_over bs
+    by [] j = absurd j
+    by (b ∷ later) j = refl
 
-  pub turn_going : (q : Bool) → core.is_stopped ≡ false → core.current < length core.batches.items → ((xs : List Activity) → IsIndexOf core.index xs → q ≡ all_idle_in xs) → CanTurn core q
-  turn_going q going few idles = by (slice_get core.batches.items core.current) refl where
-    by : (o : Option Batch) → slice_get core.batches.items core.current ≡ o → CanTurn core q
-    by None e = absurd (some_at core.batches.items core.current few e)
+  past_is : {A : Type 0} → (xs : List A) (k n : ℕ) → n ≡ length xs → nat_le n k ≡ is_none (slice_get xs k)
+  past_is {A = A} xs k n e = by (nat_le n k) refl (slice_get xs k) refl where
+    by : (q : Bool) → nat_le n k ≡ q → (o : Option A) → slice_get xs k ≡ o → q ≡ is_none o
+    by true f None g = refl
+    by true f (Some x) g =
+        let over : n ≤ k = leb-true n k f in
+        let none : slice_get xs k ≡ None = past xs k (omega (arith, over, e)) in
+        let no : Some x ≡ None = sym g ∙ none in cc
+    by false f None g = let few : k < n = leb-false n k f in absurd (some_at xs k (omega (arith, few, e)) g)
+    by false f (Some x) g = refl
+
+  pub ends_by : (n : ℕ) → n ≡ length (scheduled_batches core) → TellsEnd core (nat_le n core.current)
+  ends_by n e reading s i = past_is (scheduled_batches core) core.current n e ∙ over_here reading.name (slice_get (scheduled_batches core) core.current) s.batches refl i.batches
+
+  pub turn_going : (q : Bool) → core.is_stopped ≡ false → core.current < length (scheduled_batches core) → ((xs : List Activity) → IsIndexOf core.index xs → q ≡ all_idle_in xs) → CanTurn core q
+  turn_going q going few idles = by (slice_get (scheduled_batches core) core.current) refl where
+    by : (o : Option Batch) → slice_get (scheduled_batches core) core.current ≡ o → CanTurn core q
+    by None e = absurd (some_at (scheduled_batches core) core.current few e)
     by (Some c) e = turn_idle c q going e idles
 
   pub turn_off : (q : Bool) → CanTurn core q → q ≡ false → IsDisabled turn core
@@ -92,27 +118,33 @@ stop_none s e f = untrue (sym (ap (λ bs. not s.is_stopped && is_possible s bs s
   no true = refl
   no false = refl
 
-module _ {V P : Type 0} (old : RunCore V P) where
-  pub turns_by : (n : ℕ) (new : RunCore V P) → LeadsTo n old → RunsBatch n old new → Turns old new
+-- where a Turn may happen all hosts are idle
+pub idle_hosts : (s : FlatState) → enabled s turn ≡ true → all_idle s.hosts ≡ true
+idle_hosts s f = by s.batches refl where
+  by : (bs : List program.Batch) → s.batches ≡ bs → all_idle s.hosts ≡ true
+  by [] e = absurd (not_possible s e f)
+  by (b ∷ later) e = ap (λ bs. is_possible s bs turn) (sym e) ∙ and-right (not s.is_stopped) (is_possible s s.batches turn) f
+
+module _ {P : Type 0} (old : RunCore P) where
+  pub turns_by : (n : ℕ) (new : RunCore P) → LeadsTo n old → RunsBatch n old new → Turns old new
   turns_by n new leads runs reading s i f = by s.batches refl where
     by : (bs : List program.Batch) → s.batches ≡ bs → IsCore reading new (step s turn)
     by [] e = absurd (not_possible s e f)
     by (b ∷ later) e =
-        let possible : all_idle s.hosts ≡ true = ap (λ bs. is_possible s bs turn) (sym e) ∙ and-right (not s.is_stopped) (is_possible s s.batches turn) f in
         let steps : step s turn ≡ on_turn s b later = ap (λ x. cond x (happened s s.batches turn) s) f ∙ ap (λ bs. happened s bs turn) e in
-        subst (λ t. IsCore reading new t) (sym steps) (runs reading s (cond (any_names (still_active s.hosts b.members)) later []) i possible (leads reading s i b later e))
+        subst (λ t. IsCore reading new t) (sym steps) (runs reading s (cond (any_names (still_active s.hosts b.members)) later []) i (idle_hosts s f) (leads reading s i b later e))
 
   -- the batch that comes next, by whether a host of the one that runs is active
-  pub leads_to : (c : Batch) (n : ℕ) (q : Bool) → slice_get old.batches.items old.current ≡ Some c → IsAnyHere old.hosts.items c.members.items q
-      → drop n old.batches.items ≡ cond q (drop (suc old.current) old.batches.items) [] → LeadsTo n old
+  pub leads_to : (c : Batch) (n : ℕ) (q : Bool) → slice_get (scheduled_batches old) old.current ≡ Some c → IsAnyHere old.hosts.items c.members.items q
+      → drop n (scheduled_batches old) ≡ cond q (drop (suc old.current) (scheduled_batches old)) [] → LeadsTo n old
   leads_to c n q e any next reading s i b later is =
-      let are : AreBatches reading.name old.plays.items (c ∷ drop (suc old.current) old.batches.items) (b ∷ later) =
-      subst (λ bs. AreBatches reading.name old.plays.items (c ∷ drop (suc old.current) old.batches.items) bs) is (subst (λ cs. AreBatches reading.name old.plays.items cs s.batches) (drop_at old.batches.items old.current c e) i.batches) in
+      let are : AreBatches reading.name (scheduled_plays old) (c ∷ drop (suc old.current) (scheduled_batches old)) (b ∷ later) =
+      subst (λ bs. AreBatches reading.name (scheduled_plays old) (c ∷ drop (suc old.current) (scheduled_batches old)) bs) is (subst (λ cs. AreBatches reading.name (scheduled_plays old) cs s.batches) (drop_at (scheduled_batches old) old.current c e) i.batches) in
       let active : any_names (still_active s.hosts b.members) ≡ q =
       ap (λ ns. any_names (still_active s.hosts ns)) are.0.members ∙ any_active reading (size_of s.batches) old.hosts.items s.hosts c.members.items i.hosts ∙ sym (any reading (size_of s.batches) s.hosts i.hosts) in
-      subst (λ x. AreBatches reading.name old.plays.items (drop n old.batches.items) (cond x later [])) (sym active)
-      (subst (λ cs. AreBatches reading.name old.plays.items cs (cond q later [])) (sym next) (by q are.1)) where
-        by : (q : Bool) → AreBatches reading.name old.plays.items (drop (suc old.current) old.batches.items) later → AreBatches reading.name old.plays.items (cond q (drop (suc old.current) old.batches.items) []) (cond q later [])
+      subst (λ x. AreBatches reading.name (scheduled_plays old) (drop n (scheduled_batches old)) (cond x later [])) (sym active)
+      (subst (λ cs. AreBatches reading.name (scheduled_plays old) cs (cond q later [])) (sym next) (by q are.1)) where
+        by : (q : Bool) → AreBatches reading.name (scheduled_plays old) (drop (suc old.current) (scheduled_batches old)) later → AreBatches reading.name (scheduled_plays old) (cond q (drop (suc old.current) (scheduled_batches old)) []) (cond q later [])
         by true more = more
         by false more = tt
 
@@ -127,27 +159,27 @@ module _ {V P : Type 0} (old : RunCore V P) where
     by [] e = ap (λ bs. not s.is_stopped && is_possible s bs turn) e ∙ no (not s.is_stopped)
     by (b ∷ later) e = absurd (none reading.name (cond (any_names (still_active s.hosts b.members)) later []) (leads reading s i b later e))
 
-  pub no_play : (n : ℕ) (c : Batch) → slice_get old.batches.items n ≡ Some c → play_of old n ≡ None → HasNoPlay n old
-  no_play n c e f name bs are = by bs (subst (λ cs. AreBatches name old.plays.items cs bs) (drop_at old.batches.items n c e) are) where
-    by : (bs : List program.Batch) → AreBatches name old.plays.items (c ∷ drop (suc n) old.batches.items) bs → ⊥
+  pub no_play : (n : ℕ) (c : Batch) → slice_get (scheduled_batches old) n ≡ Some c → play_of old n ≡ None → HasNoPlay n old
+  no_play n c e f name bs are = by bs (subst (λ cs. AreBatches name (scheduled_plays old) cs bs) (drop_at (scheduled_batches old) n c e) are) where
+    by : (bs : List program.Batch) → AreBatches name (scheduled_plays old) (c ∷ drop (suc n) (scheduled_batches old)) bs → ⊥
     by [] i = i
-    by (b ∷ later) i = let no : None ≡ Some i.0.play = sym (ap (play_in old.plays.items) (sym e) ∙ f) ∙ i.0.is in cc
+    by (b ∷ later) i = let no : None ≡ Some i.0.play = sym (ap (play_in (scheduled_plays old)) (sym e) ∙ f) ∙ i.0.is in cc
 
-  pub no_play_at : (n : ℕ) → n < length old.batches.items → play_of old n ≡ None → HasNoPlay n old
-  no_play_at n few f = by (slice_get old.batches.items n) refl where
-    by : (o : Option Batch) → slice_get old.batches.items n ≡ o → HasNoPlay n old
-    by None e = absurd (some_at old old.batches.items n few e)
+  pub no_play_at : (n : ℕ) → n < length (scheduled_batches old) → play_of old n ≡ None → HasNoPlay n old
+  no_play_at n few f = by (slice_get (scheduled_batches old) n) refl where
+    by : (o : Option Batch) → slice_get (scheduled_batches old) n ≡ o → HasNoPlay n old
+    by None e = absurd (some_at (scheduled_batches old) n few e)
     by (Some c) e = no_play n c e f
 
-  pub runs_at : (hosts : Vec (HostState V P)) (index : ReadyIndex) (es : List Entry) (n : ℕ) → n < length old.batches.items → AreEntriesAt n old es → HoldsOnly (λ place host. waits_in place host es) index
+  pub runs_at : (hosts : Vec (HostState P)) (index : ReadyIndex) (es : List Entry) (n : ℕ) → n < length (scheduled_batches old) → AreEntriesAt n old es → HoldsOnly (λ place host. waits_in place host es) index
       → ((k : ℕ) → slice_get hosts.items k ≡ entered (found k es) (slice_get old.hosts.items k)) → RunsBatch n old (record old { current = n; hosts = hosts; index = index })
-  runs_at hosts index es n few entries holds new = by (slice_get old.batches.items n) refl (play_of old n) refl where
-    by : (o : Option Batch) → slice_get old.batches.items n ≡ o → (p : Option RunPlay) → play_of old n ≡ p → RunsBatch n old (record old { current = n; hosts = hosts; index = index })
-    by None e p f = absurd (some_at old old.batches.items n few e)
+  runs_at hosts index es n few entries holds new = by (slice_get (scheduled_batches old) n) refl (play_of old n) refl where
+    by : (o : Option Batch) → slice_get (scheduled_batches old) n ≡ o → (p : Option RunPlay) → play_of old n ≡ p → RunsBatch n old (record old { current = n; hosts = hosts; index = index })
+    by None e p f = absurd (some_at (scheduled_batches old) n few e)
     by (Some d) e None f = λ reading s bs i q are. absurd (no_play n d e f reading.name bs are)
     by (Some d) e (Some play) f = runs_on old hosts index es d play n e f (entries d play e f) holds new
 
-  pub entries_at : (n : ℕ) (es : List Entry) (b : Batch) (play : RunPlay) → slice_get old.batches.items n ≡ Some b → play_of old n ≡ Some play → AreEntries play b.members.items old.hosts.items es → AreEntriesAt n old es
+  pub entries_at : (n : ℕ) (es : List Entry) (b : Batch) (play : RunPlay) → slice_get (scheduled_batches old) n ≡ Some b → play_of old n ≡ Some play → AreEntries play b.members.items old.hosts.items es → AreEntriesAt n old es
   entries_at n es b play e f are c p g h =
       subst (λ (q : RunPlay). AreEntries q c.members.items old.hosts.items es) (ap (λ o. unwrap_or o play) (sym f ∙ h))
       (subst (λ (d : Batch). AreEntries play d.members.items old.hosts.items es) (ap (λ o. unwrap_or o b) (sym e ∙ g)) are)
@@ -197,33 +229,22 @@ opening_at [] k = refl
 opening_at (h ∷ hs) zero = refl
 opening_at (h ∷ hs) (suc k) = opening_at hs k
 
-map_get : {A B : Type 0} → (f : A → B) (xs : List A) (k : ℕ) → slice_get (map f xs) k ≡ option_map f (slice_get xs k)
-map_get f [] k = refl
-map_get f (x ∷ xs) zero = refl
-map_get f (x ∷ xs) (suc k) = map_get f xs k
+none_past : {A B : Type 0} → (xs : List A) (ys : List B) (k : ℕ) → length xs ≡ length ys → slice_get xs k ≡ None → length ys ≤ k
+none_past [] ys k e f = omega (arith, e)
+none_past (x ∷ xs) ys zero e f = let no : Some x ≡ None = f in cc
+none_past (x ∷ xs) [] (suc k) e f = omega arith
+none_past (x ∷ xs) (y ∷ ys) (suc k) e f =
+    let few : length xs ≡ length ys = omega (arith, e) in
+    let rest = none_past xs ys k few f in omega (arith, rest)
 
 some_of : {A : Type 0} → (xs : List A) (k : ℕ) (x : A) → slice_get xs k ≡ Some x → (k < length xs) × (get_or xs k x ≡ x)
 some_of [] k x e = cc
 some_of (y ∷ xs) zero x e = (omega arith, ap (λ o. unwrap_or o y) e)
 some_of (y ∷ xs) (suc k) x e = let rest = some_of xs k x e in (omega (arith, rest.0), rest.1)
 
--- Turns one after the other
-module _ {V P : Type 0} where
-  pub advanced_none : (core : RunCore V P) → Advances core core
-  advanced_none core reading s i = record { turns = 0; core = i }
-
-  pub advanced_more : (old now new : RunCore V P) → Advances old now → CanTurn now true → Turns now new → Advances old new
-  advanced_more old now new so can turns reading s i =
-      let before = so reading s i in
-      record { turns = suc before.turns; core = turns reading (turned before.turns s) before.core (sym (can reading (turned before.turns s) before.core)) }
-
-  pub advanced_no : (old now : RunCore V P) → Advances old now → CanTurn now true → IsDisabled turn now → IsNoCore old
-  advanced_no old now so can off reading s i =
-      let before = so reading s i in
-      untrue (sym (off reading (turned before.turns s) before.core) ∙ sym (can reading (turned before.turns s) before.core))
-
-  fresh_host : (reading : Reading V P) (z : PlaySize) (n : Name) (x : HostState V P) (y : HostVariables) → IsFresh x → y.name ≡ n → y.variables ≡ reading.variables x.variables → IsHost reading z n x (opening_host y)
-  fresh_host reading z n x y i e f = record {
+module _ {P : Type 0} where
+  fresh_host : (reading : Reading P) (z : PlaySize) (k : ℕ) (x : HostState P) (y : HostVariables) → IsFresh x → y.name ≡ reading.name k → y.variables ≡ reading.variables k → IsHost reading z k x (opening_host y)
+  fresh_host reading z k x y i e f = record {
     position = i.position (opening_host y);
     stage = subst (λ g. IsStage reading g (stands at_end)) (sym i.stage) tt;
     fits = tt;
@@ -232,44 +253,36 @@ module _ {V P : Type 0} where
     recap = sym i.recap;
   }
 
-  fresh_at : (reading : Reading V P) (z : PlaySize) (n : Name) (o : Option (HostState V P)) (p : Option HostVariables) → ((x : HostState V P) → o ≡ Some x → IsFresh x) → AreVariablesAt reading n (option_map (λ x. x.variables) o) p
-      → IsHostAt reading z n o (option_map opening_host p)
-  fresh_at reading z n None None i are = tt
-  fresh_at reading z n None (Some y) i are = absurd are
-  fresh_at reading z n (Some x) None i are = absurd are
-  fresh_at reading z n (Some x) (Some y) i are = fresh_host reading z n x y (i x refl) are.0 are.1
+  fresh_at : (reading : Reading P) (z : PlaySize) (k : ℕ) (o : Option (HostState P)) (p : Option HostVariables) → ((x : HostState P) → o ≡ Some x → IsFresh x) → (o ≡ None → p ≡ None) → (p ≡ None → o ≡ None)
+      → IfSome p (λ h. (h.name ≡ reading.name k) × (h.variables ≡ reading.variables k)) → IsHostAt reading z k o (option_map opening_host p)
+  fresh_at reading z k None None i few many are = tt
+  fresh_at reading z k None (Some y) i few many are = let no : Some y ≡ None = few refl in cc
+  fresh_at reading z k (Some x) None i few many are = let no : Some x ≡ None = many refl in cc
+  fresh_at reading z k (Some x) (Some y) i few many are = fresh_host reading z k x y (i x refl) are.0 are.1
 
-  fresh_hosts : (reading : Reading V P) (z : PlaySize) (xs : List (HostState V P)) (vs : List V) (hs : List HostVariables) → All IsFresh xs → map (λ x. x.variables) xs ≡ vs → AreVariables reading vs hs → AreHosts reading z xs (opening_hosts hs)
-  fresh_hosts reading z xs vs hs i e are k =
-      subst (λ p. IsHostAt reading z (reading.name k) (slice_get xs k) p) (sym (opening_at hs k))
-      (fresh_at reading z (reading.name k) (slice_get xs k) (slice_get hs k)
+  fresh_hosts : (reading : Reading P) (z : PlaySize) (xs : List (HostState P)) (n : ℕ) (hs : List HostVariables) → All IsFresh xs → length xs ≡ n → AreGiven reading n hs → AreHosts reading z xs (opening_hosts hs)
+  fresh_hosts reading z xs n hs i e are k =
+      subst (λ p. IsHostAt reading z k (slice_get xs k) p) (sym (opening_at hs k))
+      (fresh_at reading z k (slice_get xs k) (slice_get hs k)
       (λ x f. let at = some_of xs k x f in subst IsFresh at.1 (i k x at.0))
-      (subst (λ o. AreVariablesAt reading (reading.name k) o (slice_get hs k)) (sym (sym (map_get (λ (x : HostState V P). x.variables) xs k) ∙ ap (λ ys. slice_get ys k) e)) (are k)))
+      (λ f. past hs k (none_past xs hs k (e ∙ sym are.count) f)) (λ f. past xs k (none_past hs xs k (are.count ∙ sym e) f)) (are.each k))
 
-  pub opens_by : (plays : List RunPlay) (batches : List Batch) (variables : List V) (forks : ℕ) (old core : RunCore V P) → old.plays.items ≡ plays → old.batches.items ≡ batches → old.forks ≡ forks → old.handed ≡ 0 → old.is_stopped ≡ false
-      → drop old.current old.batches.items ≡ [] → All IsFresh old.hosts.items → map (λ x. x.variables) old.hosts.items ≡ variables → HoldsOnly (λ place host. false) old.index → RunsBatch 0 old core → Opens plays batches variables forks core
-  opens_by plays batches variables forks old core e f h z n none fresh same holds runs reading program inventory are are_batches =
+  pub opens_by : (plays : List RunPlay) (batches : List Batch) (hosts forks : ℕ) (old core : RunCore P) → scheduled_plays old ≡ plays → scheduled_batches old ≡ batches → old.forks ≡ forks → old.handed ≡ 0 → old.is_stopped ≡ false
+      → drop old.current (scheduled_batches old) ≡ [] → All IsFresh old.hosts.items → length old.hosts.items ≡ hosts → HoldsOnly (λ place host. false) old.index → RunsBatch 0 old core → Opens plays batches hosts forks core
+  opens_by plays batches hosts forks old core e f h z n none fresh same holds runs reading program inventory are are_batches =
       runs reading (record { inventory = inventory; forks = forks; hosts = opening_hosts inventory.hosts; batches = []; handed = 0; is_stuck = false; is_stopped = false }) (all_batches program)
       (record {
-        hosts = fresh_hosts reading (size_of []) old.hosts.items variables inventory.hosts fresh same are;
-        batches = subst (λ cs. AreBatches reading.name old.plays.items cs []) (sym none) tt;
+        hosts = fresh_hosts reading (size_of []) old.hosts.items hosts inventory.hosts fresh same are;
+        batches = subst (λ cs. AreBatches reading.name (scheduled_plays old) cs []) (sym none) tt;
         index = holds_only (λ place host. false) old.index (activities [] (opening_hosts inventory.hosts)) holds (open_idle [] inventory.hosts) (open_none [] inventory.hosts);
         forks = sym h;
         handed = sym z;
         stopped = sym n;
       })
       (all_idle_open inventory.hosts)
-      (subst (λ ps. AreBatches reading.name ps old.batches.items (all_batches program)) (sym e) (subst (λ cs. AreBatches reading.name plays cs (all_batches program)) (sym f) are_batches))
+      (subst (λ ps. AreBatches reading.name ps (scheduled_batches old) (all_batches program)) (sym e) (subst (λ cs. AreBatches reading.name plays cs (all_batches program)) (sym f) are_batches))
 
--- lists that are made one by one
+-- a list of one
 pub all_one : {A : Type 0} → (P : A → Type 0) (x : A) → P x → All P (x ∷ [])
 all_one P x i zero d h = i
 all_one P x i (suc k) d h = absurd (omega arith)
-
-pub one_made : {A B : Type 0} → (f : A → B) (xs : List A) (x : A) (v : B) (rest : List B) → v ≡ f x → map f xs ++ v ∷ rest ≡ map f (xs ++ x ∷ []) ++ rest
-one_made f [] x v rest e = ap (λ w. w ∷ rest) e
-one_made f (y ∷ xs) x v rest e = ap (λ ws. f y ∷ ws) (one_made f xs x v rest e)
-
-pub none_left : {A : Type 0} → (xs : List A) (n : ℕ) → length xs ≡ n → n ≡ 0 → xs ≡ []
-none_left [] n h i = refl
-none_left (x ∷ xs) n h i = absurd (omega (arith, h, i))

@@ -7,7 +7,7 @@ use Rattle.pb_language.specs.Machine.{start, give, notified_by}
 use Rattle.pb_machine.specs.Hosts.{stands, works, left_play, arrived}
 use Rattle.pb_machine.specs.Ways.{step_at}
 use Rattle.pb_machine.specs.Run.{FlatState, plan_steps, put_host, enabled, of_host, is_out, is_possible, happened, on_host, on_start, on_plan, on_give, on_admitted, on_results, on_ended, on_notified, on_again, after_task, target_on, step}
-use Rattle.pb_core.specs.Events.{Starts, Works, step_in, answered, left_by, Comes}
+use Rattle.pb_history.specs.Happens.{Starts, Works, step_in, answered, left_by, Comes}
 use Rattle.pb_core.specs.Hosts.{left_recap}
 
 pub steps_start : (s : FlatState) (k : ℕ) (ps : List Pass) (w : Starts s k ps)

@@ -1,9 +1,9 @@
 -- How the hosts of a batch begin their play.
 use Rattle.std.specs.Prelude.{◌≡◌, ℕ, List, [], ◌∷◌, ◌++◌, Bool, true, false, ◌&&◌, ◌||◌, nat_eq}
-use Rattle.std.specs.Prelude.{cond, Option, Some, None, slice_get}
+use Rattle.std.specs.Prelude.{cond, map, Option, Some, None, slice_get}
 use Rattle.pb_machine.specs.Steps as flat
 use Rattle.pb_machine.specs.Hosts.{FlatHost, arrived}
-use Rattle.pb_machine.specs.Run.{host_at, is_on}
+use Rattle.pb_machine.specs.Run.{host_at, is_on, still_active}
 use Rattle.pb_flow.specs.Nodes.{target_view}
 use Rattle.pb_position.specs.declared.position.Location.{Location}
 use Rattle.pb_position.specs.declared.position.Location.TheVariants.{End, Left, Node}
@@ -12,7 +12,6 @@ use Rattle.pb_position.specs.Calls.{AreKept, emptied}
 use Rattle.pb_core.specs.declared.batch.RunPlay.{RunPlay}
 use Rattle.pb_core.specs.declared.entry.Entry.{Entry}
 use Rattle.pb_core.specs.declared.host.HostState.{HostState}
-use Rattle.pb_core.specs.declared.host.Stage.TheVariants.{Waits}
 use Rattle.pb_core.specs.declared.index.ReadyIndex.{ReadyIndex}
 use Rattle.pb_core.specs.Readings.{Reading}
 use Rattle.pb_core.specs.Indexes.{has_place}
@@ -97,42 +96,47 @@ pub record HaveEntries (play : RunPlay) (ms : List ℕ) (hs : List FlatHost) (es
   pub each : (k : ℕ) → EntryFor play (is_in k ms) (host_at k hs) (found k es)
   pub all : AllBegin play hs es
 
-module _ {V P : Type 0} where
+module _ {P : Type 0} where
   -- the code's hosts are those of the machine in a play of that size
-  abbrev pub AreHosts : Reading V P → PlaySize → List (HostState V P) → List FlatHost → Type 0
+  abbrev pub AreHosts : Reading P → PlaySize → List (HostState P) → List FlatHost → Type 0
   AreHosts reading z xs hs =
-      (k : ℕ) → IsHostAt reading z (reading.name k) (slice_get xs k) (host_at k hs)
+      (k : ℕ) → IsHostAt reading z k (slice_get xs k) (host_at k hs)
 
-  abbrev pub IsHere : List (HostState V P) → ℕ → Bool → Type 0
-  IsHere xs k q = (reading : Reading V P) (z : PlaySize) (hs : List FlatHost)
+  abbrev pub IsHere : List (HostState P) → ℕ → Bool → Type 0
+  IsHere xs k q = (reading : Reading P) (z : PlaySize) (hs : List FlatHost)
       → AreHosts reading z xs hs → q ≡ on_at (host_at k hs)
 
-  abbrev pub IsAnyHere : List (HostState V P) → List ℕ → Bool → Type 0
-  IsAnyHere xs ms q = (reading : Reading V P) (z : PlaySize) (hs : List FlatHost)
+  abbrev pub IsAnyHere : List (HostState P) → List ℕ → Bool → Type 0
+  IsAnyHere xs ms q = (reading : Reading P) (z : PlaySize) (hs : List FlatHost)
       → AreHosts reading z xs hs → q ≡ any_on hs ms
 
+  -- those of the members that haven't left
+  abbrev pub AreHere : List (HostState P) → List ℕ → List ℕ → Type 0
+  AreHere xs ms ns = (reading : Reading P) (z : PlaySize) (hs : List FlatHost)
+      → AreHosts reading z xs hs
+      → map reading.name ns ≡ still_active hs (map reading.name ms)
+
   -- none of those that aren't left of the members is here
-  abbrev pub AreOthersGone : List (HostState V P) → List ℕ → List ℕ → Type 0
-  AreOthersGone xs ms rest = (reading : Reading V P) (z : PlaySize) (hs : List FlatHost)
+  abbrev pub AreOthersGone : List (HostState P) → List ℕ → List ℕ → Type 0
+  AreOthersGone xs ms rest = (reading : Reading P) (z : PlaySize) (hs : List FlatHost)
       → AreHosts reading z xs hs → any_on hs ms ≡ any_on hs rest
 
-  abbrev pub IsEntry : RunPlay → List (HostState V P) → ℕ → Option Entry → Type 0
-  IsEntry play xs k e = (reading : Reading V P) (z : PlaySize) (hs : List FlatHost)
+  abbrev pub IsEntry : RunPlay → List (HostState P) → ℕ → Option Entry → Type 0
+  IsEntry play xs k e = (reading : Reading P) (z : PlaySize) (hs : List FlatHost)
       → AreHosts reading z xs hs → EntryFor play true (host_at k hs) e
 
-  abbrev pub AreEntries : RunPlay → List ℕ → List (HostState V P) → List Entry → Type 0
-  AreEntries play ms xs es = (reading : Reading V P) (z : PlaySize) (hs : List FlatHost)
+  abbrev pub AreEntries : RunPlay → List ℕ → List (HostState P) → List Entry → Type 0
+  AreEntries play ms xs es = (reading : Reading P) (z : PlaySize) (hs : List FlatHost)
       → AreHosts reading z xs hs → HaveEntries play ms hs es
 
   -- the host as it begins the play
-  abbrev pub entered : Option Entry → Option (HostState V P) → Option (HostState V P)
+  abbrev pub entered : Option Entry → Option (HostState P) → Option (HostState P)
   entered e None = None
   entered None (Some x) = Some x
   entered (Some e) (Some x) = Some (record {
     position = e.position;
     handlers = e.handlers;
-    stage = Waits;
-    variables = x.variables;
+    stage = x.stage;
     recap = x.recap;
     room = e.room;
   })

@@ -1,14 +1,11 @@
 -- Where the code's hosts are, as the hosts of pb_machine's machine.
 use Rattle.std.specs.Prelude.{◌≡◌, ◌<◌, ◌≤◌, ℕ, suc, List, [], ◌∷◌, Bool, true, not, ◌&&◌, false}
-use Rattle.std.specs.Prelude.{nat_lt, Option, Some, None, length}
-use Rattle.pb_semantics.specs.Data.{Fields}
-use Rattle.pb_language.specs.Expression.{Name}
+use Rattle.std.specs.Prelude.{nat_lt, Option, Some, None, length, slice_get}
 use Rattle.pb_language.specs.Start.{call_count}
 use Rattle.pb_language.specs.Machine as machine
 use Rattle.pb_language.specs.Machine.{ended_recap, empty_recap}
 use Rattle.pb_language.specs.Task.{Task}
 use Rattle.pb_language.specs.Give.{Ended, all_skipped, any_changed, any_failed, message_of}
-use Rattle.pb_language.specs.Give.{written_variables}
 use Rattle.pb_machine.specs.Steps as flat
 use Rattle.pb_machine.specs.Hosts.{Location, at_end, left_play, at, FlatHost, FlatStage, stands}
 use Rattle.pb_machine.specs.Hosts.{works, arrived}
@@ -91,50 +88,65 @@ abbrev pub ticket_of : {P : Type 0} → Stage P → Option ℕ
 ticket_of Waits = None
 ticket_of (Runs ticket attempts calls passes) = Some ticket
 
-abbrev pub repeated : {P : Type 0} → ℕ → Stage P → Stage P
-repeated i Waits = Waits
-repeated i (Runs ticket attempts calls passes) = Runs ticket i calls passes
+-- the job that is out after it, of that ticket and with so many attempts before it
+abbrev pub repeated : {P : Type 0} → ℕ → ℕ → Stage P → Stage P
+repeated t i Waits = Waits
+repeated t i (Runs ticket attempts calls passes) = Runs t i calls passes
 
-module _ {V P : Type 0} where
+module _ {P : Type 0} where
   -- a job is out or not, and it is the same job
-  abbrev pub IsStage : Reading V P → Stage P → FlatStage → Type 0
+  abbrev pub IsStage : Reading P → Stage P → FlatStage → Type 0
   IsStage reading Waits (stands l) = Unit {0}
   IsStage reading (Runs ticket attempts calls passes) (works n i ps) =
       (i ≡ attempts) × (ps ≡ reading.passes passes) × (calls ≡ call_count ps)
   IsStage reading x g = ⊥
 
-  -- in a play of that size, x is the host of that name
-  pub record IsHost (reading : Reading V P) (z : PlaySize) (name : Name) (x : HostState V P)
-      (h : FlatHost) : Type 0 where
+  -- in a play of that size, x is the host of that number
+  pub record IsHost (reading : Reading P) (z : PlaySize) (k : ℕ) (x : HostState P) (h : FlatHost)
+      : Type 0 where
     pub position : IsAt x.position (record h { stage = stands (location_in h.stage) })
     pub stage : IsStage reading x.stage h.stage
     pub fits : Fits z x.handlers h.stage
-    pub name_is : h.name ≡ name
-    pub variables : h.variables ≡ reading.variables x.variables
+    pub name_is : h.name ≡ reading.name k
+    pub variables : h.variables ≡ reading.variables k
     pub recap : h.recap ≡ recap_view x.recap
 
-  abbrev pub IsHostAt : Reading V P → PlaySize → Name → Option (HostState V P) → Option FlatHost
-      → Type 0
-  IsHostAt reading z n (Some x) (Some h) = IsHost reading z n x h
-  IsHostAt reading z n None None = Unit {0}
-  IsHostAt reading z n x h = ⊥
+  abbrev pub IsHostAt : Reading P → PlaySize → ℕ → Option (HostState P) → Option FlatHost → Type 0
+  IsHostAt reading z k (Some x) (Some h) = IsHost reading z k x h
+  IsHostAt reading z k None None = Unit {0}
+  IsHostAt reading z k x h = ⊥
 
   -- before its first play
-  pub record IsFresh (x : HostState V P) : Type 0 where
+  pub record IsFresh (x : HostState P) : Type 0 where
     pub position : (h : FlatHost) → IsAt x.position (before_plays h)
     pub stage : x.stage ≡ Waits
     pub recap : recap_view x.recap ≡ empty_recap
 
-  -- what a task ended with on a host with those variables
-  pub record IsOutcome (reading : Reading V P) (o : TaskOutcome V) (t : Task) (es : List Ended)
-      (old : Fields) : Type 0 where
-    pub is_skipped : o.status.is_skipped ≡ all_skipped es
-    pub is_changed : o.status.is_changed ≡ any_changed es
-    pub has_failed : o.status.has_failed ≡ any_failed es
-    pub is_ignored : o.status.is_ignored ≡ t.ignores
-    pub is_rescued : o.status.is_rescued ≡ t.rescued
-    pub text : any_failed es && not t.ignores ≡ true → text_of o.text ≡ message_of t.loop es
-    pub variables : reading.variables o.variables ≡ written_variables t es old
+  -- the same once more, where no job is out
+  pub record IsCopy (old new : HostState P) : Type 0 where
+    pub position : (h : FlatHost) → IsAt old.position h → IsAt new.position h
+    pub handlers : new.handlers ≡ old.handlers
+    pub waits : old.stage ≡ Waits
+    pub stage : new.stage ≡ Waits
+    pub recap : new.recap ≡ old.recap
+
+  abbrev pub AreCopies : List (HostState P) → List (HostState P) → Type 0
+  AreCopies [] [] = Unit {0}
+  AreCopies (x ∷ xs) (y ∷ ys) = IsCopy x y × AreCopies xs ys
+  AreCopies xs ys = ⊥
+
+  -- not all of them wait
+  abbrev pub HasJob : List (HostState P) → Type 0
+  HasJob xs = ((k : ℕ) (x : HostState P) → slice_get xs k ≡ Some x → x.stage ≡ Waits) → ⊥
+
+-- what a task ended with
+pub record IsOutcome (o : TaskOutcome) (t : Task) (es : List Ended) : Type 0 where
+  pub is_skipped : o.status.is_skipped ≡ all_skipped es
+  pub is_changed : o.status.is_changed ≡ any_changed es
+  pub has_failed : o.status.has_failed ≡ any_failed es
+  pub is_ignored : o.status.is_ignored ≡ t.ignores
+  pub is_rescued : o.status.is_rescued ≡ t.rescued
+  pub text : any_failed es && not t.ignores ≡ true → text_of o.text ≡ message_of t.loop es
 
 -- the place of the task where the position is
 abbrev pub IsPlaceAt : List Step → Position → Option ℕ → Type 0

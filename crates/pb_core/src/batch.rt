@@ -1,10 +1,13 @@
-// The plays of a run with their plans, and the batches in which hosts run them.
+// The plays of a run with their plans and tasks, and the batches in which hosts run them.
+use pb_start::Prepared;
 use pb_steps::PlaySteps;
 
 /// A play as it runs.
 #[derive(Drop)]
 pub struct RunPlay {
     pub plan: PlaySteps,
+    /// The tasks of its steps, in their order.
+    pub tasks: Vec<Prepared>,
     /// A host starts a task only where none is behind it (the strategy `linear`).
     pub is_linear: bool,
 }
@@ -16,4 +19,11 @@ pub struct Batch {
     pub play: usize,
     /// The hosts' numbers, in their order.
     pub members: Vec<usize>,
+}
+
+/// What a run goes through, which never changes: its plays, and its batches in their order.
+#[derive(Drop)]
+pub struct Schedule {
+    pub plays: Vec<RunPlay>,
+    pub batches: Vec<Batch>,
 }

@@ -1,48 +1,22 @@
 // How the hosts of a batch begin their play.
 ghost use Rattle.std.specs.Prelude.{◌≡◌, ℕ, IfOk, IfSome, OnOk, slice_get};
-ghost use Rattle.pb_core.specs.Entries.{AddsEntry, AreEntries, IsAnyHere, IsEntry, IsHere};
+ghost use Rattle.pb_core.specs.Entries.{AddsEntry, AreEntries, IsEntry};
 ghost use Rattle.pb_core.specs.Entries.{entered, found};
 ghost use Rattle.pb_core.specs.Entries.{found_one, waits_in, with_entry};
 ghost use Rattle.pb_core.specs.Indexes.{HoldsOnly};
 
+use crate::active::is_here;
 use crate::batch::RunPlay;
 use crate::entry::Entry;
-use crate::host::{HostState, Stage};
+use crate::host::HostState;
 use crate::index::ReadyIndex;
 use crate::place::place_at;
-use pb_position::Location;
 use std::alloc::{AllocError, Global};
 
-// Whether a host of that number is there that hasn't left.
-fn is_here<V, P>(hosts: &[HostState<V, P>], host: usize) -> bool
-    ensures { IsHere hosts.now host result }
-{
-    if host >= hosts.len() {
-        return false;
-    }
-    match hosts[host].position.location() {
-        Location::End => true,
-        Location::Left => false,
-        Location::Node(_) => true,
-    }
-}
-
-/// Whether one of these hosts is there that hasn't left.
-pub fn is_any_here<V, P>(hosts: &[HostState<V, P>], members: &[usize]) -> bool
-    ensures { IsAnyHere hosts.now members.now result }
-{
-    for member in members {
-        if is_here(hosts, *member) {
-            return true;
-        }
-    }
-    false
-}
-
 // Where the host begins the play, or nothing where it left.
-fn entry_of<V, P>(
+fn entry_of<P>(
     alloc: Global,
-    hosts: &[HostState<V, P>],
+    hosts: &[HostState<P>],
     play: &RunPlay,
     host: usize,
 ) -> Result<Option<Entry>, AllocError>
@@ -73,9 +47,9 @@ fn entry_of<V, P>(
 /// # Errors
 ///
 /// Want of memory.
-pub fn entries_of<V, P>(
+pub fn entries_of<P>(
     alloc: Global,
-    hosts: &[HostState<V, P>],
+    hosts: &[HostState<P>],
     play: &RunPlay,
     members: &[usize],
 ) -> Result<Vec<Entry>, AllocError>
@@ -127,8 +101,8 @@ fn add_waiting(index: &mut ReadyIndex, entry: &Entry) -> Result<(), AllocError>
     }
 }
 
-// The host begins.
-fn enter_one<V: Drop, P: Drop>(hosts: &mut Vec<HostState<V, P>>, entry: Entry)
+// The host begins; no job of it is out.
+fn enter_one<P: Drop>(hosts: &mut Vec<HostState<P>>, entry: Entry)
     ensures { (k : ℕ) → slice_get hosts.new.items k
         ≡ entered (found_one k entry) (slice_get hosts.old.items k) }
 {
@@ -144,11 +118,10 @@ fn enter_one<V: Drop, P: Drop>(hosts: &mut Vec<HostState<V, P>>, entry: Entry)
     let state = &mut hosts[host];
     state.position = position;
     state.handlers = handlers;
-    state.stage = Stage::Waits;
 }
 
 /// The hosts begin, each where its first entry says.
-pub fn enter<V: Drop, P: Drop>(hosts: &mut Vec<HostState<V, P>>, entries: Vec<Entry>)
+pub fn enter<P: Drop>(hosts: &mut Vec<HostState<P>>, entries: Vec<Entry>)
     ensures { (k : ℕ) → slice_get hosts.new.items k
         ≡ entered (found k entries.items) (slice_get hosts.old.items k) }
 {

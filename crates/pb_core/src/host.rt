@@ -14,9 +14,9 @@ use std::alloc::{AllocError, Global};
 pub enum Stage<P> {
     Waits,
     Runs {
-        ticket: u64,
+        ticket: usize,
         /// How often the calls were made before.
-        attempts: usize,
+        attempts: u64,
         /// How many they are.
         calls: u64,
         /// What the task does, item by item.
@@ -24,14 +24,13 @@ pub enum Stage<P> {
     },
 }
 
-/// Where a host stands, its variables, and what its tasks came to.
+/// Where a host stands, and what its tasks came to.
 #[derive(Drop)]
-pub struct HostState<V, P> {
+pub struct HostState<P> {
     pub position: Position,
     /// How many handlers the play has in which the position is.
     pub handlers: usize,
     pub stage: Stage<P>,
-    pub variables: V,
     pub recap: Recap,
     ghost room: { handlers_of position ≡ handlers },
 }
@@ -47,7 +46,7 @@ impl<P> Stage<P> {
     ghost use Rattle.pb_core.specs.Hosts.{job_of, repeated};
 
     /// How often the calls of the job were made before, and how many they are.
-    pub fn job(&self) -> Option<(usize, u64)>
+    pub fn job(&self) -> Option<(u64, u64)>
         ensures { result ≡ job_of self.now }
     {
         match self {
@@ -60,41 +59,68 @@ impl<P> Stage<P> {
         }
     }
 
-    // The calls were made so many times before they are made again.
-    pub(crate) fn repeat(&mut self, times: usize)
-        ensures { self.new ≡ repeated times self.old }
+    // The calls were made so many times before they are made again, by a job of that ticket.
+    pub(crate) fn repeat(&mut self, next: usize, times: u64)
+        ensures { self.new ≡ repeated next times self.old }
     {
         match self {
             Stage::Waits => {}
-            Stage::Runs { attempts, .. } => *attempts = times,
+            Stage::Runs {
+                ticket,
+                attempts,
+                ..
+            } => {
+                *ticket = next;
+                *attempts = times;
+            }
         }
     }
 }
 
-impl<V: Drop, P: Drop> HostState<V, P> {
-    ghost use Rattle.pb_core.specs.Hosts.{IsFresh};
+impl<P: Drop> HostState<P> {
+    ghost use Rattle.std.specs.Prelude.{◌≢◌};
+    ghost use Rattle.pb_core.specs.declared.host.Stage.TheVariants.{Waits};
+    ghost use Rattle.pb_core.specs.Hosts.{IsCopy, IsFresh};
 
     /// A host before its first play.
     ///
     /// # Errors
     ///
     /// Want of memory.
-    pub fn new(alloc: Global, variables: V) -> Result<HostState<V, P>, AllocError>
-        ensures fresh { IfOk result IsFresh }
-        ensures variables { IfOk result (λ x. x.variables ≡ variables) }
+    pub fn new(alloc: Global) -> Result<HostState<P>, AllocError>
+        ensures { IfOk result IsFresh }
     {
         let position = Position::new(alloc, 0)?;
         Ok(HostState {
             position,
             handlers: 0,
             stage: Stage::Waits,
-            variables,
             recap: Recap::empty(),
         })
     }
+
+    // Another host that is the same, where no job is out.
+    pub(crate) fn copy(&self) -> Result<HostState<P>, CoreFault>
+        ensures same { IfOk result (IsCopy self.now) }
+        ensures there { IfErr result (λ e. e ≡ CoreFault.NotThere → self.now.stage ≢ Waits) }
+        ensures full { IfErr result (λ e. e ≡ CoreFault.Full → ⊥) }
+    {
+        match self.stage {
+            Stage::Runs { .. } => Err(CoreFault::NotThere),
+            Stage::Waits => {
+                let position = self.position.copy()?;
+                Ok(HostState {
+                    position,
+                    handlers: self.handlers,
+                    stage: Stage::Waits,
+                    recap: self.recap,
+                })
+            }
+        }
+    }
 }
 
-impl<V, P> HostState<V, P> {
+impl<P> HostState<P> {
     ghost use Rattle.pb_core.specs.Hosts.{GoesTo, HasGone};
 
     // Where the host goes once the task where it stands came to that end.

@@ -18,14 +18,12 @@ pub struct TaskStatus {
 
 /// What a task came to.
 #[derive(Drop)]
-pub struct TaskOutcome<V> {
+pub struct TaskOutcome {
     pub status: TaskStatus,
     /// The text of a failure; none stands for the empty one.
     pub text: Option<Arc<String>>,
     /// The numbers of the handlers that are notified.
     pub notified: Vec<usize>,
-    /// The host's variables, with what the task wrote.
-    pub variables: V,
 }
 
 impl TaskStatus {

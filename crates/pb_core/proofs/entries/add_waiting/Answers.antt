@@ -1,4 +1,4 @@
-use Rattle.pb_core.proofs.Turns.{adds_place, adds_none}
+use Rattle.pb_core.proofs.Beginnings.{adds_place, adds_none}
 use Rattle.pb_core.proofs.entries.add_waiting.Goals as goal
 
 pub returns-in_ok-wait-in-Some : goal.returns-in_ok-wait-in-Some

@@ -2,7 +2,7 @@ use Rattle.std.proofs.Common.{◌≡◌, ap, sym, ◌∙◌, length, arith}
 use Rattle.std.specs.Vec.{vec_len}
 use Rattle.std.proofs.Common.{slice_get}
 use Rattle.pb_core.specs.Entries.{entered, found}
-use Rattle.pb_core.proofs.Turns.{entered_last, entered_all, no_entries}
+use Rattle.pb_core.proofs.Beginnings.{entered_last, entered_all, no_entries}
 use Rattle.pb_core.proofs.entries.enter.Goals as goal
 
 pub loop-entry-preserved : goal.loop-entry-preserved

@@ -1,6 +1,6 @@
 use Rattle.std.proofs.Common.{◌<◌, length, arith}
 use Rattle.pb_core.proofs.Hosts.{there}
-use Rattle.pb_core.proofs.Turns.{enters_one}
+use Rattle.pb_core.proofs.Beginnings.{enters_one}
 use Rattle.pb_core.proofs.entries.enter_one.Goals as goal
 
 pub returns : goal.returns

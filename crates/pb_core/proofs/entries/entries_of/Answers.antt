@@ -1,6 +1,6 @@
 use Rattle.std.proofs.Common.{get_or, refl, subst, take_all, arith}
 use Rattle.pb_core.specs.Entries.{AreEntries}
-use Rattle.pb_core.proofs.Turns.{entries_by}
+use Rattle.pb_core.proofs.Beginnings.{entries_by}
 use Rattle.pb_core.proofs.entries.entries_of.Goals as goal
 
 pub loop-member-preserved : goal.loop-member-preserved

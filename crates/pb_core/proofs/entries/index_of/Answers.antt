@@ -1,4 +1,4 @@
-use Rattle.pb_core.proofs.Turns.{holds_next}
+use Rattle.pb_core.proofs.Beginnings.{holds_next}
 use Rattle.pb_core.proofs.entries.index_of.Goals as goal
 
 pub loop-entry-preserved : goal.loop-entry-preserved

@@ -8,7 +8,7 @@ pub returns-clause-repeats : goal.returns-clause-repeats
 returns-clause-repeats g c =
     let within : c.args.host < length c.args.self.now.hosts.items = omega (arith, c.if-host-len.false, c.args.self.now.hosts.ok) in
     let same = same_item c.args.self.now.hosts.items c.args.host c.index_mut.result.now c.index.result.now within c.index_mut.ensures.value c.index.ensures in
-    repeats_by c.args.self.now _ c.args.host c.in-Some.attempts c.in-Some.calls c.in-Some-checked_add.handed c.in-Some-checked_add-2.times c.index_mut.result.now _ _
+    repeats_by c.args.self.now _ c.args.host c.in-Some.attempts c.in-Some.calls c.in-Some-checked_add.handed c.args.ticket c.in-Some-checked_add-2.times c.index_mut.result.now _ _
     (there c.args.self.now.hosts.items c.args.host c.index_mut.result.now within c.index_mut.ensures.value) refl c.repeat.ensures
     (ap (λ x. job_of x.stage) same ∙ sym c.in-Some.ensures) c.in-Some-checked_add-2.ensures.1 c.in-Some-checked_add.ensures.1
 
@@ -25,4 +25,6 @@ returns-in_default-clause-there g c = λ e.
 pub returns-clause-tickets : goal.returns-clause-tickets
 returns-clause-tickets g c =
     let within : c.args.host < length c.args.self.now.hosts.items = omega (arith, c.if-host-len.false, c.args.self.now.hosts.ok) in
-    tickets_again c.args.self.now.hosts.items c.args.host c.in-Some-checked_add-2.times c.index_mut.result.now _ (there c.args.self.now.hosts.items c.args.host c.index_mut.result.now within c.index_mut.ensures.value) c.repeat.ensures
+    let same = same_item c.args.self.now.hosts.items c.args.host c.index_mut.result.now c.index.result.now within c.index_mut.ensures.value c.index.ensures in
+    tickets_again c.args.self.now.hosts.items c.args.host c.args.ticket c.in-Some-checked_add-2.times c.index_mut.result.now.stage (c.in-Some.attempts, c.in-Some.calls) _
+    (ap (λ x. job_of x.stage) same ∙ sym c.in-Some.ensures) c.repeat.ensures

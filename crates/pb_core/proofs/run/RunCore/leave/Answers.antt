@@ -10,7 +10,7 @@ returns-clause-leaves g c =
     let same = same_item c.args.self.now.hosts.items c.args.host c.index_mut-state.result.now c.index.result.now within c.index_mut-state.ensures.value c.index.ensures in
     leaves_by c.args.self.now _ c.leave.new.self c.args.host c.in-Some.from c.args.is_reached c.index_mut-state.result.now _
     (there c.args.self.now.hosts.items c.args.host c.index_mut-state.result.now within c.index_mut-state.ensures.value) refl
-    c.leave-2.ensures.host refl refl (c.in-Some-left.ensures.counts ∙ ap (λ x. left_recap c.args.is_reached (recap_view x.recap)) (sym same)) c.in-Some.ensures.place c.leave.ensures
+    c.leave-2.ensures.host refl (c.in-Some-left.ensures.counts ∙ ap (λ x. left_recap c.args.is_reached (recap_view x.recap)) (sym same)) c.in-Some.ensures.place c.leave.ensures
 
 pub returns-in_default-clause-there : goal.returns-in_default-clause-there
 returns-in_default-clause-there g c = λ e. cannot_give c.args.self.now c.args.host c.in_default.ensures.place

@@ -14,7 +14,7 @@ returns-clause-settles g c =
     let end : TaskEnd = record { has_failed = c.goes_wrong.result; text = o.text; notified = o.notified } in
     settles_by c.args.self.now _ c.go_on-2.new.self c.args.host c.in-Some.from o end c.in_ok-onward.onward c.index_mut-state.result.now _
     (there c.args.self.now.hosts.items c.args.host c.index_mut-state.result.now within c.index_mut-state.ensures.value) refl
-    c.goes_wrong.ensures refl refl c.in_ok-onward.ensures.goes refl refl refl refl
+    c.goes_wrong.ensures refl refl c.in_ok-onward.ensures.goes refl refl refl
     (c.in-Some-after.ensures.counts ∙ ap (λ x. recap_after o.status (recap_view x.recap)) (sym same)) c.in-Some.ensures.place c.in_ok-go_on.ensures.goes
 
 pub returns-in_default-clause-there : goal.returns-in_default-clause-there

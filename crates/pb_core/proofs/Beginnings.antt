@@ -1,5 +1,5 @@
 -- How the hosts of a batch begin their play.
-use Rattle.std.proofs.Common.{◌≡◌, ◌<◌, ℕ, zero, suc, ◌+◌, List, [], ◌∷◌, ◌++◌, map, length, drop, take, set, get_or, Bool, true, false, ◌&&◌, ◌||◌, nat_eq, cond, is_some, IfSome, Option, Some, None, slice_get, refl, sym, ap, ap₂, subst, ◌∙◌, arith}
+use Rattle.std.proofs.Common.{◌≡◌, ◌<◌, ℕ, zero, suc, ◌+◌, List, [], ◌∷◌, ◌++◌, map, length, drop, take, set, get_or, Bool, true, false, ◌&&◌, ◌||◌, nat_eq, cond, is_some, IfSome, Option, Some, None, option_map, unwrap_or, slice_get, refl, sym, ap, ap₂, subst, ◌∙◌, arith}
 use Rattle.std.proofs.lemmas.Bool.{eqb-true}
 use Rattle.std.proofs.lemmas.Bool.Decides.{nat_tests}
 use Rattle.std.proofs.lemmas.List.{take_more}
@@ -12,6 +12,7 @@ use Rattle.pb_language.specs.Program as program
 use Rattle.pb_language.specs.Machine.{any_names}
 use Rattle.pb_machine.specs.Steps as flat
 use Rattle.pb_machine.specs.Steps.{play_begin, play_steps}
+use Rattle.pb_machine.specs.Hosts as machine
 use Rattle.pb_machine.specs.Hosts.{FlatHost, FlatStage, stands, works, at, at_end, left_play, arrived}
 use Rattle.pb_machine.specs.Run.{FlatState, plan_steps, current_steps, is_on_stage, is_on, is_active_host, still_active, host_at, begun, all_begun, with_batches, all_idle, is_idle}
 use Rattle.pb_position.specs.declared.position.Location.{Location}
@@ -25,16 +26,17 @@ use Rattle.pb_core.specs.declared.batch.Batch.{Batch}
 use Rattle.pb_core.specs.declared.batch.RunPlay.{RunPlay}
 use Rattle.pb_core.specs.declared.entry.Entry.{Entry}
 use Rattle.pb_core.specs.declared.host.HostState.{HostState}
-use Rattle.pb_core.specs.declared.host.Stage.TheVariants.{Waits}
+use Rattle.pb_core.specs.declared.host.Stage.{Stage}
+use Rattle.pb_core.specs.declared.host.Stage.TheVariants.{Waits, Runs}
 use Rattle.pb_core.specs.declared.index.ReadyIndex.{ReadyIndex}
 use Rattle.pb_core.specs.declared.run.RunCore.{RunCore}
 use Rattle.pb_core.specs.Readings.{Reading}
 use Rattle.pb_core.specs.Activities.{idle, activity_in, activities, count_running, running_in, all_idle_in}
 use Rattle.pb_core.specs.Activities.{is_idle as is_idle_one}
 use Rattle.pb_core.specs.Indexes.{Places, has_place, is_ready, IsIndexOf, HoldsOnly, AddsPlace, waits_at}
-use Rattle.pb_core.specs.Hosts.{IsPlaceAt, place_in, location_in, PlaySize, Fits, IsStage, IsHost, IsHostAt}
+use Rattle.pb_core.specs.Hosts.{ticket_of, IsPlaceAt, place_in, location_in, PlaySize, Fits, IsStage, IsHost, IsHostAt}
 use Rattle.pb_core.specs.Entries.{is_here, on_at, any_on, is_in, Begins, BeginsAt, EntryIf, EntryFor, or_else, found_one, found, with_entry, is_at, waits_in, AllBegin, HaveEntries, AddsEntry, AreOthersGone, AreHosts, IsHere, IsAnyHere, IsEntry, AreEntries, entered}
-use Rattle.pb_core.specs.Cores.{IsPlay, IsBatch, AreBatches, size_of, IsCore, play_of}
+use Rattle.pb_core.specs.Cores.{IsPlay, IsBatch, AreBatches, size_of, IsCore, scheduled_batches, scheduled_plays, play_of}
 use Rattle.pb_core.specs.Events.{RunsBatch}
 use Rattle.pb_core.proofs.Hosts.{as_same, host_there, host_missing, set_here, set_there, apart, activity_at, no_activity, waits_where, stands_there, arrived_fits, arrived_kept, arrived_no_run}
 use Rattle.pb_core.proofs.Indexes.{holds_only}
@@ -127,21 +129,20 @@ is_of m None i = tt
 is_of m (Some d) i = i
 
 -- the host where its entry says
-abbrev pub placed : {V P : Type 0} → HostState V P → (e : Entry) → handlers_of e.position ≡ e.handlers → HostState V P
+abbrev pub placed : {P : Type 0} → HostState P → (e : Entry) → handlers_of e.position ≡ e.handlers → HostState P
 placed x e room = record {
   position = e.position;
   handlers = e.handlers;
-  stage = Waits;
-  variables = x.variables;
+  stage = x.stage;
   recap = x.recap;
   room = room;
 }
 
-module _ {V P : Type 0} where
-  pub entries_none : (play : RunPlay) (xs : List (HostState V P)) → AreEntries play [] xs []
+module _ {P : Type 0} where
+  pub entries_none : (play : RunPlay) (xs : List (HostState P)) → AreEntries play [] xs []
   entries_none play xs reading z hs are = record { each = λ k. refl; all = tt }
 
-  pub entries_by : (play : RunPlay) (ms ds : List ℕ) (i : ℕ) (xs ys : List (HostState V P)) (es fs : List Entry) (m : ℕ) (e : Option Entry)
+  pub entries_by : (play : RunPlay) (ms ds : List ℕ) (i : ℕ) (xs ys : List (HostState P)) (es fs : List Entry) (m : ℕ) (e : Option Entry)
       → AreEntries play (take i ms) xs es → IsEntry play xs m e → IfSome e (λ d. d.host ≡ m) → m ≡ get_or ms i 0 → i < length ms → fs ≡ with_entry es e → AreEntries play (take (i + 1) ms) xs fs
   entries_by play ms ds i xs ys es fs m e are entry host here few made reading z hs i_hosts =
       let last : take (i + 1) ms ≡ take i ms ++ m ∷ [] = take_more ms i 0 few ∙ ap (λ n. take i ms ++ n ∷ []) (sym here) in
@@ -149,7 +150,7 @@ module _ {V P : Type 0} where
       (entries_more play (take i ms) hs es m e (are reading z hs i_hosts) (entry reading z hs i_hosts) (is_of m e host)))
 
   -- the hosts begin
-  entered_twice : (f c : Option Entry) (o : Option (HostState V P)) → entered (or_else f c) o ≡ entered f (entered c o)
+  entered_twice : (f c : Option Entry) (o : Option (HostState P)) → entered (or_else f c) o ≡ entered f (entered c o)
   entered_twice None c None = refl
   entered_twice (Some p) c None = refl
   entered_twice None None (Some x) = refl
@@ -157,17 +158,17 @@ module _ {V P : Type 0} where
   entered_twice (Some p) None (Some x) = refl
   entered_twice (Some p) (Some q) (Some x) = refl
 
-  pub entered_last : (k : ℕ) (es : List Entry) (e : Entry) (o : Option (HostState V P)) → entered (found k (es ++ e ∷ [])) o ≡ entered (found k es) (entered (found_one k e) o)
+  pub entered_last : (k : ℕ) (es : List Entry) (e : Entry) (o : Option (HostState P)) → entered (found k (es ++ e ∷ [])) o ≡ entered (found k es) (entered (found_one k e) o)
   entered_last k es e o = ap (λ p. entered p o) (found_more k es e) ∙ entered_twice (found k es) (found_one k e) o
 
-  pub entered_none : (o : Option (HostState V P)) → entered None o ≡ o
+  pub entered_none : (o : Option (HostState P)) → entered None o ≡ o
   entered_none None = refl
   entered_none (Some x) = refl
 
-  pub entered_all : (k : ℕ) (es : List Entry) (o : Option (HostState V P)) → es ≡ [] → o ≡ entered (found k es) o
+  pub entered_all : (k : ℕ) (es : List Entry) (o : Option (HostState P)) → es ≡ [] → o ≡ entered (found k es) o
   entered_all k es o e = sym (ap (λ ds. entered (found k ds) o) e ∙ entered_none o)
 
-  pub enters_past : (xs : List (HostState V P)) (e : Entry) → slice_get xs e.host ≡ None → (k : ℕ) → slice_get xs k ≡ entered (found_one k e) (slice_get xs k)
+  pub enters_past : (xs : List (HostState P)) (e : Entry) → slice_get xs e.host ≡ None → (k : ℕ) → slice_get xs k ≡ entered (found_one k e) (slice_get xs k)
   enters_past xs e past k = by (nat_eq k e.host) refl where
     by : (q : Bool) → nat_eq k e.host ≡ q → slice_get xs k ≡ entered (cond q (Some e) None) (slice_get xs k)
     by true same =
@@ -175,7 +176,7 @@ module _ {V P : Type 0} where
         gone ∙ sym (ap (entered (Some e)) gone)
     by false other = sym (entered_none (slice_get xs k))
 
-  pub enters_one : (xs : List (HostState V P)) (x : HostState V P) (e : Entry) (room : handlers_of e.position ≡ e.handlers) → slice_get xs e.host ≡ Some x
+  pub enters_one : (xs : List (HostState P)) (x : HostState P) (e : Entry) (room : handlers_of e.position ≡ e.handlers) → slice_get xs e.host ≡ Some x
       → (k : ℕ) → slice_get (set xs e.host (placed x e room)) k ≡ entered (found_one k e) (slice_get xs k)
   enters_one xs x e room there k = by (nat_eq k e.host) refl where
     is : Some (placed x e room) ≡ entered (Some e) (Some x)
@@ -186,6 +187,23 @@ module _ {V P : Type 0} where
         subst (λ j. slice_get (set xs e.host (placed x e room)) j ≡ entered (Some e) (slice_get xs j)) (sym (eqb-true k e.host same))
         (set_here xs e.host x (placed x e room) there ∙ is ∙ sym (ap (entered (Some e)) there))
     by false other = set_there xs e.host k (placed x e room) (λ f. apart k e.host other (sym f)) ∙ sym (entered_none (slice_get xs k))
+
+abbrev ticket_at : {P : Type 0} → Option (HostState P) → Option (Option ℕ)
+ticket_at o = option_map (λ x. ticket_of x.stage) o
+
+tickets_by : {P : Type 0} → (xs ys : List (HostState P)) → ((k : ℕ) → ticket_at (slice_get ys k) ≡ ticket_at (slice_get xs k)) → map (λ x. ticket_of x.stage) ys ≡ map (λ x. ticket_of x.stage) xs
+tickets_by [] [] same = refl
+tickets_by [] (y ∷ ys) same = let no = same 0 in cc
+tickets_by (x ∷ xs) [] same = let no = same 0 in cc
+tickets_by (x ∷ xs) (y ∷ ys) same = ap₂ (λ t ts. t ∷ ts) (ap (λ o. unwrap_or o (ticket_of x.stage)) (same 0)) (tickets_by xs ys (λ k. same (suc k)))
+
+entered_ticket : {P : Type 0} → (e : Option Entry) (o : Option (HostState P)) → ticket_at (entered e o) ≡ ticket_at o
+entered_ticket e None = refl
+entered_ticket None (Some x) = refl
+entered_ticket (Some d) (Some x) = refl
+
+pub entered_tickets : {P : Type 0} → (es : List Entry) (xs ys : List (HostState P)) → ((k : ℕ) → slice_get ys k ≡ entered (found k es) (slice_get xs k)) → map (λ x. ticket_of x.stage) ys ≡ map (λ x. ticket_of x.stage) xs
+entered_tickets es xs ys new = tickets_by xs ys (λ k. ap ticket_at (new k) ∙ entered_ticket (found k es) (slice_get xs k))
 
 pub no_entries : (es : List Entry) (n : ℕ) → n ≡ length es → (0 < n → false ≡ true) → es ≡ []
 no_entries [] n e h = refl
@@ -279,17 +297,17 @@ active_at g [] k e = refl
 active_at g (h ∷ hs) zero e = ap₂ (λ a b. (is_on h && a) || b) (e 0 h refl) (active_none g hs (λ j i f. e (suc j) i f ∙ zero_suc j)) ∙ and_true (is_on h)
 active_at g (h ∷ hs) (suc k) e = ap₂ (λ a b. (is_on h && a) || b) (e 0 h refl ∙ suc_zero k) (active_at g hs k (λ j i f. e (suc j) i f ∙ suc_suc k j)) ∙ and_false (is_on h) (on_at (host_at k hs))
 
-module _ {V P : Type 0} (reading : Reading V P) (z : PlaySize) where
-  named : (n : Name) (o : Option (HostState V P)) (p : Option FlatHost) (h : FlatHost) → IsHostAt reading z n o p → p ≡ Some h → h.name ≡ n
+module _ {P : Type 0} (reading : Reading P) (z : PlaySize) where
+  named : (n : ℕ) (o : Option (HostState P)) (p : Option FlatHost) (h : FlatHost) → IsHostAt reading z n o p → p ≡ Some h → h.name ≡ reading.name n
   named n o None h i e = cc
   named n None (Some g) h i e = absurd i
   named n (Some x) (Some g) h i e = let same : g ≡ h = cc in ap (λ (f : FlatHost). f.name) (sym same) ∙ i.name_is
 
-  active_here : (xs : List (HostState V P)) (hs : List FlatHost) (k : ℕ) → AreHosts reading z xs hs → is_active_host (reading.name k) hs ≡ on_at (host_at k hs)
+  pub active_here : (xs : List (HostState P)) (hs : List FlatHost) (k : ℕ) → AreHosts reading z xs hs → is_active_host (reading.name k) hs ≡ on_at (host_at k hs)
   active_here xs hs k i =
-      active_at (reading.name k) hs k (λ j h f. ap (bytes_eq (reading.name k)) (named (reading.name j) (slice_get xs j) (host_at j hs) h (i j) f) ∙ reading.distinct k j)
+      active_at (reading.name k) hs k (λ j h f. ap (bytes_eq (reading.name k)) (named j (slice_get xs j) (host_at j hs) h (i j) f) ∙ reading.distinct k j)
 
-  pub any_active : (xs : List (HostState V P)) (hs : List FlatHost) (ms : List ℕ) → AreHosts reading z xs hs → any_names (still_active hs (map reading.name ms)) ≡ any_on hs ms
+  pub any_active : (xs : List (HostState P)) (hs : List FlatHost) (ms : List ℕ) → AreHosts reading z xs hs → any_names (still_active hs (map reading.name ms)) ≡ any_on hs ms
   any_active xs hs [] i = refl
   any_active xs hs (m ∷ ms) i =
       one (is_active_host (reading.name m) hs) (reading.name m) (still_active hs (map reading.name ms))
@@ -327,7 +345,7 @@ idle_fits z n (stands left_play) e = tt
 idle_fits z n (stands (at m)) e = untrue e
 idle_fits z n (works m i ps) e = untrue e
 
-idle_is : (ss : List flat.Step) (g : FlatStage) → is_idle g ≡ true → activity_in ss g ≡ idle
+pub idle_is : (ss : List flat.Step) (g : FlatStage) → is_idle g ≡ true → activity_in ss g ≡ idle
 idle_is ss (stands at_end) e = refl
 idle_is ss (stands left_play) e = refl
 idle_is ss (stands (at m)) e = untrue e
@@ -365,7 +383,7 @@ ready_waits : (p : ℕ) (o : Option ℕ) → is_ready p (Some (waits_at o)) ≡ 
 ready_waits p None = refl
 ready_waits p (Some q) = refl
 
-module _ {V P : Type 0} (reading : Reading V P) (z : PlaySize) (play : RunPlay) (b : program.Batch) (later : List program.Batch) (is : IsPlay play b.play) where
+module _ {P : Type 0} (reading : Reading P) (z : PlaySize) (play : RunPlay) (b : program.Batch) (later : List program.Batch) (is : IsPlay play b.play) where
   abbrev there : FlatHost → FlatHost
   there h = arrived (plan_steps b) (play_begin b.play.row) (record h { marks = []; rescues = []; holds = [] })
 
@@ -373,21 +391,26 @@ module _ {V P : Type 0} (reading : Reading V P) (z : PlaySize) (play : RunPlay) 
   at_there h e i =
       subst (λ (t : flat.Target). IsAt e.position (arrived (plan_steps b) t (record h { marks = []; rescues = []; holds = [] }))) (ap (λ x. x.begin) is.plan) (i.host (plan_steps b) (kept_steps play b.play is))
 
-  begun_host : (name : Name) (x : HostState V P) (h : FlatHost) (e : Entry) → IsHost reading z name x h → Begins play h e
-      → IsHost reading (size_of (b ∷ later)) name (record { position = e.position; handlers = e.handlers; stage = Waits; variables = x.variables; recap = x.recap; room = e.room }) (there h)
-  begun_host name x h e i begins =
+  idle_stage : (x : Stage P) (g : FlatStage) (l : machine.Location) → IsStage reading x g → is_idle g ≡ true → IsStage reading x (stands l)
+  idle_stage Waits g l i e = tt
+  idle_stage (Runs t n c ps) (stands m) l i e = absurd i
+  idle_stage (Runs t n c ps) (works m j qs) l i e = untrue e
+
+  begun_host : (k : ℕ) (x : HostState P) (h : FlatHost) (e : Entry) → IsHost reading z k x h → is_idle h.stage ≡ true → Begins play h e
+      → IsHost reading (size_of (b ∷ later)) k (record { position = e.position; handlers = e.handlers; stage = x.stage; recap = x.recap; room = e.room }) (there h)
+  begun_host k x h e i q begins =
       let at_play = at_there h e begins in
       let kept = arrived_kept (plan_steps b) (play_begin b.play.row) (record h { marks = []; rescues = []; holds = [] }) in record {
         position = stands_there e.position (there h) at_play;
-        stage = subst (IsStage reading Waits) (sym at_play.stage) tt;
+        stage = subst (IsStage reading x.stage) (sym at_play.stage) (idle_stage x.stage h.stage _ i.stage q);
         fits = arrived_fits (size_of (b ∷ later)) e.handlers (plan_steps b) (play_begin b.play.row) (record h { marks = []; rescues = []; holds = [] }) (begins.handlers ∙ is.handlers) refl;
         name_is = kept.name ∙ i.name_is;
         variables = kept.variables ∙ i.variables;
         recap = kept.recap ∙ i.recap;
       }
 
-  idle_host : (y : PlaySize) (name : Name) (x : HostState V P) (h : FlatHost) → IsHost reading z name x h → is_idle h.stage ≡ true → IsHost reading y name x h
-  idle_host y name x h i e = record {
+  idle_host : (y : PlaySize) (k : ℕ) (x : HostState P) (h : FlatHost) → IsHost reading z k x h → is_idle h.stage ≡ true → IsHost reading y k x h
+  idle_host y k x h i e = record {
     position = i.position;
     stage = i.stage;
     fits = idle_fits y x.handlers h.stage e;
@@ -396,10 +419,10 @@ module _ {V P : Type 0} (reading : Reading V P) (z : PlaySize) (play : RunPlay) 
     recap = i.recap;
   }
 
-  by_entry : (name : Name) (x : HostState V P) (h : FlatHost) (w : Bool) (e : Option Entry) → IsHost reading z name x h → is_idle h.stage ≡ true → EntryIf play w (Some h) e → IsHostAt reading (size_of (b ∷ later)) name (entered e (Some x)) (Some (cond w (there h) h))
-  by_entry name x h true None i q begins = absurd begins
-  by_entry name x h true (Some e) i q begins = begun_host name x h e i begins
-  by_entry name x h false e i q none = subst (λ (d : Option Entry). IsHostAt reading (size_of (b ∷ later)) name (entered d (Some x)) (Some h)) (sym none) (idle_host (size_of (b ∷ later)) name x h i q)
+  by_entry : (k : ℕ) (x : HostState P) (h : FlatHost) (w : Bool) (e : Option Entry) → IsHost reading z k x h → is_idle h.stage ≡ true → EntryIf play w (Some h) e → IsHostAt reading (size_of (b ∷ later)) k (entered e (Some x)) (Some (cond w (there h) h))
+  by_entry k x h true None i q begins = absurd begins
+  by_entry k x h true (Some e) i q begins = begun_host k x h e i q begins
+  by_entry k x h false e i q none = subst (λ (d : Option Entry). IsHostAt reading (size_of (b ∷ later)) k (entered d (Some x)) (Some h)) (sym none) (idle_host (size_of (b ∷ later)) k x h i q)
 
   and_swap : (a c : Bool) → a && c ≡ c && a
   and_swap true true = refl
@@ -411,20 +434,20 @@ module _ {V P : Type 0} (reading : Reading V P) (z : PlaySize) (play : RunPlay) 
   member k ms h members name =
       and_swap (is_on h) (is_among h.name b.members) ∙ ap (λ a. a && is_on h) (ap₂ is_among name members ∙ among reading z k ms)
 
-  entered_host : (k : ℕ) (ms : List ℕ) (o : Option (HostState V P)) (p : Option FlatHost) (e : Option Entry) → b.members ≡ map reading.name ms → IsHostAt reading z (reading.name k) o p → ((h : FlatHost) → p ≡ Some h → is_idle h.stage ≡ true)
-      → EntryFor play (is_in k ms) p e → IsHostAt reading (size_of (b ∷ later)) (reading.name k) (entered e o) (begun_opt b p)
+  entered_host : (k : ℕ) (ms : List ℕ) (o : Option (HostState P)) (p : Option FlatHost) (e : Option Entry) → b.members ≡ map reading.name ms → IsHostAt reading z k o p → ((h : FlatHost) → p ≡ Some h → is_idle h.stage ≡ true)
+      → EntryFor play (is_in k ms) p e → IsHostAt reading (size_of (b ∷ later)) k (entered e o) (begun_opt b p)
   entered_host k ms None None e members i q entry = tt
   entered_host k ms None (Some h) e members i q entry = absurd i
   entered_host k ms (Some x) None e members i q entry = absurd i
   entered_host k ms (Some x) (Some h) e members i q entry =
-      subst (λ w. IsHostAt reading (size_of (b ∷ later)) (reading.name k) (entered e (Some x)) (Some (cond w (there h) h))) (sym (member k ms h members i.name_is))
-      (by_entry (reading.name k) x h (is_in k ms && is_on h) e i (q h refl) entry)
+      subst (λ w. IsHostAt reading (size_of (b ∷ later)) k (entered e (Some x)) (Some (cond w (there h) h))) (sym (member k ms h members i.name_is))
+      (by_entry k x h (is_in k ms && is_on h) e i (q h refl) entry)
 
-  pub hosts_begun : (ms : List ℕ) (xs ys : List (HostState V P)) (hs : List FlatHost) (es : List Entry) → b.members ≡ map reading.name ms → AreHosts reading z xs hs → all_idle hs ≡ true → HaveEntries play ms hs es
+  pub hosts_begun : (ms : List ℕ) (xs ys : List (HostState P)) (hs : List FlatHost) (es : List Entry) → b.members ≡ map reading.name ms → AreHosts reading z xs hs → all_idle hs ≡ true → HaveEntries play ms hs es
       → ((k : ℕ) → slice_get ys k ≡ entered (found k es) (slice_get xs k)) → AreHosts reading (size_of (b ∷ later)) ys (all_begun b hs)
   hosts_begun ms xs ys hs es members i q entries new k =
-      subst (λ (o : Option (HostState V P)). IsHostAt reading (size_of (b ∷ later)) (reading.name k) o (host_at k (all_begun b hs))) (sym (new k))
-      (subst (λ (p : Option FlatHost). IsHostAt reading (size_of (b ∷ later)) (reading.name k) (entered (found k es) (slice_get xs k)) p) (sym (begun_at b hs k))
+      subst (λ (o : Option (HostState P)). IsHostAt reading (size_of (b ∷ later)) k o (host_at k (all_begun b hs))) (sym (new k))
+      (subst (λ (p : Option FlatHost). IsHostAt reading (size_of (b ∷ later)) k (entered (found k es) (slice_get xs k)) p) (sym (begun_at b hs k))
       (entered_host k ms (slice_get xs k) (host_at k hs) (found k es) members (i k) (λ h f. idle_at hs k h q f) (entries.each k)))
 
   -- and their index
@@ -448,7 +471,7 @@ module _ {V P : Type 0} (reading : Reading V P) (z : PlaySize) (play : RunPlay) 
   by_activity p h false e q none =
       ap (λ (d : Option Entry). is_some d && is_at p (place_in (plan_steps b) (there h).stage)) none ∙ sym (ap (λ a. is_ready p (Some a)) (idle_is (plan_steps b) h.stage q))
 
-  waits_same : (ms : List ℕ) (xs : List (HostState V P)) (hs : List FlatHost) (es : List Entry) (p k : ℕ) → b.members ≡ map reading.name ms → AreHosts reading z xs hs → all_idle hs ≡ true → HaveEntries play ms hs es
+  waits_same : (ms : List ℕ) (xs : List (HostState P)) (hs : List FlatHost) (es : List Entry) (p k : ℕ) → b.members ≡ map reading.name ms → AreHosts reading z xs hs → all_idle hs ≡ true → HaveEntries play ms hs es
       → waits_in p k es ≡ is_ready p (slice_get (activities (plan_steps b) (all_begun b hs)) k)
   waits_same ms xs hs es p k members i q entries = by (host_at k hs) refl where
     by : (o : Option FlatHost) → host_at k hs ≡ o → waits_in p k es ≡ is_ready p (slice_get (activities (plan_steps b) (all_begun b hs)) k)
@@ -459,22 +482,22 @@ module _ {V P : Type 0} (reading : Reading V P) (z : PlaySize) (play : RunPlay) 
           no_and true = refl
           no_and false = refl
     by (Some h) e =
-        let name = named reading z (reading.name k) (slice_get xs k) (host_at k hs) h (i k) e in
+        let name = named reading z k (slice_get xs k) (host_at k hs) h (i k) e in
         let entry : EntryFor play (is_in k ms) (Some h) (found k es) = subst (λ o. EntryFor play (is_in k ms) o (found k es)) e (entries.each k) in
         waits_found (place_in (plan_steps b) (there h).stage) p k es (all_at hs k h es e entries.all)
         ∙ by_activity p h (is_in k ms && is_on h) (found k es) (idle_at hs k h q e) entry
         ∙ ap (λ w. is_ready p (Some (activity_in (plan_steps b) (cond w (there h) h).stage))) (sym (member k ms h members name))
         ∙ sym (ap (is_ready p) (activity_at (plan_steps b) (all_begun b hs) k (begun b h) (begun_at b hs k ∙ ap (begun_opt b) e)))
 
-  pub index_begun : (ms : List ℕ) (xs : List (HostState V P)) (hs : List FlatHost) (es : List Entry) (x : ReadyIndex) → b.members ≡ map reading.name ms → AreHosts reading z xs hs → all_idle hs ≡ true → HaveEntries play ms hs es
+  pub index_begun : (ms : List ℕ) (xs : List (HostState P)) (hs : List FlatHost) (es : List Entry) (x : ReadyIndex) → b.members ≡ map reading.name ms → AreHosts reading z xs hs → all_idle hs ≡ true → HaveEntries play ms hs es
       → HoldsOnly (λ place host. waits_in place host es) x → IsIndexOf x (activities (plan_steps b) (all_begun b hs))
   index_begun ms xs hs es x members i q entries holds =
       holds_only (λ place host. waits_in place host es) x (activities (plan_steps b) (all_begun b hs)) holds (none_run b hs q) (λ p k. waits_same ms xs hs es p k members i q entries)
 
-module _ {V P : Type 0} (old : RunCore V P) where
-  idle_rebound : (reading : Reading V P) (z y : PlaySize) (xs : List (HostState V P)) (hs : List FlatHost) → AreHosts reading z xs hs → all_idle hs ≡ true → AreHosts reading y xs hs
+module _ {P : Type 0} (old : RunCore P) where
+  idle_rebound : (reading : Reading P) (z y : PlaySize) (xs : List (HostState P)) (hs : List FlatHost) → AreHosts reading z xs hs → all_idle hs ≡ true → AreHosts reading y xs hs
   idle_rebound reading z y xs hs i q k = by (slice_get xs k) (host_at k hs) refl (i k) where
-    by : (o : Option (HostState V P)) (p : Option FlatHost) → host_at k hs ≡ p → IsHostAt reading z (reading.name k) o p → IsHostAt reading y (reading.name k) o p
+    by : (o : Option (HostState P)) (p : Option FlatHost) → host_at k hs ≡ p → IsHostAt reading z k o p → IsHostAt reading y k o p
     by None None e j = tt
     by None (Some h) e j = absurd j
     by (Some x) None e j = absurd j
@@ -487,32 +510,32 @@ module _ {V P : Type 0} (old : RunCore V P) where
       recap = j.recap;
     }
 
-  ended : (reading : Reading V P) (s : FlatState) (n : ℕ) (bs : List program.Batch) → IsCore reading old s → all_idle s.hosts ≡ true → drop n old.batches.items ≡ [] → bs ≡ [] → IsCore reading (record old { current = n }) (with_batches s bs)
+  ended : (reading : Reading P) (s : FlatState) (n : ℕ) (bs : List program.Batch) → IsCore reading old s → all_idle s.hosts ≡ true → drop n (scheduled_batches old) ≡ [] → bs ≡ [] → IsCore reading (record old { current = n }) (with_batches s bs)
   ended reading s n bs i q e f = subst (λ xs. IsCore reading (record old { current = n }) (with_batches s xs)) (sym f) (record {
     hosts = idle_rebound reading (size_of s.batches) (size_of []) old.hosts.items s.hosts i.hosts q;
-    batches = subst (λ cs. AreBatches reading.name old.plays.items cs []) (sym e) tt;
+    batches = subst (λ cs. AreBatches reading.name (scheduled_plays old) cs []) (sym e) tt;
     index = subst (IsIndexOf old.index) (idle_activities (current_steps s.batches) [] s.hosts q) i.index;
     forks = i.forks;
     handed = i.handed;
     stopped = i.stopped;
   })
 
-  pub runs_none : (n : ℕ) → drop n old.batches.items ≡ [] → RunsBatch n old (record old { current = n })
-  runs_none n e reading s bs i q are = ended reading s n bs i q e (no_batches reading.name old.plays.items (drop n old.batches.items) bs e are)
+  pub runs_none : (n : ℕ) → drop n (scheduled_batches old) ≡ [] → RunsBatch n old (record old { current = n })
+  runs_none n e reading s bs i q are = ended reading s n bs i q e (no_batches reading.name (scheduled_plays old) (drop n (scheduled_batches old)) bs e are)
 
-  pub runs_on : (hosts : Vec (HostState V P)) (index : ReadyIndex) (es : List Entry) (d : Batch) (play : RunPlay) (n : ℕ)
-      → slice_get old.batches.items n ≡ Some d → play_of old n ≡ Some play → AreEntries play d.members.items old.hosts.items es → HoldsOnly (λ place host. waits_in place host es) index
+  pub runs_on : (hosts : Vec (HostState P)) (index : ReadyIndex) (es : List Entry) (d : Batch) (play : RunPlay) (n : ℕ)
+      → slice_get (scheduled_batches old) n ≡ Some d → play_of old n ≡ Some play → AreEntries play d.members.items old.hosts.items es → HoldsOnly (λ place host. waits_in place host es) index
       → ((k : ℕ) → slice_get hosts.items k ≡ entered (found k es) (slice_get old.hosts.items k)) → RunsBatch n old (record old { current = n; hosts = hosts; index = index })
   runs_on hosts index es d play n e f entries holds new reading s bs i q are =
-      let found = play_is reading.name old.plays.items old.batches.items n play bs are f in
+      let found = play_is reading.name (scheduled_plays old) (scheduled_batches old) n play bs are f in
       let b = found.0 in
       let later = found.1 in
       let same : found.2 ≡ d = ap (λ (o : Option Batch). batch_or o d) (sym found.4 ∙ e) in
-      let is_batch : IsBatch reading.name old.plays.items d found.0 = subst (λ c. IsBatch reading.name old.plays.items c found.0) same found.5 in
+      let is_batch : IsBatch reading.name (scheduled_plays old) d found.0 = subst (λ c. IsBatch reading.name (scheduled_plays old) c found.0) same found.5 in
       let have = entries reading (size_of s.batches) s.hosts i.hosts in
       subst (λ cs. IsCore reading (record old { current = n; hosts = hosts; index = index }) (with_batches s cs)) (sym found.3) (record {
         hosts = hosts_begun reading (size_of s.batches) play b later found.6 d.members.items old.hosts.items hosts.items s.hosts es is_batch.members i.hosts q have new;
-        batches = subst (λ cs. AreBatches reading.name old.plays.items cs (b ∷ later)) (sym (drop_at old.batches.items n d e)) (is_batch, found.7);
+        batches = subst (λ cs. AreBatches reading.name (scheduled_plays old) cs (b ∷ later)) (sym (drop_at (scheduled_batches old) n d e)) (is_batch, found.7);
         index = index_begun reading (size_of s.batches) play b later found.6 d.members.items old.hosts.items s.hosts es index is_batch.members i.hosts q have holds;
         forks = i.forks;
         handed = i.handed;
@@ -534,11 +557,11 @@ here_is (works m i ps) End e = cc
 here_is (works m i ps) Left e = cc
 here_is (works m i ps) (Node n) e = refl
 
-module _ {V P : Type 0} (xs : List (HostState V P)) (k : ℕ) where
+module _ {P : Type 0} (xs : List (HostState P)) (k : ℕ) where
   pub here_past : slice_get xs k ≡ None → IsHere xs k false
   here_past e reading z hs are = sym (ap on_at (host_missing reading z xs hs k are e))
 
-  pub here_by : (x : HostState V P) (l : Location) (q : Bool) → slice_get xs k ≡ Some x → ((h : FlatHost) → IsAt x.position h → h.stage ≡ stands (location_view l)) → is_here l ≡ q → IsHere xs k q
+  pub here_by : (x : HostState P) (l : Location) (q : Bool) → slice_get xs k ≡ Some x → ((h : FlatHost) → IsAt x.position h → h.stage ≡ stands (location_view l)) → is_here l ≡ q → IsHere xs k q
   here_by x l q e where_is here reading z hs are =
       let at = host_there reading z xs hs k x are e in
       sym here ∙ sym (ap on_at at.1 ∙ here_is at.0.stage l (where_is (record at.0 { stage = stands (location_in at.0.stage) }) at.2.position))
@@ -549,7 +572,7 @@ module _ {V P : Type 0} (xs : List (HostState V P)) (k : ℕ) where
   pub entry_left : (play : RunPlay) → IsHere xs k false → IsEntry play xs k None
   entry_left play left reading z hs are = subst (λ q. EntryIf play q (host_at k hs) None) (left reading z hs are) refl
 
-  pub entry_here : (play : RunPlay) (steps : List Step) (x : HostState V P) (e : Entry) → slice_get xs k ≡ Some x → IsHere xs k true → steps ≡ play.plan.steps.items → BeginsPlay steps play.plan.begin x.position e.position → IsPlaceAt play.plan.steps.items e.position e.place → e.handlers ≡ play.plan.handlers
+  pub entry_here : (play : RunPlay) (steps : List Step) (x : HostState P) (e : Entry) → slice_get xs k ≡ Some x → IsHere xs k true → steps ≡ play.plan.steps.items → BeginsPlay steps play.plan.begin x.position e.position → IsPlaceAt play.plan.steps.items e.position e.place → e.handlers ≡ play.plan.handlers
       → IsEntry play xs k (Some e)
   entry_here play steps x e there here same begins place handlers reading z hs are =
       let at = host_there reading z xs hs k x are there in
@@ -566,7 +589,7 @@ drop_next [] i h = absurd (omega arith)
 drop_next (m ∷ ms) zero h = refl
 drop_next (m ∷ ms) (suc i) h = drop_next ms i (omega arith) ∙ ap (λ n. get_or ms i 0 ∷ drop n (m ∷ ms)) (let next : suc (i + 1) ≡ suc i + 1 = omega arith in next)
 
-module _ {V P : Type 0} (xs : List (HostState V P)) (ms : List ℕ) (i : ℕ) (gone : AreOthersGone xs ms (drop i ms)) where
+module _ {P : Type 0} (xs : List (HostState P)) (ms : List ℕ) (i : ℕ) (gone : AreOthersGone xs ms (drop i ms)) where
   pub gone_more : i < length ms → IsHere xs (get_or ms i 0) false → AreOthersGone xs ms (drop (i + 1) ms)
   gone_more few left reading z hs are =
       gone reading z hs are ∙ ap (any_on hs) (drop_next ms i few) ∙ ap (λ q. q || any_on hs (drop (i + 1) ms)) (sym (left reading z hs are))

@@ -1,0 +1,5 @@
+pub mod Starts
+pub mod Turns
+pub mod Histories
+pub mod Numbers
+pub mod Actives

@@ -1,0 +1,32 @@
+use Rattle.std.proofs.Common.{map, get_or, ap, subst, ◌∙◌}
+use Rattle.pb_finish.specs.Answers.{answer_data}
+use Rattle.pb_jobs.specs.Machines.{AreCallsOf}
+use Rattle.pb_jobs.proofs.Finishes.{comes_so, none_more}
+use Rattle.pb_jobs.proofs.machine.Machine.give.Goals as goal
+
+pub returns-in_ok-leave-in-Left-clause-gives : goal.returns-in_ok-leave-in-Left-clause-gives
+returns-in_ok-leave-in-Left-clause-gives c = λ reading s is w fine.
+    let known = comes_so c.args.self.now c.look.new.self c.in-Some.batch c.scene.result c.args.host c.args.answers.now c.in_ok-finished.finished _
+    c.look.ensures.same c.in-Some.is c.scene.ensures c.in_ok-finished.ensures c.in-Left.is reading s is w fine in
+    (c.in_ok-leave-in-Left.ensures.leaves reading s known.0 w (map answer_data c.args.answers.now) known.1, tt)
+
+pub returns-in_ok-leave-in-Left-clause-counts : goal.returns-in_ok-leave-in-Left-clause-counts
+returns-in_ok-leave-in-Left-clause-counts c =
+    ap (λ v. v.items) (c.in_ok-leave-in-Left.ensures.counts ∙ c.look.ensures.same.calls) ∙ none_more c.args.self.now.calls.items c.args.host
+
+pub returns-in_ok-calls-in-Again-clause-gives : goal.returns-in_ok-calls-in-Again-clause-gives
+returns-in_ok-calls-in-Again-clause-gives c = λ reading s is w fine.
+    let known = comes_so c.args.self.now c.look.new.self c.in-Some.batch c.scene.result c.args.host c.args.answers.now c.in_ok-finished.finished _
+    c.look.ensures.same c.in-Some.is c.scene.ensures c.in_ok-finished.ensures c.in-Again.is reading s is w fine in
+    let given = c.in_ok-calls-in-Again.ensures.repeats reading s known.0 w (map answer_data c.args.answers.now) known.1 in
+    (given.0, subst (λ n. AreCallsOf w n c.in_ok-calls-in-Again.calls.items) (ap (λ v. get_or v.items c.args.host 0) c.look.ensures.same.calls) given.1)
+
+pub returns-in_ok-settle-in-Ended-clause-gives : goal.returns-in_ok-settle-in-Ended-clause-gives
+returns-in_ok-settle-in-Ended-clause-gives c = λ reading s is w fine.
+    let known = comes_so c.args.self.now c.look.new.self c.in-Some.batch c.scene.result c.args.host c.args.answers.now c.in_ok-finished.finished _
+    c.look.ensures.same c.in-Some.is c.scene.ensures c.in_ok-finished.ensures c.in-Ended.is reading s is w fine in
+    (c.in_ok-settle-in-Ended.ensures.settles reading s known.0 w (map answer_data c.args.answers.now) known.1, tt)
+
+pub returns-in_ok-settle-in-Ended-clause-counts : goal.returns-in_ok-settle-in-Ended-clause-counts
+returns-in_ok-settle-in-Ended-clause-counts c =
+    ap (λ v. v.items) (c.in_ok-settle-in-Ended.ensures.counts ∙ c.look.ensures.same.calls) ∙ none_more c.args.self.now.calls.items c.args.host

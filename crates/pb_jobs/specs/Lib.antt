@@ -1,0 +1,5 @@
+pub mod Calls
+pub mod Active
+pub mod Scenes
+pub mod Tasks
+pub mod Machines

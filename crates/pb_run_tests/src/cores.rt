@@ -1,11 +1,13 @@
 // A run of two hosts over a play of two tasks, event by event. What is expected is what the rules
 // say of it.
 ghost use Rattle.std.specs.Prelude.{◌≡◌, IfOk, None, Some, true};
+ghost use Rattle.pb_core.specs.Words.{TurnsTo, tickets_of};
 ghost use Rattle.pb_steps.specs.Words.{all_lead_on};
 
-use pb_core::{Batch, CoreFault, HostState, RunCore, RunPlay, TaskOutcome, TaskStatus};
+use pb_core::{Batch, CoreFault, HostState, RunCore, RunPlay, TaskOutcome, TaskStatus, Turned};
 use pb_flow::Target;
 use pb_position::Location;
+use pb_start::Prepared;
 use pb_steps::{PlaySteps, Step};
 use std::alloc::{AllocError, Global};
 use std::test::Fail;
@@ -48,7 +50,8 @@ fn steps(alloc: Global, begin: &Target) -> Result<Vec<Step>, AllocError>
     Ok(steps)
 }
 
-fn play(alloc: Global) -> Result<RunPlay, AllocError> {
+// A play of two steps, with these tasks.
+pub(crate) fn play(alloc: Global, tasks: Vec<Prepared>) -> Result<RunPlay, AllocError> {
     let begin = target(alloc, Some(1));
     let steps = steps(alloc, &begin)?;
     let plan = PlaySteps {
@@ -58,15 +61,13 @@ fn play(alloc: Global) -> Result<RunPlay, AllocError> {
     };
     Ok(RunPlay {
         plan,
+        tasks,
         is_linear: true,
     })
 }
 
-// Two batches of that play: both hosts, and then the second one alone. Values are numbers.
-fn open(alloc: Global, forks: usize) -> Result<RunCore<u32, u32>, Fail> {
-    let mut plays = Vec::new(alloc);
-    plays.reserve(1)?;
-    plays.push_reserved(play(alloc)?);
+// Two batches of the first play: both hosts, and then the second one alone.
+pub(crate) fn two_batches(alloc: Global) -> Result<Vec<Batch>, AllocError> {
     let both = Batch {
         play: 0,
         members: vec![in alloc; 0, 1]?,
@@ -79,14 +80,22 @@ fn open(alloc: Global, forks: usize) -> Result<RunCore<u32, u32>, Fail> {
     batches.reserve(2)?;
     batches.push_reserved(both);
     batches.push_reserved(second);
-    let variables = vec![in alloc; 10, 20]?;
-    match RunCore::open(alloc, plays, batches, variables, forks) {
+    Ok(batches)
+}
+
+// The two batches of that play. Passes are numbers.
+fn open(alloc: Global, forks: usize) -> Result<RunCore<u32>, Fail> {
+    let mut plays = Vec::new(alloc);
+    plays.reserve(1)?;
+    plays.push_reserved(play(alloc, Vec::new(alloc))?);
+    let batches = two_batches(alloc)?;
+    match RunCore::open(alloc, plays, batches, 2, forks) {
         Ok(core) => Ok(core),
         Err(_) => Err("not opened")?,
     }
 }
 
-fn outcome(alloc: Global, is_changed: bool, has_failed: bool, variables: u32) -> TaskOutcome<u32> {
+fn outcome(alloc: Global, is_changed: bool, has_failed: bool) -> TaskOutcome {
     TaskOutcome {
         status: TaskStatus {
             is_skipped: false,
@@ -97,13 +106,22 @@ fn outcome(alloc: Global, is_changed: bool, has_failed: bool, variables: u32) ->
         },
         text: None,
         notified: Vec::new(alloc),
-        variables,
     }
 }
 
 fn done(answer: Result<(), CoreFault>) -> Result<(), Fail> {
     match answer {
         Ok(()) => Ok(()),
+        Err(_) => Err("refused")?,
+    }
+}
+
+pub(crate) fn turned<P: Drop>(core: &RunCore<P>) -> Result<Turned<P>, Fail>
+    ensures turns { IfOk result (λ t. TurnsTo t.turns core.now t.core) }
+    ensures tickets { IfOk result (λ t. tickets_of t.core ≡ tickets_of core.now) }
+{
+    match core.turned() {
+        Ok(after) => Ok(after),
         Err(_) => Err("refused")?,
     }
 }
@@ -115,7 +133,7 @@ fn is_not_there(answer: Result<(), CoreFault>) -> bool {
     }
 }
 
-fn host_at(core: &RunCore<u32, u32>, host: usize) -> Result<&HostState<u32, u32>, Fail> {
+pub(crate) fn host_at<P>(core: &RunCore<P>, host: usize) -> Result<&HostState<P>, Fail> {
     let hosts = core.hosts();
     if host < hosts.len() {
         Ok(&hosts[host])
@@ -134,14 +152,13 @@ fn two_hosts_go_on_together(rt: HostRuntime) -> Result<(), Fail> {
     assert!(rt; core.ready() == Some(1));
     done(core.begin(1, 8, 1, 1))?;
     assert!(rt; core.ready().is_none());
-    done(core.settle(0, outcome(alloc, true, false, 11)))?;
+    done(core.settle(0, outcome(alloc, true, false)))?;
     assert!(rt; host_at(&core, 0)?.position.location() == Location::Node(2));
     // under `linear` it waits for the other
     assert!(rt; core.ready().is_none());
-    done(core.settle(1, outcome(alloc, false, false, 21)))?;
+    done(core.settle(1, outcome(alloc, false, false)))?;
     assert!(rt; core.ready() == Some(0));
     let first = host_at(&core, 0)?;
-    assert!(rt; first.variables == 11);
     assert!(rt; first.recap.changed == 1);
     Ok(())
 }
@@ -153,27 +170,32 @@ fn a_host_that_fails_leaves(rt: HostRuntime) -> Result<(), Fail> {
     done(core.begin(0, 7, 0, 1))?;
     // one fork alone
     assert!(rt; core.ready().is_none());
-    done(core.again(0))?;
-    done(core.settle(0, outcome(alloc, false, false, 11)))?;
+    done(core.again(0, 1))?;
+    done(core.settle(0, outcome(alloc, false, false)))?;
     assert!(rt; core.ready() == Some(1));
     done(core.begin(1, 8, 1, 1))?;
-    done(core.settle(1, outcome(alloc, false, true, 21)))?;
+    done(core.settle(1, outcome(alloc, false, true)))?;
     assert!(rt; host_at(&core, 1)?.position.location() == Location::Left);
     assert!(rt; host_at(&core, 1)?.recap.failed == 1);
     assert!(rt; core.ready() == Some(0));
     assert!(rt; !core.can_turn());
     done(core.begin(0, 9, 2, 1))?;
-    done(core.settle(0, outcome(alloc, false, false, 12)))?;
+    done(core.settle(0, outcome(alloc, false, false)))?;
     assert!(rt; host_at(&core, 0)?.position.location() == Location::End);
     assert!(rt; host_at(&core, 0)?.recap.ok == 2);
     assert!(rt; core.can_turn());
+    assert!(rt; core.active(alloc)?.len() == 1);
     // the second batch has no host that is left, so the run ends
+    let after = turned(&core)?;
+    assert!(rt; after.turns == 2);
+    assert!(rt; after.core.has_ended());
+    assert!(rt; after.core.batch().is_none());
+    assert!(rt; after.core.play().is_none());
+    assert!(rt; after.core.ready().is_none());
+    // this core stays in its first batch
     done(core.turn())?;
     assert!(rt; core.batch().is_some());
-    done(core.advance())?;
-    assert!(rt; core.batch().is_none());
-    assert!(rt; core.play().is_none());
-    assert!(rt; core.ready().is_none());
+    assert!(rt; core.can_turn());
     Ok(())
 }
 
@@ -182,18 +204,20 @@ fn events_out_of_place_are_refused(rt: HostRuntime) -> Result<(), Fail> {
     let alloc = rt.alloc();
     let mut core = open(alloc, 5)?;
     assert!(rt; is_not_there(core.begin(2, 7, 0, 1)));
-    assert!(rt; is_not_there(core.again(0)));
+    assert!(rt; is_not_there(core.again(0, 1)));
     assert!(rt; is_not_there(core.leave(0, true)));
-    assert!(rt; is_not_there(core.settle(0, outcome(alloc, false, false, 11))));
+    assert!(rt; is_not_there(core.settle(0, outcome(alloc, false, false))));
     assert!(rt; is_not_there(core.turn()));
     done(core.begin(0, 7, 0, 1))?;
     assert!(rt; is_not_there(core.begin(0, 7, 1, 1)));
-    let mut notifies = outcome(alloc, true, false, 11);
+    let mut notifies = outcome(alloc, true, false);
     notifies.notified.push(1)?;
     assert!(rt; is_not_there(core.settle(0, notifies)));
     done(core.leave(0, false))?;
     assert!(rt; host_at(&core, 0)?.recap.unreachable == 1);
+    assert!(rt; !core.is_stopped());
     core.stop();
+    assert!(rt; core.is_stopped());
     assert!(rt; core.ready().is_none());
     assert!(rt; !core.can_turn());
     Ok(())

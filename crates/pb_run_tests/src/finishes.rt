@@ -14,11 +14,11 @@ use std::test::Fail;
 const HOST: &str = r#"{"port": 1, "ready": false}"#;
 
 // A command that ran, and one that failed.
-const RAN: &str = r#"{"changed": true, "rc": 0, "stdout": "a", "stderr": "",
+pub(crate) const RAN: &str = r#"{"changed": true, "rc": 0, "stdout": "a", "stderr": "",
     "stdout_lines": ["a"], "stderr_lines": []}"#;
 
-const FAILED: &str = r#"{"failed": true, "changed": false, "msg": "no", "rc": 1, "stdout": "",
-    "stderr": "", "stdout_lines": [], "stderr_lines": []}"#;
+pub(crate) const FAILED: &str = r#"{"failed": true, "changed": false, "msg": "no", "rc": 1,
+    "stdout": "", "stderr": "", "stdout_lines": [], "stderr_lines": []}"#;
 
 fn fields(alloc: Global, json: &str) -> Result<Fields, Fail> {
     match &read_json(alloc, json.as_bytes())? {
@@ -30,7 +30,7 @@ fn fields(alloc: Global, json: &str) -> Result<Fields, Fail> {
     }
 }
 
-fn conditions(alloc: Global, texts: &[&str]) -> Result<Vec<Expr>, Fail> {
+pub(crate) fn conditions(alloc: Global, texts: &[&str]) -> Result<Vec<Expr>, Fail> {
     let mut all = Vec::new(alloc);
     for text in texts {
         all.push(parse_expr(alloc, text)?)?;
@@ -49,10 +49,11 @@ fn call(alloc: Global, name: &str) -> Result<Action, Fail> {
 }
 
 // A task of this action that registers `out`.
-fn task(alloc: Global, action: Action) -> Result<Prepared, Fail> {
+pub(crate) fn task(alloc: Global, action: Action) -> Result<Prepared, Fail> {
     let register = Arc::new(alloc, String::from_str(alloc, "out")?)?;
     Ok(Prepared {
         names: Vec::new(alloc),
+        names_read_item: false,
         conditions: Vec::new(alloc),
         loop_over: None,
         action,
@@ -61,10 +62,12 @@ fn task(alloc: Global, action: Action) -> Result<Prepared, Fail> {
         failed_when: None,
         attempts: None,
         ignores: false,
+        rescued: false,
+        depth: 0,
     })
 }
 
-fn command(alloc: Global) -> Result<Prepared, Fail> {
+pub(crate) fn command(alloc: Global) -> Result<Prepared, Fail> {
     task(alloc, call(alloc, "command")?)
 }
 
@@ -72,7 +75,7 @@ fn object(alloc: Global, json: &str) -> Result<Answer, Fail> {
     Ok(Answer::Object(read_json(alloc, json.as_bytes())?))
 }
 
-fn objects(alloc: Global, answers: &[&str]) -> Result<Vec<Answer>, Fail> {
+pub(crate) fn objects(alloc: Global, answers: &[&str]) -> Result<Vec<Answer>, Fail> {
     let mut all = Vec::new(alloc);
     for answer in answers {
         all.push(object(alloc, answer)?)?;

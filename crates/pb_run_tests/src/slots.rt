@@ -8,7 +8,7 @@ use std::alloc::Global;
 use std::collections::BTreeSet;
 use std::test::Fail;
 
-fn slots_of(alloc: Global, names: &[&str]) -> Result<Slots, Fail> {
+pub(crate) fn slots_of(alloc: Global, names: &[&str]) -> Result<Slots, Fail> {
     let mut all = BTreeSet::new(alloc);
     for name in names {
         let _ = all.insert(*name)?;

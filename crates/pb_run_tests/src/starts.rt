@@ -51,6 +51,7 @@ fn task(
 ) -> Prepared {
     Prepared {
         names,
+        names_read_item: true,
         conditions,
         loop_over,
         action,
@@ -59,6 +60,8 @@ fn task(
         failed_when: None,
         attempts: None,
         ignores: false,
+        rescued: false,
+        depth: 0,
     }
 }
 

@@ -84,7 +84,7 @@ _playcheck_ansible() {
     convert:-*) _playcheck_words "$inputs -o --output" "$word" ;;
     explain:*)
         _playcheck_words "S01 S02 S03 S04 S05 I01 I02 I03 I04 I05 P01 P02 P03 P04 P05 P06 P07 P08 P09 V01 V02 V03 V04
-            V05 V06 V07 V08 V09 V10 V11 V12 V13 N00 A01 A02 A03 A-alias A-choice A-required" "$word"
+            V05 V06 V07 V08 V09 V10 V11 V12 V13 A01 A02 A03 A-alias A-choice A-required" "$word"
         ;;
     *) _playcheck_files "$word" ;;
     esac

@@ -16,7 +16,6 @@ IS_PRIVATE = re.compile(r"^((fn|const|struct|enum|type|static) |\s*pub\(crate\) 
 WEIGHING = ("pb_value", "pb_kind")
 MAKES_WEIGHTS = re.compile(r"\b(Weighed|Weight)::")
 COMPARED = 29
-NOT_BUILT = re.compile(r"^(\S+) of the cases of `tests/cases` aren't built yet", re.M)
 SHORT_PAGES = ("README.md", "docs/ARCHITECTURE.md")
 PAGE_LINES = 150
 CELL = 300
@@ -25,6 +24,8 @@ SECTION = re.compile(r"^#+ (\w+)(:|$)")
 LISTED_CRATE = re.compile(r"^(\w+)[^#]*:")
 SHOWN_CRATE = re.compile(r"^- \[(\w+)\]\(\1/README\.md\): ")
 CODE = re.compile(r"^code_text (\w+) =", re.M)
+# The codes that nothing is refused with.
+UNTOLD = ("N00",)
 FENCE = re.compile(r"^```.*?^```$", re.M | re.S)
 LINK = re.compile(r"\]\(([^)\s]+)\)")
 # Files of proofs that the prover's answers stand in, and lists of modules.
@@ -79,14 +80,6 @@ def makers_of_weights():
         for number, line in enumerate(path.read_text(encoding="utf-8").splitlines(), 1):
             if MAKES_WEIGHTS.search(line):
                 yield f"{path.relative_to(TOP)}:{number}: {line.strip()}"
-
-
-def wrong_counts():
-    """README says how many cases aren't built yet, as tests/not_built_yet does."""
-    wanted = (TOP / "tests/not_built_yet").read_text().strip()
-    said = NOT_BUILT.findall((TOP / "README.md").read_text(encoding="utf-8"))
-    if [number.replace(",", "") for number in said] != [wanted]:
-        yield f"README.md says {said} of the cases that aren't built yet, tests/not_built_yet {wanted}"
 
 
 def wrong_comparisons():
@@ -150,6 +143,8 @@ def lost_codes():
     parts = {part.partition(":")[0]: part for part in re.split(r"^### ", text, flags=re.M)[1:]}
     for codes in sorted((TOP / "crates").glob("*/specs/Codes.antt")):
         for code in CODE.findall(codes.read_text(encoding="utf-8")):
+            if code in UNTOLD:
+                continue
             part = parts.get(code, "")
             has_book = re.search(r"^```json book( generated)?$", part, re.M)
             if not has_book or f"```text prints\nrefused {code} line " not in part:
@@ -201,7 +196,6 @@ def main():
         ("a line is too long", long_lines),
         ("`///` on what isn't public", documented_privates),
         ("weights are made elsewhere", makers_of_weights),
-        ("a count is wrong", wrong_counts),
         ("a compared book is wrong", wrong_comparisons),
         ("a page is too long", long_pages),
         ("a crate isn't in the map", lost_crates),

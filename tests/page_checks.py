@@ -23,6 +23,7 @@ OPTIONS = {"inventory": "-i", "signatures": "-s", "answers": "--answers"}
 FENCE = re.compile(r"^```(.*)\n(?s:(.*?))^```$", re.M)
 HEADING = re.compile(r"^#+ (?:([A-Z]\d\d): )?.*$", re.M)
 CODE = re.compile(r'codes "([A-Z]\d\d)"')
+UNTOLD = ("N00",)  # the codes that nothing is refused with
 COMMAND = re.compile(r"^\$ (.*)\n((?:(?!\$ ).*\n)*)", re.M)
 LAUNCHER = re.compile(r"\./playcheck(?![\w-])")
 FRONT_END = "./playcheck-ansible"
@@ -71,7 +72,7 @@ def refusals(page):
 
 def codes():
     for path in sorted(TOP.glob("crates/pb_*/specs/Codes.antt")):
-        yield from CODE.findall(path.read_text(encoding="utf-8"))
+        yield from (code for code in CODE.findall(path.read_text(encoding="utf-8")) if code not in UNTOLD)
 
 
 def wrong_sections(page):

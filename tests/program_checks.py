@@ -577,7 +577,28 @@ def examples(folder):
         ),
         Check("example-faulty", words_of("check", faulty), exactly("refused V03 line 5 host web1\n", 1)),
         *site(folder / "site"),
+        *site_runs(folder / "site"),
         *compared(folder / "compared"),
+    ]
+
+
+# What each host's tasks come to where the machines of the site answer as in its answers.json, as its README counts them.
+SITE_RECAP = """\
+lb1 : ok=17 changed=9 unreachable=0 failed=0 skipped=1 rescued=0 ignored=0
+db1 : ok=23 changed=9 unreachable=0 failed=0 skipped=3 rescued=0 ignored=0
+db2 : ok=18 changed=4 unreachable=0 failed=0 skipped=7 rescued=0 ignored=0
+web1 : ok=35 changed=15 unreachable=0 failed=0 skipped=9 rescued=0 ignored=0
+web2 : ok=36 changed=17 unreachable=0 failed=0 skipped=9 rescued=0 ignored=0
+web3 : ok=23 changed=4 unreachable=0 failed=0 skipped=21 rescued=0 ignored=1
+"""
+
+
+def site_runs(folder):
+    """The run of the whole site, which comes to the same with whatever number of workers."""
+    words = [*words_of("run", folder), "--answers", str(folder / "answers.json")]
+    return [
+        Check(f"example-site-run-{forks}", [*words, "-f", str(forks)], quietly(SITE_RECAP, 0))
+        for forks in [1, 5, 256]
     ]
 
 

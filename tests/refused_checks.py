@@ -41,8 +41,8 @@ RECAP = Outcome(0, b"h1 : ok=2 changed=1 unreachable=0 failed=0 skipped=0 rescue
 ACCEPTED_OF_THREE = Outcome(0, b"accepted budget 3\n", b"")
 WANT = Outcome(3, b"", b"playcheck: want of memory\n")
 
-BY_HAND = ["refusals::a_command_and_a_debug", "refusals::a_refused_give_and_a_stop"]
-GIVE_REFUSED = b"give refused\n"  # what the second of these says
+BY_HAND = ["refusals::a_refused_give_and_a_stop"]
+GIVE_REFUSED = b"give refused\n"  # what this one says
 
 
 def compiler():
@@ -90,7 +90,7 @@ def by_hand_failures(library, folder, tests, name):
     """The same of a test by hand, which judges its calls itself."""
     seen = list(outcomes(library, folder, [tests, name]))
     said = [f"refused-{number} {name}\n  got: {outcome}" for number, outcome in seen if outcome.status != 0]
-    if name == BY_HAND[1] and not any(outcome.stderr == GIVE_REFUSED for _, outcome in seen):
+    if name == BY_HAND[0] and not any(outcome.stderr == GIVE_REFUSED for _, outcome in seen):
         said.append(f"refused {name}\n  never: a give that is refused")
     return len(seen), said
 

@@ -41,7 +41,6 @@ TITLES = {
     "V11": "kinds that don't settle",
     "V12": "a handler that notifies itself or an earlier one",
     "V13": "too many steps",
-    "N00": "a form that isn't built yet",
     "A01": "the answers aren't JSON",
     "A02": "the answers have another form",
     "A03": "the answers are too long",

@@ -1,3 +1,3 @@
 pub mod RunTexts
 mod Verdicts
-mod ReadyRuns
+pub mod Runs

@@ -28,15 +28,13 @@ use Rattle.pb_book.specs.declared.fault.BookFault.TheVariants as book
 use Rattle.pb_verify.specs.Meaning.{refusal_of}
 use Rattle.pb_verify.specs.declared.checked.Accepted.{Accepted}
 use Rattle.pb_verify.specs.declared.refusal.Code.{Code}
-use Rattle.pb_strategy.specs.Scripts.{script_fault, script_in}
-use Rattle.pb_strategy.specs.declared.runnable.RunFault.{RunFault}
-use Rattle.pb_strategy.specs.declared.runnable.RunFault.TheVariants as run
-use Rattle.pb_strategy.specs.declared.script.ScriptFault.{ScriptFault}
-use Rattle.pb_strategy.specs.declared.script.ScriptFault.TheVariants as script
+use Rattle.pb_runner.specs.Scripts.{script_fault, script_in}
+use Rattle.pb_runner.specs.declared.script.ScriptFault.{ScriptFault}
+use Rattle.pb_runner.specs.declared.script.ScriptFault.TheVariants as script
 use Rattle.pb_verify.specs.declared.refusal.Code.TheVariants.{S01, S02, S03, S04, S05, I01, I02}
 use Rattle.pb_verify.specs.declared.refusal.Code.TheVariants.{I03, I04, I05, P01, P02, P03, P04}
 use Rattle.pb_verify.specs.declared.refusal.Code.TheVariants.{P05, P06, P07, P08, P09, A01, A02}
-use Rattle.pb_verify.specs.declared.refusal.Code.TheVariants.{A03, N00}
+use Rattle.pb_verify.specs.declared.refusal.Code.TheVariants.{A03}
 use Rattle.pb_verify.specs.declared.verify.VerifyFault.{VerifyFault}
 use Rattle.pb_verify.specs.declared.verify.VerifyFault.TheVariants as verify
 use Rattle.pb_cli.specs.declared.judge.Fault.{Fault}
@@ -79,14 +77,6 @@ of_book book.NoMemory = NoMemory
 abbrev pub of_verify : VerifyFault → Fault
 of_verify (verify.Refused r) = Refused r
 of_verify verify.NoMemory = NoMemory
-
--- a form that can't be run yet, at its line
-abbrev pub not_built : ℕ → Fault
-not_built l = Refused (record { code = N00; line = l; host = None })
-
-abbrev pub of_run : RunFault → Fault
-of_run (run.NotBuilt l) = not_built l
-of_run run.NoMemory = NoMemory
 
 abbrev pub of_script : ScriptFault → Fault
 of_script script.NotJson = refused A01

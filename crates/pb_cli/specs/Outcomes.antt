@@ -1,21 +1,21 @@
 -- What the program comes to: what it prints where, and its status.
 use Rattle.std.specs.Prelude.{◌≡◌, ◌≤◌, ◌⊎◌, ℕ, List, length, max, min, option_map, true, false}
-use Rattle.std.specs.Prelude.{Option, Some, None, Result, Ok, Err, IsErr, string_bytes}
+use Rattle.std.specs.Prelude.{Result, Ok, Err, IsErr, string_bytes}
 use Rattle.std.specs.declared.alloc.AllocError.{AllocError}
 use Rattle.pb_semantics.specs.Data.{Fields}
 use Rattle.pb_semantics.specs.Limits.{most_answer_bytes}
 use Rattle.pb_inventory.specs.Inventory.{inventory_view}
 use Rattle.pb_verify.specs.declared.checked.Accepted.{Accepted}
-use Rattle.pb_strategy.specs.Drives.{Drives}
-use Rattle.pb_strategy.specs.Readiness.{IsReadyFor, unbuilt_in}
-use Rattle.pb_strategy.specs.declared.runnable.Ready.{Ready}
-use Rattle.pb_strategy.specs.History.{RunState, is_ended, is_stopped, opened}
-use Rattle.pb_strategy.specs.Scripts.{IsFromFile, script_in}
-use Rattle.pb_strategy.specs.Sound.{IsSound}
-use Rattle.pb_strategy.specs.declared.script.ScriptFault.{ScriptFault}
-use Rattle.pb_strategy.specs.declared.script.ScriptRunner.{ScriptRunner}
-use Rattle.pb_cli.specs.FileVerdicts.{HasScriptFault, Judges, not_built, of_script}
-use Rattle.pb_cli.specs.Texts.{not_built_line, refusal_line, run_lines, status_for, verdict_line}
+use Rattle.pb_run.specs.Recorded.{is_none}
+use Rattle.pb_runner.specs.Scripts.{IsFromFile, script_in}
+use Rattle.pb_runner.specs.declared.script.ScriptFault.{ScriptFault}
+use Rattle.pb_runner.specs.declared.script.ScriptRunner.{ScriptRunner}
+use Rattle.pb_executor.specs.Drives.{Drives}
+use Rattle.pb_executor.specs.Sound.{IsSound}
+use Rattle.pb_executor.specs.States.{RunState, opened, state_of}
+use Rattle.pb_cli.specs.FileVerdicts.{HasScriptFault, Judges, of_script}
+use Rattle.pb_cli.specs.Texts.{not_built_line, recaps_of, refusal_line, run_lines, status_for}
+use Rattle.pb_cli.specs.Texts.{verdict_line}
 use Rattle.pb_cli.specs.declared.judge.Fault.{Fault}
 use Rattle.pb_cli.specs.declared.judge.Fault.TheVariants.{Refused, NoMemory}
 use Rattle.pb_cli.specs.declared.outcome.Bytes.{Bytes}
@@ -60,7 +60,7 @@ VerdictSays (Err (Refused r)) o = Prints Output (refusal_line r) refused_status 
 VerdictSays (Err NoMemory) o = ⊥
 
 abbrev pub RunSays : Result RunState Fault → Outcome → Type 0
-RunSays (Ok r) o = Prints Output (run_lines r) (status_for r.recaps) o
+RunSays (Ok r) o = Prints Output (run_lines r) (status_for (recaps_of r)) o
 RunSays (Err (Refused r)) o = Prints Output (refusal_line r) refused_status o
 RunSays (Err NoMemory) o = ⊥
 
@@ -69,46 +69,36 @@ abbrev pub JudgesFiles : Bytes → Result Accepted Fault → Type 0
 JudgesFiles b r = Judges (option_map (λ s. s.items) b.signatures) b.inventory.items b.book.items r
 
 -- as many workers as there are hosts, at most so many and at least one
-abbrev pub workers : ℕ → Ready → ℕ
-workers most d = max (min most (length (inventory_view d.inventory).hosts)) 1
+abbrev pub workers : ℕ → Accepted → ℕ
+workers most a = max (min most (length (inventory_view a.inventory).hosts)) 1
 
 -- a run of that book to its end
-pub record IsWholeRun (most : ℕ) (d : Ready) (r : RunState) : Type 0 where
-  pub book : r.runnable ≡ d
-  pub forks : r.forks ≡ workers most d
+pub record IsWholeRun (most : ℕ) (a : Accepted) (r : RunState) : Type 0 where
+  pub book : r.accepted ≡ a
+  pub forks : r.forks ≡ workers most a
   pub sound : IsSound r
-  pub ended : is_ended r ≡ true
-  pub going_on : is_stopped r.history ≡ false
+  pub ended : is_none (state_of r).batches ≡ true
+  pub going_on : (state_of r).is_stopped ≡ false
 
 -- each Give of the run has just the file's answers to the calls of its job, in order
-pub record IsAnsweredBy (file : Fields) (d : Ready) (r : RunState) : Type 0 where
+pub record IsAnsweredBy (file : Fields) (a : Accepted) (r : RunState) : Type 0 where
   pub first : ScriptRunner
   pub last : ScriptRunner
-  pub driven : Drives (IsFromFile file) (opened d r.forks) first r last
+  pub driven : Drives (IsFromFile file) (opened a r.forks) first r last
 
 -- a run of that book to its end, with the answers that are in the bytes
-pub record IsScriptedRun (most : ℕ) (answers : List ℕ) (d : Ready) (r : RunState) : Type 0 where
-  pub whole : IsWholeRun most d r
+pub record IsScriptedRun (most : ℕ) (answers : List ℕ) (a : Accepted) (r : RunState) : Type 0 where
+  pub whole : IsWholeRun most a r
   pub file : Fields
   pub short : length answers ≤ most_answer_bytes
   pub read : script_in answers ≡ Ok file
-  pub answered : IsAnsweredBy file d r
+  pub answered : IsAnsweredBy file a r
 
--- what becomes of a run of a book that can be run: the fault of the answers, or the run
-abbrev pub RunsAnswers : ℕ → List ℕ → Ready → Result RunState Fault → Type 0
-RunsAnswers forks answers d (Ok r) = IsScriptedRun forks answers d r
-RunsAnswers forks answers d (Err f) =
-    (s : ScriptFault) × ((f ≡ of_script s) × HasScriptFault answers s)
-
--- of an accepted book: the first form that can't be run yet is refused at its line, else it is run
-abbrev pub RunsBuilt : Option ℕ → ℕ → List ℕ → Accepted → Result RunState Fault → Type 0
-RunsBuilt (Some l) forks answers a r = r ≡ Err (not_built l)
-RunsBuilt None forks answers a r = (d : Ready) × (IsReadyFor a d × RunsAnswers forks answers d r)
-
--- want of memory aside
+-- what becomes of the run of an accepted book: the fault of the answers, or the run
 abbrev pub RunsAccepted : ℕ → List ℕ → Accepted → Result RunState Fault → Type 0
-RunsAccepted forks answers a r =
-    (r ≡ Err NoMemory) ⊎ RunsBuilt (unbuilt_in a) forks answers a r
+RunsAccepted forks answers a (Ok r) = IsScriptedRun forks answers a r
+RunsAccepted forks answers a (Err f) = (f ≡ NoMemory)
+    ⊎ ((s : ScriptFault) × ((f ≡ of_script s) × HasScriptFault answers s))
 
 -- the verdict comes first: its fault, or what becomes of the run of what it accepts
 abbrev pub RunsFiles : ℕ → Bytes → Result RunState Fault → Type 0
@@ -118,6 +108,11 @@ RunsFiles forks b r = ((f : Fault) × (JudgesFiles b (Err f) × (r ≡ Err f)))
 -- what `check` comes to
 abbrev pub ChecksAs : Bytes → Outcome → Type 0
 ChecksAs b o = (r : Result Accepted Fault) × (JudgesFiles b r × VerdictSays r o)
+
+-- what the run of an accepted book comes to
+abbrev pub RunsAcceptedAs : ℕ → List ℕ → Accepted → Outcome → Type 0
+RunsAcceptedAs forks answers a o =
+    (r : Result RunState Fault) × (RunsAccepted forks answers a r × RunSays r o)
 
 -- what `run` comes to
 abbrev pub RunsAs : ℕ → Bytes → Outcome → Type 0

@@ -4,12 +4,13 @@ use Rattle.std.specs.Prelude.{Option, Some, None, Result, Ok, Err, String, strin
 use Rattle.std.specs.List.{flat_map, list_any, zip}
 use Rattle.std.specs.declared.alloc.Global.{Global}
 use Rattle.std.specs.Fmt.{decimal}
+use Rattle.pb_language.specs.Machine.{Recap}
 use Rattle.pb_inventory.specs.Inventory.{inventory_view}
 use Rattle.pb_verify.specs.declared.checked.Accepted.{Accepted}
 use Rattle.pb_verify.specs.declared.refusal.Refusal.{Refusal}
 use Rattle.pb_verify.specs.Codes.{code_text}
-use Rattle.pb_strategy.specs.History.{RunState}
-use Rattle.pb_outcome.specs.declared.recap.Recap.{Recap}
+use Rattle.pb_run.specs.Recorded.{recaps_in}
+use Rattle.pb_executor.specs.States.{RunState, state_of}
 use Rattle.pb_cli.specs.declared.judge.Fault.{Fault}
 use Rattle.pb_cli.specs.declared.judge.Fault.TheVariants.{Refused, NoMemory}
 
@@ -51,7 +52,11 @@ recap_line name r =
 
 -- the names of a run's hosts, in host order
 abbrev pub host_names : RunState → List (List ℕ)
-host_names r = map (λ h. h.name) (inventory_view r.runnable.inventory).hosts
+host_names r = map (λ h. h.name) (inventory_view r.accepted.inventory).hosts
+
+-- what their tasks came to
+abbrev pub recaps_of : RunState → List Recap
+recaps_of r = recaps_in (state_of r)
 
 -- a line for each of these hosts, with its recap
 abbrev pub recap_lines : List (List ℕ) → List Recap → List ℕ
@@ -59,7 +64,7 @@ recap_lines names rs = flat_map (λ p. recap_line p.0 p.1) (zip names rs)
 
 -- the recap of a run: a line for each host, in host order
 abbrev pub run_lines : RunState → List ℕ
-run_lines r = recap_lines (host_names r) r.recaps
+run_lines r = recap_lines (host_names r) (recaps_of r)
 
 -- some host's task failed
 abbrev pub some_failed : List Recap → Bool

@@ -12,8 +12,8 @@ ghost use Rattle.pb_cli.specs.FileVerdicts.{is_looked_into, modules_verdict, ref
 
 use pb_book::{Book, BookFault};
 use pb_inventory::{Inventory, InventoryFault};
+use pb_runner::ScriptFault;
 use pb_sig::{Registry, SignatureFault};
-use pb_strategy::{RunFault, ScriptFault};
 use pb_verify::verify::verify;
 use pb_verify::{Checked, Code, Refusal, VerifyFault};
 use std::alloc::{AllocError, Global};
@@ -133,24 +133,6 @@ impl From<VerifyFault> for Fault {
         match fault {
             VerifyFault::Refused(refusal) => Fault::Refused(refusal),
             VerifyFault::NoMemory => Fault::NoMemory,
-        }
-    }
-}
-
-impl From<RunFault> for Fault {
-    ghost use Rattle.std.specs.Prelude.{◌≡◌};
-    ghost use Rattle.pb_cli.specs.FileVerdicts.{of_run};
-
-    ghost from_gives = { λ e f. f ≡ of_run e };
-
-    fn from(fault: RunFault) -> Fault {
-        match fault {
-            RunFault::NotBuilt(line) => Fault::Refused(Refusal {
-                code: Code::N00,
-                line,
-                host: None,
-            }),
-            RunFault::NoMemory => Fault::NoMemory,
         }
     }
 }

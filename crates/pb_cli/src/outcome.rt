@@ -1,18 +1,18 @@
 // What the words come to, of the bytes of the files that they name: what is printed where, and the
 // status.
-ghost use Rattle.std.specs.Prelude.{◌+◌, ◌<◌, ◌^◌, ◌≡◌, IfOk, max, min};
-ghost use Rattle.pb_strategy.specs.Words.{answers_in};
+ghost use Rattle.std.specs.Prelude.{◌≡◌, Err, IfOk, Ok, max, min};
+ghost use Rattle.pb_runner.specs.Words.{answers_in};
 ghost use Rattle.pb_cli.specs.Outcomes.{ChecksAs, IsAnsweredBy, IsOutcome, IsWholeRun};
-ghost use Rattle.pb_cli.specs.Outcomes.{JudgesFiles, LineSays, Prints, RunSays, RunsAnswers};
-ghost use Rattle.pb_cli.specs.Outcomes.{RunsAccepted, RunsAs, RunsBy, RunsFiles, VerdictSays};
-ghost use Rattle.pb_cli.specs.Outcomes.{usage_status};
+ghost use Rattle.pb_cli.specs.Outcomes.{JudgesFiles, LineSays, Prints, RunSays, RunsAccepted};
+ghost use Rattle.pb_cli.specs.Outcomes.{RunsAcceptedAs, RunsAs, RunsBy, VerdictSays, usage_status};
 ghost use Rattle.pb_cli.specs.Texts.{not_built_line};
 
 use crate::judge::{Fault, judge};
 use crate::texts::{recap_text, refusal_text, status_of, verdict_text};
+use pb_executor::Run;
+use pb_executor::drive::drive;
 use pb_options::{LineFault, Options, Source};
-use pb_strategy::drive::drive;
-use pb_strategy::{Run, Runnable, Runner, ScriptRunner};
+use pb_runner::{Runner, ScriptRunner};
 use pb_verify::Checked;
 use std::alloc::{AllocError, Global};
 use std::mem;
@@ -131,10 +131,33 @@ fn checked(alloc: Global, bytes: &Bytes) -> Result<Outcome, AllocError>
 fn ran(alloc: Global, bytes: &Bytes, forks: u16) -> Result<Outcome, AllocError>
     ensures { IfOk result (RunsAs forks bytes.now) }
 {
-    let run = run_of(alloc, bytes, forks);
-    let outcome = run_outcome(alloc, &run);
-    leave(run);
-    outcome
+    match verdict_of(alloc, bytes) {
+        Ok(checked) => {
+            let outcome = ran_accepted(alloc, &checked, forks, bytes.answers.as_slice());
+            leave(checked);
+            outcome
+        }
+        Err(fault) => fault_outcome(alloc, &fault),
+    }
+}
+
+// What comes of the run of what was accepted.
+fn ran_accepted(
+    alloc: Global,
+    checked: &Checked,
+    forks: u16,
+    answers: &[u8],
+) -> Result<Outcome, AllocError>
+    ensures { IfOk result (RunsAcceptedAs forks answers.now checked.now) }
+{
+    match scripted_run(alloc, checked, forks, answers) {
+        Ok(run) => {
+            let outcome = run_outcome(alloc, &run);
+            leave(run);
+            outcome
+        }
+        Err(fault) => fault_outcome(alloc, &fault),
+    }
 }
 
 // Lets go of a value without taking it apart, as the process ends and its memory with it.
@@ -153,13 +176,18 @@ fn verdict_outcome(alloc: Global, verdict: &Result<Checked, Fault>) -> Result<Ou
     Ok(printed(verdict_text(alloc, verdict)?, status))
 }
 
-fn run_outcome(alloc: Global, run: &Result<Run, Fault>) -> Result<Outcome, AllocError>
-    ensures { IfOk result (RunSays run.now) }
+fn run_outcome(alloc: Global, run: &Run<'_>) -> Result<Outcome, AllocError>
+    ensures { IfOk result (RunSays (Ok run.now)) }
 {
-    match run {
-        Ok(run) => Ok(printed(recap_text(alloc, run)?, status_of(run))),
-        Err(Fault::Refused(refusal)) => Ok(printed(refusal_text(alloc, refusal)?, REFUSED)),
-        Err(Fault::NoMemory) => Err(AllocError),
+    Ok(printed(recap_text(alloc, run)?, status_of(run)))
+}
+
+fn fault_outcome(alloc: Global, fault: &Fault) -> Result<Outcome, AllocError>
+    ensures { IfOk result (RunSays (Err fault.now)) }
+{
+    match fault {
+        Fault::Refused(refusal) => Ok(printed(refusal_text(alloc, refusal)?, REFUSED)),
+        Fault::NoMemory => Err(AllocError),
     }
 }
 
@@ -178,35 +206,18 @@ fn verdict_of(alloc: Global, bytes: &Bytes) -> Result<Checked, Fault>
     )
 }
 
-/// The run of an accepted book to its end, with the answers of the file; else the verdict's
-/// refusal, then that of a form that can't be run yet, and then that of the answers.
-pub fn run_of(alloc: Global, bytes: &Bytes, forks: u16) -> Result<Run, Fault>
-    ensures { RunsFiles forks bytes.now result }
-{
-    let checked = verdict_of(alloc, bytes)?;
-    accepted_run(alloc, checked, forks, bytes.answers.as_slice())
-}
-
-// The run of what was accepted.
-fn accepted_run(alloc: Global, checked: Checked, forks: u16, answers: &[u8]) -> Result<Run, Fault>
-    ensures { RunsAccepted forks answers.now checked result }
-{
-    let runnable = Runnable::of(alloc, checked)?;
-    let run = scripted_run(alloc, &runnable, forks, answers);
-    leave(runnable);
-    run
-}
-
-fn scripted_run(
+/// The run of an accepted book to its end, with the answers of the file; or what is wrong with
+/// these.
+pub fn scripted_run<'c>(
     alloc: Global,
-    runnable: &Runnable,
+    checked: &'c Checked,
     forks: u16,
     answers: &[u8],
-) -> Result<Run, Fault>
-    ensures { RunsAnswers forks answers.now runnable.now result }
+) -> Result<Run<'c>, Fault>
+    ensures { RunsAccepted forks answers.now checked.now result }
 {
     let mut runner = ScriptRunner::read(alloc, answers)?;
-    let run = ended_run(alloc, runnable, forks, &mut runner);
+    let run = ended_run(alloc, checked, forks, &mut runner);
     leave(runner);
     Ok(run?)
 }
@@ -220,19 +231,19 @@ fn workers_of(forks: u16, hosts: usize) -> usize
 
 // The run of the book to its end, whose calls the file answers; want of memory also where there was
 // none to give an answer out.
-fn ended_run(
+fn ended_run<'c>(
     alloc: Global,
-    runnable: &Runnable,
+    checked: &'c Checked,
     forks: u16,
     runner: &mut ScriptRunner,
-) -> Result<Run, AllocError>
-    requires few { ⟦<ScriptRunner as Runner>⟧.calls runner.old < 2 ^ 63 }
-    ensures whole { IfOk result (IsWholeRun forks runnable.now) }
-    ensures answered { IfOk result (λ r. IsAnsweredBy (answers_in runner.old) runnable.now r) }
-    ensures made { IfOk result (λ r. ⟦<ScriptRunner as Runner>⟧.calls runner.new
-        ≡ ⟦<ScriptRunner as Runner>⟧.calls runner.old + r.handed) }
+) -> Result<Run<'c>, AllocError>
+    requires none { ⟦<ScriptRunner as Runner>⟧.calls runner.old ≡ 0 }
+    ensures whole { IfOk result (IsWholeRun forks checked.now) }
+    ensures answered { IfOk result (IsAnsweredBy (answers_in runner.old) checked.now) }
 {
-    let mut run = Run::open(alloc, runnable, workers_of(forks, runnable.hosts()))?;
+    // A budget fits into 64 bits.
+    let _budget = checked.budget();
+    let mut run = Run::open(alloc, checked, workers_of(forks, checked.hosts()))?;
     drive(&mut run, runner)?;
     if runner.is_short() {
         return Err(AllocError);

@@ -1,10 +1,12 @@
 // What is printed of a verdict and of a run, and the status of the program.
 ghost use Rattle.std.specs.Prelude.{◌≡◌, IfOk, string_bytes};
-ghost use Rattle.pb_cli.specs.Texts.{ended_text, host_text, reached_text, recap_line, refusal_line};
-ghost use Rattle.pb_cli.specs.Texts.{run_lines, status_for, verdict_line};
+ghost use Rattle.pb_core.specs.Words.{recap_view};
+ghost use Rattle.pb_cli.specs.Texts.{ended_text, host_text, reached_text, recap_line, recaps_of};
+ghost use Rattle.pb_cli.specs.Texts.{refusal_line, run_lines, status_for, verdict_line};
 
 use crate::judge::Fault;
-use pb_strategy::{Recap, Run};
+use pb_core::Recap;
+use pb_executor::Run;
 use pb_verify::{Checked, Refusal};
 use std::alloc::{AllocError, Global};
 
@@ -42,7 +44,7 @@ fn host_name(host: &Option<String>) -> &str
 }
 
 /// A line for each host of the inventory in host order, with what its tasks came to.
-pub fn recap_text(alloc: Global, run: &Run) -> Result<String, AllocError>
+pub fn recap_text(alloc: Global, run: &Run<'_>) -> Result<String, AllocError>
     ensures { IfOk result (λ s. string_bytes s ≡ run_lines run.now) }
 {
     let mut text = String::new(alloc);
@@ -55,7 +57,7 @@ pub fn recap_text(alloc: Global, run: &Run) -> Result<String, AllocError>
 }
 
 fn recap_line_of(alloc: Global, name: &str, recap: Recap) -> Result<String, AllocError>
-    ensures { IfOk result (λ s. string_bytes s ≡ recap_line name.now recap) }
+    ensures { IfOk result (λ s. string_bytes s ≡ recap_line name.now (recap_view recap)) }
 {
     let reached = reached_of(alloc, recap)?;
     let ended = ended_of(alloc, recap)?;
@@ -65,7 +67,7 @@ fn recap_line_of(alloc: Global, name: &str, recap: Recap) -> Result<String, Allo
 }
 
 fn reached_of(alloc: Global, recap: Recap) -> Result<String, AllocError>
-    ensures { IfOk result (λ s. string_bytes s ≡ reached_text recap) }
+    ensures { IfOk result (λ s. string_bytes s ≡ reached_text (recap_view recap)) }
 {
     let Recap {
         ok,
@@ -77,7 +79,7 @@ fn reached_of(alloc: Global, recap: Recap) -> Result<String, AllocError>
 }
 
 fn ended_of(alloc: Global, recap: Recap) -> Result<String, AllocError>
-    ensures { IfOk result (λ s. string_bytes s ≡ ended_text recap) }
+    ensures { IfOk result (λ s. string_bytes s ≡ ended_text (recap_view recap)) }
 {
     let Recap {
         failed,
@@ -91,8 +93,8 @@ fn ended_of(alloc: Global, recap: Recap) -> Result<String, AllocError>
 
 /// The status of a run: 2 where some host's task failed, else 4 where some host couldn't be
 /// reached, else 0.
-pub fn status_of(run: &Run) -> u8
-    ensures { result ≡ status_for run.now.recaps }
+pub fn status_of(run: &Run<'_>) -> u8
+    ensures { result ≡ status_for (recaps_of run.now) }
 {
     let mut unreachable = false;
     let hosts = run.hosts();

@@ -35,3 +35,4 @@ pub mod HostRows
 pub mod HostGroups
 pub mod WordBytes
 pub mod PatternHosts
+pub mod NameOrder

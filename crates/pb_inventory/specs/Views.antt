@@ -36,6 +36,9 @@ group_view hs g = record {
 abbrev pub host_names : List (String Global × Host) → List Name
 host_names hs = map (λ h. string_bytes h.0) hs
 
+abbrev pub group_keys : List (String Global × Vec ℕ Global) → List Name
+group_keys gs = map (λ g. string_bytes g.0) gs
+
 -- the places are those of so many hosts
 abbrev pub are_placed : ℕ → List (String Global × Vec ℕ Global) → Bool
 are_placed n [] = true

@@ -2,10 +2,12 @@
 ghost use Rattle.std.specs.Prelude.{◌<◌, ◌≡◌, IfSome, Some, is_some, length, map, option_map};
 ghost use Rattle.std.specs.Prelude.{slice_get, string_bytes, true};
 ghost use Rattle.std.specs.List.{All};
+ghost use Rattle.pb_semantics.specs.Words.{are_ascending};
 ghost use Rattle.pb_language.specs.Plays.{group_named, is_host};
 ghost use Rattle.pb_language.specs.Program.{memberships_of};
 ghost use Rattle.pb_inventory.specs.Numbered.{are_apart, name_of, named};
-ghost use Rattle.pb_inventory.specs.Views.{are_placed, group_view, host_names, kept_groups};
+ghost use Rattle.pb_inventory.specs.Views.{are_placed, group_keys, group_view, host_names};
+ghost use Rattle.pb_inventory.specs.Views.{kept_groups};
 
 use indexmap::IndexMap;
 use pb_value::Fields;
@@ -29,6 +31,7 @@ pub struct Inventory {
     groups: IndexMap<String, Vec<usize>>,
     ghost apart: { are_apart (host_names hosts.entries) ≡ true },
     ghost placed: { are_placed (length hosts.entries) groups.entries ≡ true },
+    ghost ascending: { are_ascending (group_keys groups.entries) ≡ true },
     ghost grouped: { kept_groups hosts.entries
         ≡ map (λ n. memberships_of n (map (group_view (host_names hosts.entries)) groups.entries))
         (host_names hosts.entries) },
@@ -46,6 +49,7 @@ impl Inventory {
     ) -> Inventory
         requires apart { are_apart (host_names hosts.entries) ≡ true }
         requires placed { are_placed (length hosts.entries) groups.entries ≡ true }
+        requires ascending { are_ascending (group_keys groups.entries) ≡ true }
         requires grouped { kept_groups hosts.entries ≡ map (λ n. memberships_of n
             (map (group_view (host_names hosts.entries)) groups.entries))
             (host_names hosts.entries) }
@@ -109,6 +113,8 @@ impl Inventory {
             result.now.entries
             ≡ (inventory_view self.now).groups }
         ensures placed { are_placed (length (inventory_view self.now).hosts) result.now.entries
+            ≡ true }
+        ensures ascending { are_ascending (map (λ g. g.name) (inventory_view self.now).groups)
             ≡ true }
     {
         &self.groups

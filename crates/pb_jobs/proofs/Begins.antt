@@ -83,6 +83,6 @@ has_begun old new core b c begun reading s k t n before kept active many sees do
             (subst (λ i. IsActiveBatch reading (inventory_view i) (step s (start k)) b) (sym (ap (λ k'. k'.inventory) same)) (active_begun reading (inventory_view old.inventory.now) s k (reading.passes begun.passes) b starts active));
       };
       passes = reading.passes begun.passes;
-      starts = starts;
+      plans = plans ∙ ap planned (sym shown);
       calls = is.calls ∙ ap₂ (pass_calls k m.host.name (action_name (task_of_start m).action)) (sym shown) counted;
     }

@@ -8,10 +8,12 @@ use Rattle.pb_language.specs.Give.{Answer}
 use Rattle.pb_language.specs.Machine.{give, start, stop}
 use Rattle.pb_language.specs.Program.{Program, all_batches}
 use Rattle.pb_language.specs.Start as started
+use Rattle.pb_language.specs.Start.{plan_of, planned}
+use Rattle.pb_machine.specs.Hosts.{FlatHost}
 use Rattle.pb_machine.specs.Run as flat
 use Rattle.pb_machine.specs.Run.{FlatState}
 use Rattle.pb_history.specs.Happens as happens
-use Rattle.pb_history.specs.Happens.{MayStart, Starts, Works, left_by, step_in, task_of_start}
+use Rattle.pb_history.specs.Happens.{MayStart, Works, left_by, step_in, task_of_start}
 use Rattle.pb_history.specs.Happens.{turned}
 use Rattle.pb_history.specs.Jobs.{pass_calls}
 use Rattle.pb_inventory.specs.Inventory.{inventory_view}
@@ -81,7 +83,8 @@ pub record HasBegun (k : ℕ) (cs : List Call) (before : ℕ) (new : Machine)
     (reading : Reading (Vec Pass Global)) {s : FlatState} (m : MayStart s k) : Type 0 where
   pub machine : IsMachine new reading (flat.step s (start k))
   pub passes : List started.Pass
-  pub starts : Starts s k passes
+  pub plans : plan_of (flat.world_of s m.batch m.host (task_of_start m)) (task_of_start m)
+      (task_of_start m).loop ≡ planned passes
   pub calls : map call_data cs
       ≡ pass_calls k m.host.name (action_name (task_of_start m).action) passes before
 
@@ -149,12 +152,23 @@ SettlesAs k o ws old new = (reading : Reading (Vec Pass Global)) (s : FlatState)
     → IsMachine old reading s → (w : Works s k) (xs : List Answer)
     → EndsSo w xs o (fields_view ws) → IsAfterGive k xs new s
 
-abbrev pub HasCallsAfter : {s : FlatState} → {k : ℕ} → Works s k → ℕ → Answered → Type 0
-HasCallsAfter w before answered.Done = Unit {0}
-HasCallsAfter w before (answered.Again cs) = AreCallsOf w before cs.items
+-- where the job's calls are made again its answers ask for that
+abbrev pub HasCallsAfter : {s : FlatState} → {k : ℕ} → Works s k → List Answer → ℕ → Answered
+    → Type 0
+HasCallsAfter w xs before answered.Done = Unit {0}
+HasCallsAfter w xs before (answered.Again cs) = Repeats w xs × AreCallsOf w before cs.items
+
+-- the job of a host, to whom so many calls were handed out before, was answered
+pub record HasGiven {s : FlatState} {k : ℕ} (w : Works s k) (xs : List Answer) (a : Answered)
+    (before : ℕ) (new : Machine) : Type 0 where
+  pub after : IsAfterGive k xs new s
+  pub calls : HasCallsAfter w xs before a
+  pub hosts : List FlatHost
+  pub steps : flat.step s (give k xs)
+      ≡ record s { hosts = hosts; handed = s.handed + calls_after a }
 
 -- a job that is out is answered, where that isn't stuck
 abbrev pub GivesAs : ℕ → List Answer → Answered → Machine → Machine → Type 0
 GivesAs k xs a old new = (reading : Reading (Vec Pass Global)) (s : FlatState)
     → IsMachine old reading s → (w : Works s k) → (flat.step s (give k xs)).is_stuck ≡ false
-    → IsAfterGive k xs new s × HasCallsAfter w (get_or old.calls.items k 0) a
+    → HasGiven w xs a (get_or old.calls.items k 0) new

@@ -3,7 +3,6 @@ ghost use Rattle.std.specs.Prelude.{◌≡◌, IfOk, None, length, replicate};
 ghost use Rattle.pb_core.specs.Words.{tickets_of};
 ghost use Rattle.pb_inventory.specs.Words.{inventory_view};
 ghost use Rattle.pb_jobs.specs.Machines.{OpensAs};
-ghost use Rattle.pb_world.specs.Words.{GroupsAscend};
 
 use crate::machine::Machine;
 use pb_core::{RunCore, Schedule};
@@ -28,7 +27,6 @@ impl<'c> Machine<'c> {
         schedule: Schedule,
         forks: usize,
     ) -> Result<Machine<'c>, AllocError>
-        requires { GroupsAscend (inventory_view inventory.now) }
         ensures opens { IfOk result (OpensAs schedule forks) }
         ensures inventory { IfOk result (λ m. m.inventory.now ≡ inventory.now) }
         ensures slots { IfOk result (λ m. m.slots ≡ slots) }

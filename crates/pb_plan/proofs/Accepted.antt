@@ -1,16 +1,17 @@
 -- The plays of a book that was accepted: they have few steps.
-use Rattle.std.proofs.Common.{◌≡◌, ◌≤◌, ℕ, List, [], ◌∷◌, map, true, Option, Some, None, refl, ap}
+use Rattle.std.proofs.Common.{◌≡◌, ◌≤◌, ℕ, List, [], ◌∷◌, length, map, true, Option, Some, None, refl, sym, ap, ap₂}
 use Rattle.std.specs.List.{All}
+use Rattle.std.proofs.lemmas.List.{length-map}
 use Rattle.pb_semantics.proofs.Bools.{untrue}
 use Rattle.pb_semantics.specs.Limits.{most_play_steps}
-use Rattle.pb_language.specs.Book.{Registry}
+use Rattle.pb_language.specs.Book.{PlayData, Registry}
 use Rattle.pb_language.specs.Plays.{program_of}
 use Rattle.pb_language.specs.Rules.{rules_offence}
 use Rattle.pb_language.specs.Sites.{steps_of}
 use Rattle.pb_language.specs.Verdict.{Refusal, Verdict, flow_verdict, offence_verdict}
 use Rattle.pb_sig.specs.Modules.{modules_of}
 use Rattle.pb_inventory.specs.Inventory.{inventory_view}
-use Rattle.pb_play.specs.Plays.{play_view}
+use Rattle.pb_play.specs.Plays.{handler_view, play_view}
 use Rattle.pb_play.specs.declared.play.Play.{Play}
 use Rattle.pb_book.specs.Books.{book_view, plays_of}
 use Rattle.pb_steps.specs.Words.{play_plan}
@@ -33,3 +34,7 @@ accepted-few a h =
 pub plans-of-views : (ms : Registry) (ps : List Play) → map (λ p. play_plan ms (play_view p)) ps ≡ map (play_plan ms) (map play_view ps)
 plans-of-views ms [] = refl
 plans-of-views ms (p ∷ ps) = ap (λ os. play_plan ms (play_view p) ∷ os) (plans-of-views ms ps)
+
+pub handlers-of-views : (ps : List Play) → map (λ (p : Play). length p.handlers.items) ps ≡ map (λ (q : PlayData). length q.handlers) (map play_view ps)
+handlers-of-views [] = refl
+handlers-of-views (p ∷ ps) = ap₂ (λ (k : ℕ) (ks : List ℕ). k ∷ ks) (sym (length-map p.handlers.items handler_view)) (handlers-of-views ps)

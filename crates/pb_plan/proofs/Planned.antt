@@ -114,6 +114,13 @@ plans-of ms [] (n ∷ ns) h = absurd h
 plans-of ms (p ∷ ps) [] h = absurd h
 plans-of ms (p ∷ ps) (n ∷ ns) h = ap₂ (λ (x : PlayPlan) (xs : List PlayPlan). x ∷ xs) (ap (λ q. play_plan ms (play_view q)) (h.0).play) (plans-of ms ps ns h.1)
 
+-- each play has so many handlers as its nodes know
+pub handlers-of : (ms : Registry) (ps : List Play) (ns : List PlayNodes) → AreNodesOf ms ps ns → map (λ (n : PlayNodes). length n.play.now.handlers.items) ns ≡ map (λ (p : Play). length p.handlers.items) ps
+handlers-of ms [] [] h = refl
+handlers-of ms [] (n ∷ ns) h = absurd h
+handlers-of ms (p ∷ ps) [] h = absurd h
+handlers-of ms (p ∷ ps) (n ∷ ns) h = ap₂ (λ (k : ℕ) (ks : List ℕ). k ∷ ks) (ap (λ (q : Play). length q.handlers.items) (h.0).play) (handlers-of ms ps ns h.1)
+
 used-there : (ms : Registry) (ps : List Play) (ns : List PlayNodes) (m : Name) → AllByRecursion AreNodes ns → AreNodesOf ms ps ns → SomeNodesUse ns m → SomePlayUses ms (map play_view ps) m
 used-there ms [] [] m a h u = absurd u
 used-there ms [] (n ∷ ns) m a h u = absurd h

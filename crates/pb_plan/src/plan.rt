@@ -1,5 +1,5 @@
 // The plans of a book that was accepted.
-ghost use Rattle.std.specs.Prelude.{[], ◌≡◌, ◌≤◌, All, IfOk, map};
+ghost use Rattle.std.specs.Prelude.{[], ◌≡◌, ◌≤◌, All, IfOk, length, map};
 ghost use Rattle.pb_semantics.specs.Limits.{most_play_steps};
 ghost use Rattle.pb_language.specs.Book.{Registry};
 ghost use Rattle.pb_language.specs.Expression.{Name};
@@ -50,6 +50,8 @@ impl Plan {
             (names_of_slots p.slots) p.plays.items (book_view checked.now.book)) }
         ensures tasks { IfOk result (λ p. AllPrepared (modules_of checked.now.registry)
             p.tasks.items (book_view checked.now.book)) }
+        ensures handlers { IfOk result (λ p. map (λ s. s.handlers) p.plays.items
+            ≡ map (λ q. length q.handlers) (book_view checked.now.book)) }
         ensures whole { IfOk result (λ p. (n : Name)
             → SomePlayUses (modules_of checked.now.registry) (book_view checked.now.book) n
             → Among (names_of_slots p.slots) n) }
@@ -126,6 +128,8 @@ fn steps_of_plays(
         ≡ map (λ n. play_plan ms (play_view n.play.now)) plays.entry.items) }
     ensures uses { IfOk result (λ ps. (ms : Registry)
         → AreUsesOf ms (names_of_slots slots.now) ps.items plays.entry.items) }
+    ensures handlers { IfOk result (λ ps. map (λ s. s.handlers) ps.items
+        ≡ map (λ n. length n.play.now.handlers.items) plays.entry.items) }
 {
     let mut planned = Vec::with_capacity(alloc, plays.len())?;
     for nodes in plays {

@@ -1,4 +1,5 @@
 pub mod Bools
+pub mod Ascending
 pub mod Names
 pub mod Hosts
 pub mod Slots

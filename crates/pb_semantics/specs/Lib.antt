@@ -1,4 +1,5 @@
 pub mod Data
+pub mod Ascending
 pub mod Equal
 pub mod Kind
 pub mod Keeps

@@ -1,5 +1,6 @@
 -- The words of this crate that the contracts of others cite, from one place.
 pub use Rattle.pb_semantics.specs.Admission.{admission, changed_fields, ended, failed_of}
+pub use Rattle.pb_semantics.specs.Ascending.{are_ascending}
 pub use Rattle.pb_semantics.specs.Below.{all_cases, are_among, below, is_covered, names_among}
 pub use Rattle.pb_semantics.specs.Below.{record_below, same_case, slots_below, spot_below}
 pub use Rattle.pb_semantics.specs.Data.{Data, Fields, boolean, count_of, field_value, int, list}

@@ -13,11 +13,12 @@ use Rattle.std.proofs.lemmas.Bool.{cases_lt, lt-ltb, ltb-true}
 use Rattle.std.proofs.lemmas.Cmp.{nat_list_cmp_total}
 use Rattle.std.proofs.lemmas.List.{append-nil, get_or-map, length-map, map-append}
 use Rattle.std.proofs.lemmas.List.Sums.{position_or_len_is}
+use Rattle.pb_semantics.proofs.Ascending.{below-both, below-first, below-rest}
 use Rattle.pb_semantics.proofs.Bools.{untrue, and-left, and-right, and-both}
 use Rattle.pb_semantics.proofs.Names.{own_name}
 use Rattle.pb_language.specs.Expression.{Name}
 use Rattle.pb_template.specs.Entries.{are_ascending, is_below}
-use Rattle.pb_vars.proofs.Ordered.{below-both, below-first, below-rest, less-turned}
+use Rattle.pb_vars.proofs.Ordered.{less-turned}
 use Rattle.pb_vars.proofs.Searched.{equal-names, greater-differs}
 use Rattle.pb_slots.specs.Slots.{kept_slot, slot_in}
 

@@ -2,8 +2,12 @@
 // nothing, and the same call made again is done. tests/refused_checks.py refuses each allocation in
 // turn.
 use crate::runs::{ONE_PING, PONG, accepted, job_of, told};
-use pb_strategy::{Answer, Event, GiveError, Job, Run, Runnable, Taken};
+use pb_executor::Run;
+use pb_finish::Answer;
+use pb_jobs::Job;
+use pb_run::{Event, GiveError, Taken};
 use pb_value::read_json;
+use pb_verify::Checked;
 use std::alloc::Global;
 use std::test::Fail;
 
@@ -16,18 +20,18 @@ const DONE: &[u8] =
 
 // Each of these is asked a second time where memory was refused the first time.
 
-fn judged(alloc: Global, book: &[u8]) -> Option<Runnable> {
+fn judged(alloc: Global, book: &[u8]) -> Option<Checked> {
     accepted(alloc, book).or_else(|| accepted(alloc, book))
 }
 
-fn opened(alloc: Global, runnable: &Runnable) -> Result<Run, Fail> {
-    match Run::open(alloc, runnable, 1) {
+fn opened<'c>(alloc: Global, checked: &'c Checked) -> Result<Run<'c>, Fail> {
+    match Run::open(alloc, checked, 1) {
         Ok(run) => Ok(run),
-        Err(_) => Ok(Run::open(alloc, runnable, 1)?),
+        Err(_) => Ok(Run::open(alloc, checked, 1)?),
     }
 }
 
-fn taken(run: &mut Run) -> Result<Taken, Fail> {
+fn taken(run: &mut Run<'_>) -> Result<Taken, Fail> {
     let events = run.history().len();
     match run.take() {
         Ok(taken) => Ok(taken),
@@ -48,25 +52,26 @@ fn one_answer(alloc: Global, answer: &[u8]) -> Option<Vec<Answer>> {
     Some(answers)
 }
 
-fn give(run: &mut Run, job: Job, answers: Vec<Answer>) -> Result<(), Fail> {
+fn give(run: &mut Run<'_>, job: Job, answers: Vec<Answer>) -> Result<(), Fail> {
     let events = run.history().len();
     let ticket = job.ticket;
     let count = answers.len();
+    let (fault, job, answers) = match run.give(job, answers) {
+        Ok(_given) => return Ok(()),
+        Err(refused) => refused,
+    };
+    let is_back = job.ticket == ticket && answers.len() == count;
+    if !matches!(fault, GiveError::NoMemory) || !is_back || run.history().len() != events {
+        return Err("a refused give changed something, or was refused for another cause")?;
+    }
     match run.give(job, answers) {
-        Ok(_) => Ok(()),
-        Err((GiveError::NoMemory, job, answers))
-            if job.ticket == ticket && answers.len() == count && run.history().len() == events => {
-            match run.give(job, answers) {
-                Ok(_) => Ok(()),
-                Err(_) => Err("the same give is refused again")?,
-            }
-        }
-        Err(_) => Err("a refused give changed something, or was refused for another cause")?,
+        Ok(_given) => Ok(()),
+        Err(_refused) => Err("the same give is refused again")?,
     }
 }
 
 // The next job is that of the ticket, with a call for each answer, and it is done.
-fn next_done(run: &mut Run, ticket: usize, answers: Vec<Answer>) -> Result<(), Fail> {
+fn next_done(run: &mut Run<'_>, ticket: usize, answers: Vec<Answer>) -> Result<(), Fail> {
     let job = job_of(taken(run)?)?;
     if job.ticket == ticket && job.calls.len() == answers.len() {
         give(run, job, answers)
@@ -76,7 +81,7 @@ fn next_done(run: &mut Run, ticket: usize, answers: Vec<Answer>) -> Result<(), F
 }
 
 // What is told of the run of both tasks, by hand.
-fn both_done(alloc: Global, run: &mut Run) -> Result<(usize, u64, u64), Fail> {
+fn both_done(alloc: Global, run: &mut Run<'_>) -> Result<(usize, u64, u64), Fail> {
     next_done(run, 0, answers(alloc, DONE).ok_or("no answer")?)?;
     next_done(run, 2, Vec::new(alloc))?;
     match taken(run)? {
@@ -85,21 +90,9 @@ fn both_done(alloc: Global, run: &mut Run) -> Result<(usize, u64, u64), Fail> {
     }
 }
 
-fn told_of_both(alloc: Global, runnable: &Runnable) -> Result<(usize, u64, u64), Fail> {
-    both_done(alloc, &mut opened(alloc, runnable)?)
-}
-
-#[test]
-fn a_command_and_a_debug(rt: HostRuntime) -> Result<(), Fail> {
-    let runnable = judged(rt.alloc(), COMMAND_AND_DEBUG).ok_or("refused")?;
-    assert_eq!(rt; runnable.budget(), 1);
-    assert_eq!(rt; told_of_both(rt.alloc(), &runnable)?, (5, 2, 1));
-    Ok(())
-}
-
 // What a refused give hands back is the first job with its answer, and the run is unchanged;
 // stopped then, it takes and hands out no more.
-fn stops_unchanged(run: &mut Run, job: Job, answers: Vec<Answer>) -> Result<bool, Fail> {
+fn stops_unchanged(run: &mut Run<'_>, job: Job, answers: Vec<Answer>) -> Result<bool, Fail> {
     let is_back = job.ticket == 0 && answers.len() == 1;
     let is_unchanged = matches!(run.history(), [Event::Start(0)]);
     run.stop();
@@ -110,7 +103,7 @@ fn stops_unchanged(run: &mut Run, job: Job, answers: Vec<Answer>) -> Result<bool
 }
 
 // Whether the give of the first job is done, or is refused for want of memory, and then told so.
-fn gives_or_stops<R: Eprint + AllocGlobal>(rt: &R, run: &mut Run) -> Result<bool, Fail> {
+fn gives_or_stops<R: Eprint + AllocGlobal>(rt: &R, run: &mut Run<'_>) -> Result<bool, Fail> {
     let job = job_of(taken(run)?)?;
     match run.give(job, answers(rt.alloc(), PONG).ok_or("no answer")?) {
         Ok(_) => Ok(told(run) == (2, 1, 0)),
@@ -125,8 +118,8 @@ fn gives_or_stops<R: Eprint + AllocGlobal>(rt: &R, run: &mut Run) -> Result<bool
 
 #[test]
 fn a_refused_give_and_a_stop(rt: HostRuntime) -> Result<(), Fail> {
-    let runnable = judged(rt.alloc(), ONE_PING).ok_or("refused")?;
-    let mut run = opened(rt.alloc(), &runnable)?;
+    let checked = judged(rt.alloc(), ONE_PING).ok_or("refused")?;
+    let mut run = opened(rt.alloc(), &checked)?;
     assert!(rt; gives_or_stops(&rt, &mut run)?);
     Ok(())
 }

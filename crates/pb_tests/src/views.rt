@@ -1,5 +1,5 @@
 // What is known of the variables of an accepted book.
-use crate::runs::{ONE_HOST, checked};
+use crate::runs::accepted;
 use pb_kind::Kind;
 use pb_verify::Checked;
 use std::test::Fail;
@@ -20,7 +20,7 @@ fn are_known(checked: &Checked) -> Option<bool> {
 
 #[test]
 fn kinds_of_what_is_written(rt: HostRuntime) -> Result<(), Fail> {
-    let found = checked(rt.alloc(), WRITES, ONE_HOST).ok_or("refused")?;
+    let found = accepted(rt.alloc(), WRITES).ok_or("refused")?;
     assert_eq!(rt; are_known(&found), Some(true));
     Ok(())
 }

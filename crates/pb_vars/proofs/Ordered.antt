@@ -7,6 +7,7 @@ use Rattle.std.specs.declared.cmp.Ordering.{Ordering}
 use Rattle.std.specs.declared.cmp.Ordering.TheVariants.{Less, Equal, Greater}
 use Rattle.std.proofs.lemmas.Cmp.{nat_list_cmp_total}
 use Rattle.std.proofs.lemmas.Map.Text.{is_eq-slice_cmp}
+use Rattle.pb_semantics.proofs.Ascending.{below-first, below-rest, is-less}
 use Rattle.pb_semantics.proofs.Bools.{untrue, and-left, and-right, and-both}
 use Rattle.pb_semantics.proofs.Names.{own_name}
 use Rattle.pb_language.specs.Expression.{Name, Expression, Parts, no_parts, part}
@@ -27,31 +28,11 @@ less-differs n m h = sym (is_eq-slice_cmp n m) ∙ ap is_eq h
 pub less-turned : (n m : Name) → slice_cmp nat_cmp n m ≡ Less → bytes_eq m n ≡ false
 less-turned n m h = sym (is_eq-slice_cmp m n) ∙ ap is_eq (nat_list_cmp_total.antisymm m n ∙ ap ordering_reverse h)
 
-pub is-less : (o : Ordering) → is_lt o ≡ true → o ≡ Less
-is-less Less h = refl
-is-less Equal h = untrue h
-is-less Greater h = untrue h
-
 pub first-below : (n : Name) (e : Expression) (ps : Parts) → IsOrdered (part n e ps) → is_below n (part_names ps) ≡ true
 first-below n e ps h = and-left (is_below n (part_names ps)) (are_ascending (part_names ps)) h
 
 pub rest-ordered : (n : Name) (e : Expression) (ps : Parts) → IsOrdered (part n e ps) → IsOrdered ps
 rest-ordered n e ps h = and-right (is_below n (part_names ps)) (are_ascending (part_names ps)) h
-
-pub below-first : (n m : Name) (ms : List Name) → is_below n (m ∷ ms) ≡ true → slice_cmp nat_cmp n m ≡ Less
-below-first n m ms h = is-less (slice_cmp nat_cmp n m) (and-left (is_lt (slice_cmp nat_cmp n m)) (is_below n ms) h)
-
-pub below-rest : (n m : Name) (ms : List Name) → is_below n (m ∷ ms) ≡ true → is_below n ms ≡ true
-below-rest n m ms h = and-right (is_lt (slice_cmp nat_cmp n m)) (is_below n ms) h
-
-pub below-both : (n m : Name) (ms : List Name) → slice_cmp nat_cmp n m ≡ Less → is_below n ms ≡ true → is_below n (m ∷ ms) ≡ true
-below-both n m ms h b = and-both (is_lt (slice_cmp nat_cmp n m)) (is_below n ms) (ap is_lt h) b
-
--- what is below a name is below those that the name is below
-pub below-through : (n m : Name) (ms : List Name) → slice_cmp nat_cmp n m ≡ Less → is_below m ms ≡ true → is_below n ms ≡ true
-below-through n m [] h b = refl
-below-through n m (k ∷ ks) h b =
-    below-both n k ks (nat_list_cmp_total.trans n m k h (below-first m k ks b)) (below-through n m ks h (below-rest m k ks b))
 
 passed-over : (q : Bool) (e : Expression) (t : Option Expression) → q ≡ false → cond q (Some e) t ≡ t
 passed-over true e t h = untrue (sym h)

@@ -7,6 +7,7 @@ use Rattle.std.specs.Ordering.{nat_cmp}
 use Rattle.std.specs.declared.cmp.Ordering.TheVariants.{Less}
 use Rattle.std.proofs.lemmas.Option.{slice_get-map}
 use Rattle.pb_semantics.specs.Data.{Data, Fields, field, list, put_field}
+use Rattle.pb_semantics.proofs.Ascending.{below-first}
 use Rattle.pb_semantics.proofs.Bools.{and-left, and-right}
 use Rattle.pb_language.specs.Expression.{Name}
 use Rattle.pb_language.specs.Setting.{group_fields, names_list}
@@ -14,7 +15,6 @@ use Rattle.pb_language.specs.World.{Group}
 use Rattle.pb_inventory.specs.Numbered.{named}
 use Rattle.pb_inventory.specs.Views.{are_placed, group_view}
 use Rattle.pb_template.specs.Entries.{are_ascending, is_below}
-use Rattle.pb_vars.proofs.Ordered.{below-first}
 use Rattle.pb_world.proofs.Shown.{below-all}
 
 abbrev names_of_groups : List Group → List Name

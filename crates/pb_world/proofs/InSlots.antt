@@ -7,6 +7,7 @@ use Rattle.std.proofs.lemmas.List.Sums.{passes_at_first, fails_before_first}
 use Rattle.std.proofs.lemmas.Option.{slice_get-get_or}
 use Rattle.pb_semantics.specs.Data.{Data, Fields, field_value}
 use Rattle.pb_semantics.specs.Keeps.{is_among}
+use Rattle.pb_semantics.proofs.Ascending.{below-first, below-rest}
 use Rattle.pb_semantics.proofs.Bools.{and-both, and-left, and-right, not-true, or-left, true-false, untrue}
 use Rattle.pb_semantics.proofs.Names.{own_name, same_name}
 use Rattle.pb_language.specs.Expression.{Name}
@@ -14,7 +15,7 @@ use Rattle.pb_language.specs.Theorem.{are_distinct}
 use Rattle.pb_facts.specs.Variables.{or_else, slot_value, variables_over, VariablesAreRead}
 use Rattle.pb_slots.specs.Slots.{slot_in}
 use Rattle.pb_template.specs.Entries.{are_ascending, is_below}
-use Rattle.pb_vars.proofs.Ordered.{below-first, below-rest, less-differs}
+use Rattle.pb_vars.proofs.Ordered.{less-differs}
 
 -- names in their order stand once
 below-new : (n : Name) (ns : List Name) → is_below n ns ≡ true → is_among n ns ≡ false

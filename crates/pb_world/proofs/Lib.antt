@@ -7,4 +7,3 @@ pub mod HostLists
 pub mod GroupFields
 pub mod Written
 pub mod Runs
-pub mod GroupNames

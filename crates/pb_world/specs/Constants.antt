@@ -1,23 +1,13 @@
 -- What the values mean that stay the same in a whole run.
-use Rattle.std.specs.Prelude.{◌≡◌, ℕ, List, map, true, Ok}
+use Rattle.std.specs.Prelude.{◌≡◌, ℕ, List, map}
 use Rattle.pb_semantics.specs.Data.{Data, text, list, rec}
 use Rattle.pb_language.specs.Program.{Inventory, memberships_of}
 use Rattle.pb_language.specs.Setting.{group_fields, names_list}
 use Rattle.pb_inventory.specs.Numbered.{named}
-use Rattle.pb_inventory.specs.Offences.{inventory_in}
-use Rattle.pb_template.specs.Entries.{are_ascending}
 use Rattle.pb_value.specs.View.{view}
 use Rattle.pb_world.specs.Hosts.{names_of_hosts}
 use Rattle.pb_world.specs.declared.constants.Constants.{Constants}
 use Rattle.pb_world.specs.declared.constants.HostConstants.{HostConstants}
-
--- the groups stand in the order of their names' bytes, each name once
-abbrev pub GroupsAscend : Inventory → Type 0
-GroupsAscend i = are_ascending (map (λ g. g.name) i.groups) ≡ true
-
--- the groups of an inventory that is read stand in their order
-abbrev pub ReadGroupsAscend : Type 0
-ReadGroupsAscend = (bytes : List ℕ) (i : Inventory) → inventory_in bytes ≡ Ok i → GroupsAscend i
 
 abbrev pub host_names : List HostConstants → List Data
 host_names hs = map (λ h. view h.name) hs

@@ -1,5 +1,5 @@
 -- The words of this crate that the contracts of others cite, from one place.
-pub use Rattle.pb_world.specs.Constants.{AreConstants, GroupsAscend, names_data}
+pub use Rattle.pb_world.specs.Constants.{AreConstants, names_data}
 pub use Rattle.pb_world.specs.Failure.{text_of}
 pub use Rattle.pb_world.specs.Hosts.{names_of_hosts}
 pub use Rattle.pb_world.specs.RunWorld.{ShowsRun}

@@ -9,8 +9,7 @@ ghost use Rattle.pb_language.specs.Setting.{group_fields, names_list};
 ghost use Rattle.pb_language.specs.World.{HostVariables};
 ghost use Rattle.pb_semantics.specs.Words.{list, put_field, rec, text};
 ghost use Rattle.pb_value.specs.Words.{fields_view, view};
-ghost use Rattle.pb_world.specs.Constants.{AreConstants, GroupsAscend, host_groups, host_names};
-ghost use Rattle.pb_world.specs.Constants.{names_data};
+ghost use Rattle.pb_world.specs.Constants.{AreConstants, host_groups, host_names, names_data};
 ghost use Rattle.pb_world.specs.Hosts.{names_of_hosts};
 
 use pb_inventory::Inventory;
@@ -43,7 +42,6 @@ impl Constants {
     ///
     /// Want of memory, also where a value would weigh more than `MOST_VALUE`.
     pub fn of(alloc: Global, inventory: &Inventory) -> Result<Constants, AllocError>
-        requires ascending { GroupsAscend (inventory_view inventory.now) }
         ensures constants { IfOk result (λ c. AreConstants (inventory_view inventory.now) c) }
         ensures count { IfOk result
             (λ c. length c.hosts.items ≡ length (inventory_view inventory.now).hosts) }
@@ -148,7 +146,6 @@ fn groups_of(
     inventory: &Inventory,
     hosts: &[HostConstants],
 ) -> Result<Value, AllocError>
-    requires ascending { GroupsAscend (inventory_view inventory.now) }
     requires names { host_names hosts.now
         ≡ map text (names_of_hosts (inventory_view inventory.now).hosts) }
     ensures { IfOk result (λ v. view v ≡ rec (group_fields (inventory_view inventory.now).groups)) }

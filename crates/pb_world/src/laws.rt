@@ -4,7 +4,6 @@ ghost use Rattle.pb_language.specs.Program.{Batch};
 ghost use Rattle.pb_language.specs.Task.{Task};
 ghost use Rattle.pb_machine.specs.Hosts.{FlatHost};
 ghost use Rattle.pb_machine.specs.Run.{FlatState, world_of};
-ghost use Rattle.pb_world.specs.Constants.{ReadGroupsAscend};
 ghost use Rattle.pb_world.specs.World.{Shows, world_shown};
 ghost use Rattle.pb_world.specs.declared.world.HostWorld.{HostWorld};
 
@@ -12,9 +11,4 @@ ghost use Rattle.pb_world.specs.declared.world.HostWorld.{HostWorld};
 pub fn shows_the_world()
     ensures { (w : HostWorld) (s : FlatState) (b : Batch) (h : FlatHost) (t : Task)
         → Shows w s b h t → world_shown w ≡ world_of s b h t }
-{}
-
-/// The groups of an inventory that was read stand in the order of their names' bytes.
-pub fn read_groups_ascend()
-    ensures { ReadGroupsAscend }
 {}

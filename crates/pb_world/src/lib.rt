@@ -1,6 +1,5 @@
 // The world of a host's task in a run, by references to what the run keeps.
 //
-//     read_groups_ascend();
 //     let constants = Constants::of(alloc, inventory)?; // once
 //     let active = ActiveHosts::of(alloc, inventory.hosts(), members)?; // at each change of them
 //     let play_batch = play_batch_of(alloc, &constants, active.members())?;
@@ -30,7 +29,7 @@ pub use active::ActiveHosts;
 pub use always::AlwaysThere;
 pub use constants::{Constants, HostConstants, play_batch_of};
 pub use failure::failure_of;
-pub use laws::{read_groups_ascend, shows_the_world};
+pub use laws::shows_the_world;
 pub use run_world::RunWorld;
 pub use variables::Variables;
 pub use world::HostWorld;

@@ -1,6 +1,7 @@
 use Rattle.std.proofs.Common.{◌≡◌, ◌∙◌, ◌<◌, BTreeMap, Global, List, String, length, map, sym, ap, subst, string_bytes, arith}
 use Rattle.std.specs.declared.sync.Arc.{Arc}
 use Rattle.std.proofs.lemmas.List.{length-map}
+use Rattle.pb_semantics.specs.Ascending.{are_ascending}
 use Rattle.pb_semantics.specs.Keeps.{is_among}
 use Rattle.pb_language.specs.Expression.{Name}
 use Rattle.pb_language.specs.Families.{groups_of, members, own_variables}
@@ -19,6 +20,7 @@ use Rattle.pb_inventory.specs.Views.{are_placed, group_view, host_names, host_vi
 use Rattle.pb_inventory.proofs.Apart.{group_names-all, group_names-apart, host_order-apart}
 use Rattle.pb_inventory.proofs.Built.{groups-placed, inventory-is, root-free, some-written}
 use Rattle.pb_inventory.proofs.HostAt.{names-of_variables, names-of_views}
+use Rattle.pb_inventory.proofs.NameOrder.{names-ascend}
 use Rattle.pb_inventory.proofs.NamedDepths.{depth-numbered}
 use Rattle.pb_inventory.proofs.Rows.{in_row-below}
 use Rattle.pb_inventory.proofs.build.put_together.Goals as goal
@@ -93,6 +95,10 @@ of_parts-requires-clause-placed c =
     let d = document_view c.args.document.now in
     let count : length es ≡ length hks = sym (length-map es host_view) ∙ ap length c.in_ok-known.ensures.hosts ∙ length-map hs (host_variables d) ∙ length-map hks (λ k. string_bytes k) in
     ap (λ n. are_placed n c.in_ok-placed.placed.entries) count ∙ c.in_ok-placed.ensures.placed
+
+pub of_parts-requires-clause-ascending : goal.of_parts-requires-clause-ascending
+of_parts-requires-clause-ascending c =
+    ap are_ascending (c.in_ok-placed.ensures.groups.names ∙ c.requires.numbered.names) ∙ names-ascend (document_view c.args.document.now).groups
 
 pub of_parts-requires-clause-grouped : goal.of_parts-requires-clause-grouped
 of_parts-requires-clause-grouped c =

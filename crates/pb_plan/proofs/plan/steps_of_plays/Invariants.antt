@@ -10,3 +10,4 @@ abbrev pub invariant-loop-nodes : goal.invariant-loop-nodes
 invariant-loop-nodes l = (l.nodes-iterator.rest.items ≡ drop (length l.planned.items) l.fn.plays.items)
     × ((ms : Registry) → map plan_view l.planned.items ≡ map (λ n. play_plan ms (play_view n.play.now)) (take (length l.planned.items) l.fn.plays.items))
     × ((ms : Registry) → AreUsesOf ms (names_of_slots l.slots) l.planned.items (take (length l.planned.items) l.fn.plays.items))
+    × (map (λ s. s.handlers) l.planned.items ≡ map (λ n. length n.play.now.handlers.items) (take (length l.planned.items) l.fn.plays.items))

@@ -10,4 +10,4 @@ loop-group-preserved c =
     let l = c.loop-group in
     let gs = (inventory_view c.args.inventory.now).groups in
     let same : l.group ≡ (l.group - 1) + 1 = omega arith in
-    group-next gs (l.group - 1) (fields_view l.fields.entries) (fields_view c.put_group.new.fields.entries) c.requires.ascending (l.invariant ∙ ap (λ i. group_fields (drop i gs)) same) c.in_ok-put_group.ensures
+    group-next gs (l.group - 1) (fields_view l.fields.entries) (fields_view c.put_group.new.fields.entries) c.groups.ensures.ascending (l.invariant ∙ ap (λ i. group_fields (drop i gs)) same) c.in_ok-put_group.ensures

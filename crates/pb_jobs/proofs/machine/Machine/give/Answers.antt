@@ -2,13 +2,20 @@ use Rattle.std.proofs.Common.{map, get_or, ap, subst, ◌∙◌}
 use Rattle.pb_finish.specs.Answers.{answer_data}
 use Rattle.pb_jobs.specs.Machines.{AreCallsOf}
 use Rattle.pb_jobs.proofs.Finishes.{comes_so, none_more}
+use Rattle.pb_jobs.proofs.Gives.{changes_again, changes_left, changes_settled}
 use Rattle.pb_jobs.proofs.machine.Machine.give.Goals as goal
 
 pub returns-in_ok-leave-in-Left-clause-gives : goal.returns-in_ok-leave-in-Left-clause-gives
 returns-in_ok-leave-in-Left-clause-gives c = λ reading s is w fine.
     let known = comes_so c.args.self.now c.look.new.self c.in-Some.batch c.scene.result c.args.host c.args.answers.now c.in_ok-finished.finished _
     c.look.ensures.same c.in-Some.is c.scene.ensures c.in_ok-finished.ensures c.in-Left.is reading s is w fine in
-    (c.in_ok-leave-in-Left.ensures.leaves reading s known.0 w (map answer_data c.args.answers.now) known.1, tt)
+    let changes = changes_left s c.args.host w (map answer_data c.args.answers.now) _ known.1 in
+    record {
+      after = c.in_ok-leave-in-Left.ensures.leaves reading s known.0 w (map answer_data c.args.answers.now) known.1;
+      calls = tt;
+      hosts = changes.hosts;
+      steps = changes.steps;
+    }
 
 pub returns-in_ok-leave-in-Left-clause-counts : goal.returns-in_ok-leave-in-Left-clause-counts
 returns-in_ok-leave-in-Left-clause-counts c =
@@ -19,13 +26,26 @@ returns-in_ok-calls-in-Again-clause-gives c = λ reading s is w fine.
     let known = comes_so c.args.self.now c.look.new.self c.in-Some.batch c.scene.result c.args.host c.args.answers.now c.in_ok-finished.finished _
     c.look.ensures.same c.in-Some.is c.scene.ensures c.in_ok-finished.ensures c.in-Again.is reading s is w fine in
     let given = c.in_ok-calls-in-Again.ensures.repeats reading s known.0 w (map answer_data c.args.answers.now) known.1 in
-    (given.0, subst (λ n. AreCallsOf w n c.in_ok-calls-in-Again.calls.items) (ap (λ v. get_or v.items c.args.host 0) c.look.ensures.same.calls) given.1)
+    let calls = subst (λ n. AreCallsOf w n c.in_ok-calls-in-Again.calls.items) (ap (λ v. get_or v.items c.args.host 0) c.look.ensures.same.calls) given.1 in
+    let changes = changes_again s c.args.host w (map answer_data c.args.answers.now) _ c.in_ok-calls-in-Again.calls.items known.1 calls in
+    record {
+      after = given.0;
+      calls = (known.1, calls);
+      hosts = changes.hosts;
+      steps = changes.steps;
+    }
 
 pub returns-in_ok-settle-in-Ended-clause-gives : goal.returns-in_ok-settle-in-Ended-clause-gives
 returns-in_ok-settle-in-Ended-clause-gives c = λ reading s is w fine.
     let known = comes_so c.args.self.now c.look.new.self c.in-Some.batch c.scene.result c.args.host c.args.answers.now c.in_ok-finished.finished _
     c.look.ensures.same c.in-Some.is c.scene.ensures c.in_ok-finished.ensures c.in-Ended.is reading s is w fine in
-    (c.in_ok-settle-in-Ended.ensures.settles reading s known.0 w (map answer_data c.args.answers.now) known.1, tt)
+    let changes = changes_settled s c.args.host w (map answer_data c.args.answers.now) _ _ known.1 in
+    record {
+      after = c.in_ok-settle-in-Ended.ensures.settles reading s known.0 w (map answer_data c.args.answers.now) known.1;
+      calls = tt;
+      hosts = changes.hosts;
+      steps = changes.steps;
+    }
 
 pub returns-in_ok-settle-in-Ended-clause-counts : goal.returns-in_ok-settle-in-Ended-clause-counts
 returns-in_ok-settle-in-Ended-clause-counts c =

@@ -1,4 +1,4 @@
-use Rattle.std.proofs.Common.{◌≡◌, ◌≤◌, List, [], map, sym, ap, subst, subst₂, ◌∙◌, ⊎_elim}
+use Rattle.std.proofs.Common.{◌≡◌, ◌≤◌, List, [], length, map, sym, ap, subst, subst₂, ◌∙◌, ⊎_elim}
 use Rattle.std.specs.List.{All}
 use Rattle.pb_semantics.proofs.Bools.{untrue}
 use Rattle.pb_semantics.specs.Limits.{most_play_steps}
@@ -16,8 +16,8 @@ use Rattle.pb_steps.specs.declared.nodes.PlayNodes.{PlayNodes}
 use Rattle.pb_verify.specs.Scenes.{AllGather}
 use Rattle.pb_plan.specs.Nodes.{AreNodesOf, AreTasksOf, SomeNodesUse}
 use Rattle.pb_plan.specs.Plays.{AllPrepared, AllUsed, SomePlayUses}
-use Rattle.pb_plan.proofs.Accepted.{accepted-few, plans-of-views}
-use Rattle.pb_plan.proofs.Planned.{all-prepared, all-used, nodes-use, plans-of, plays-use}
+use Rattle.pb_plan.proofs.Accepted.{accepted-few, handlers-of-views, plans-of-views}
+use Rattle.pb_plan.proofs.Planned.{all-prepared, all-used, handlers-of, nodes-use, plans-of, plays-use}
 use Rattle.pb_plan.proofs.plan.Plan.of.Goals as goal
 
 pub nodes_of_plays-requires : goal.nodes_of_plays-requires
@@ -56,6 +56,17 @@ returns-clause-tasks c =
     let of : AreNodesOf ms ps ns = c.in_ok-nodes.ensures.plays ms sound gather in
     let made : AreTasksOf ms c.in_ok-tasks.tasks.items ns = subst (AreTasksOf ms c.in_ok-tasks.tasks.items) c.deref-3.ensures.value (c.in_ok-tasks.ensures ms) in
     subst (λ qs. AllPrepared ms c.in_ok-tasks.tasks.items (map play_view qs)) (c.plays-plays.ensures ∙ ap plays_of c.book.ensures.value) (all-prepared ms ps ns c.in_ok-tasks.tasks.items of made)
+
+pub returns-clause-handlers : goal.returns-clause-handlers
+returns-clause-handlers c =
+    let ms = modules_of c.args.checked.now.registry in
+    let ps = c.plays-plays.result.now in
+    let ns = c.in_ok-nodes.nodes.items in
+    let sound = subst (λ qs. AreSound ms (all_tasks qs)) (sym c.plays-plays.ensures) c.book.ensures.sound in
+    let gather = subst₂ (λ r ts. AllGather (modules_of r) ps ts) c.registry.ensures (sym c.deref.ensures.value) c.in_ok-gathering.ensures in
+    let of : AreNodesOf ms ps ns = c.in_ok-nodes.ensures.plays ms sound gather in
+    c.in_ok-plays.ensures.handlers ∙ handlers-of ms ps ns of ∙ ap (map (λ (p : Play). length p.handlers.items)) (c.plays-plays.ensures ∙ ap plays_of c.book.ensures.value)
+    ∙ handlers-of-views (plays_of c.args.checked.now.book)
 
 pub returns-clause-whole : goal.returns-clause-whole
 returns-clause-whole c n u =

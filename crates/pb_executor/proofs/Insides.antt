@@ -1,0 +1,81 @@
+-- What the calls of a run do, by what its recorded machine does.
+use Rattle.std.proofs.Common.{◌≡◌, ◌++◌, Result, Ok, Err, IfOk, IfErr, OnErr, ℕ, Vec, true, refl, ap, subst}
+use Rattle.std.specs.declared.alloc.AllocError.{AllocError}
+use Rattle.std.specs.declared.alloc.Global.{Global}
+use Rattle.pb_finish.specs.declared.answer.Answer.{Answer}
+use Rattle.pb_history.specs.Jobs.{is_out_at}
+use Rattle.pb_run.specs.Calls.{Gives, HasJob, IsRefused, StaysRecorded, Takes}
+use Rattle.pb_run.specs.Openings.{IsNeverStuck, Opening}
+use Rattle.pb_run.specs.Recorded.{IsRecorded, Stops, stop_events}
+use Rattle.pb_run.specs.declared.event.Given.{Given}
+use Rattle.pb_run.specs.declared.event.GiveError.{GiveError}
+use Rattle.pb_run.specs.declared.event.GiveError.TheVariants as refusal
+use Rattle.pb_run.specs.declared.event.Taken.{Taken}
+use Rattle.pb_run.specs.declared.event.Taken.TheVariants as taken
+use Rattle.pb_run.specs.declared.recorded.RecordedMachine.{RecordedMachine}
+use Rattle.pb_executor.specs.Drives.{GivesRun, TakesRun}
+use Rattle.pb_executor.specs.Inside.{IsRun, run_state}
+use Rattle.pb_executor.specs.Refusals.{IsRefusedRun}
+use Rattle.pb_executor.specs.Sound.{IsSound}
+use Rattle.pb_executor.specs.States.{opening_for, state_of}
+use Rattle.pb_executor.specs.declared.run.Run.TheInside.{Inside}
+use Rattle.pb_executor.proofs.Runs.{is_sound, never_stuck, waits_out}
+
+pub sound_run : (a : Inside) → IsRun a → IsSound (run_state a)
+sound_run a is = is_sound (run_state a) is.accepted is.recorded.enabled
+
+module _ (a : Inside) (is : IsRun a) where
+  abbrev o : Opening
+  o = opening_for a.checked.now a.forks
+
+  never : IsNeverStuck o
+  never = never_stuck (run_state a) is.accepted
+
+  pub refused_run : (e : GiveError) (k t : ℕ) → IsRefused e k t a.recorded → IsRefusedRun e k t (run_state a)
+  refused_run refusal.NoMemory k t x = x o is.recorded
+  refused_run refusal.Stopped k t x = x o is.recorded
+  refused_run refusal.Stranger k t x = x o is.recorded
+
+  module _ (m : RecordedMachine) where
+    abbrev b : Inside
+    b = record a { recorded = m }
+
+    keeps : IsRecorded o m → IsRun b
+    keeps recorded = record { accepted = is.accepted; recorded = recorded; forks = is.forks }
+
+    -- what there is to do is asked
+    pub take_keeps : (r : Result Taken AllocError) → IfOk r (λ t. Takes t a.recorded m) → OnErr r (StaysRecorded a.recorded m) → IsRun b
+    take_keeps (Ok t) takes stays = keeps (takes o never is.recorded).recorded
+    take_keeps (Err e) takes stays = keeps (stays.recorded o is.recorded)
+
+    pub takes_run : (t : Taken) → Takes t a.recorded m → TakesRun t (run_state a) (run_state b)
+    takes_run t takes = record { same = refl; taken = (takes o never is.recorded).taken }
+
+    pub idle_run : (t : Taken) → Takes t a.recorded m → t ≡ taken.Idle → (k : ℕ) × (is_out_at k (state_of (run_state b)) ≡ true)
+    idle_run t takes idle =
+        let x = takes o never is.recorded in
+        waits_out (run_state b) is.accepted is.forks (subst (HasJob o a.recorded.history.items m.history.items _) idle x.taken.job).1
+
+    -- answers are given
+    pub give_keeps : {E : Type 0} (k t : ℕ) (xs : Vec Answer Global) (r : Result Given E) → IfOk r (λ g. Gives k t xs g a.recorded m) → OnErr r (StaysRecorded a.recorded m) → IsRun b
+    give_keeps k t xs (Ok g) gives stays = keeps (gives o never is.recorded).recorded
+    give_keeps k t xs (Err e) gives stays = keeps (stays.recorded o is.recorded)
+
+    pub gives_run : (k t : ℕ) (xs : Vec Answer Global) (g : Given) → Gives k t xs g a.recorded m → GivesRun k t xs g (run_state a) (run_state b)
+    gives_run k t xs g gives = record { same = refl; given = (gives o never is.recorded).given }
+
+    -- it is stopped
+    pub stop_keeps : Stops a.recorded m → IsRun b
+    stop_keeps stops = keeps (stops o is.recorded).recorded
+
+    pub stops_run : Stops a.recorded m → run_state b ≡ record (run_state a) { history = (run_state a).history ++ stop_events (state_of (run_state a)) }
+    stops_run stops = ap (λ xs. record (run_state a) { history = xs }) (stops o is.recorded).history
+
+-- an answer by what it is
+pub ok_run : {X E : Type 0} (r : Result X E) (P Q : X → Type 0) → ((x : X) → P x → Q x) → IfOk r P → IfOk r Q
+ok_run (Ok x) P Q f p = f x p
+ok_run (Err e) P Q f p = p
+
+pub err_run : {X E : Type 0} (r : Result X E) (P Q : E → Type 0) → ((e : E) → P e → Q e) → IfErr r P → IfErr r Q
+err_run (Ok x) P Q f p = p
+err_run (Err e) P Q f p = f e p

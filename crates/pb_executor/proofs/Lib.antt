@@ -1,0 +1,6 @@
+pub mod Waiting
+pub mod Runs
+pub mod Driven
+pub mod Filed
+pub mod Insides
+pub mod Turns

@@ -1,0 +1,6 @@
+pub mod States
+pub mod Inside
+pub mod Sound
+pub mod Drives
+pub mod Refusals
+pub mod Words

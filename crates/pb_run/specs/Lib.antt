@@ -1,0 +1,5 @@
+pub mod Openings
+pub mod Recorded
+pub mod Calls
+pub mod Starts
+pub mod Words

@@ -1,0 +1,51 @@
+// What is seen of a run: its history, its hosts and what their tasks came to.
+ghost use Rattle.std.specs.Prelude.{◌≡◌, None, get_or};
+ghost use Rattle.pb_core.specs.Words.{tickets_of};
+ghost use Rattle.pb_run.specs.Calls.{is_ticket};
+ghost use Rattle.pb_run.specs.Recorded.{CountsHosts, Recaps};
+
+use crate::event::Event;
+use crate::recorded::RecordedMachine;
+use pb_core::{Recap, Stage};
+
+impl RecordedMachine<'_> {
+    /// What has happened, in order.
+    pub fn history(&self) -> &[Event]
+        ensures { result.now ≡ self.now.history.items }
+    {
+        self.history.as_slice()
+    }
+
+    /// What the host's tasks came to so far; zeros past the last host.
+    pub fn recap(&self, host: usize) -> Recap
+        ensures { Recaps host result self.now }
+    {
+        let hosts = self.machine.core.hosts();
+        if host >= hosts.len() {
+            return Recap::empty();
+        }
+        hosts[host].recap
+    }
+
+    /// How many hosts the run has.
+    pub fn hosts(&self) -> usize
+        ensures { CountsHosts result self.now }
+    {
+        self.machine.core.hosts().len()
+    }
+
+    // Whether the host's job of that ticket is out.
+    pub(crate) fn is_out(&self, host: usize, ticket: usize) -> bool
+        ensures { result
+            ≡ is_ticket ticket (get_or (tickets_of self.now.machine.core) host None) }
+    {
+        let hosts = self.machine.core.hosts();
+        if host >= hosts.len() {
+            return false;
+        }
+        match &hosts[host].stage {
+            Stage::Waits => false,
+            Stage::Runs { ticket: out, .. } => *out == ticket,
+        }
+    }
+}

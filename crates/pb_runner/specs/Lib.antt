@@ -1,0 +1,4 @@
+pub mod Answered
+pub mod Faults
+pub mod Scripts
+pub mod Words

@@ -1,5 +1,0 @@
-use Rattle.std.proofs.Common.{refl}
-use Rattle.pb_strategy.proofs.script.ScriptRunnerRunner.made.Goals as goal
-
-pub returns : goal.returns
-returns c = refl

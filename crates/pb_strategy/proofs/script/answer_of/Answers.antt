@@ -1,4 +1,0 @@
-use Rattle.pb_strategy.proofs.script.answer_of.Goals as goal
-
-pub returns-then-is_unreachable-clause-memory : goal.returns-then-is_unreachable-clause-memory
-returns-then-is_unreachable-clause-memory c = λ failed. let clash = failed in cc

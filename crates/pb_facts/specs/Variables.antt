@@ -11,11 +11,6 @@ abbrev pub put_value : Name → Option Data → Fields → Fields
 put_value name None base = base
 put_value name (Some value) base = put_field name value base
 
--- the fields are put one after the other
-abbrev pub put_all : Fields → Fields → Fields
-put_all no_fields vars = vars
-put_all (field n d fs) vars = put_all fs (put_field n d vars)
-
 -- the names of the slots in their order, and what is in them
 abbrev pub variables_over : Fields → List Name → List (Option Data) → Fields
 variables_over base [] values = base

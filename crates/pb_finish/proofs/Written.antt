@@ -1,9 +1,8 @@
 -- What is written, one after the other.
 use Rattle.std.proofs.Common.{◌≡◌, ℕ, List, [], ◌∷◌, ◌++◌, map, Bool, cond, Option, Some, None, string_bytes, codes, refl, ap}
-use Rattle.pb_semantics.specs.Data.{Data, Fields, no_fields, field, put_field, rec, item, text}
+use Rattle.pb_semantics.specs.Data.{Data, Fields, no_fields, field, put_all, put_field, rec, item, text}
 use Rattle.pb_language.specs.Give.{with_changes, result_items, failure_text}
 use Rattle.pb_language.specs.Start.{all_changes}
-use Rattle.pb_language.specs.plain.Gives.{put_all}
 use Rattle.pb_value.proofs.Fields.{Entry}
 use Rattle.pb_value.specs.Append.{append_fields}
 use Rattle.pb_value.specs.View.{view, items_of, fields_view}

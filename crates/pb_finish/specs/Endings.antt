@@ -1,7 +1,7 @@
 -- What a task comes to, beside the definitions' functions of its answers.
 use Rattle.std.specs.Prelude.{◌≡◌, ℕ, List, map, drop, Bool, true, false, not, ◌&&◌, cond, Option}
 use Rattle.std.specs.Prelude.{Some, None, option_map, string_bytes}
-use Rattle.pb_semantics.specs.Data.{Data, Fields, boolean, text, rec}
+use Rattle.pb_semantics.specs.Data.{Data, Fields, boolean, put_all, text, rec}
 use Rattle.pb_language.specs.Evaluation.{Outcome as Evaluated, value}
 use Rattle.pb_language.specs.Expression.{Name, Expression}
 use Rattle.pb_language.specs.Give as language
@@ -11,7 +11,6 @@ use Rattle.pb_language.specs.Give.{last_attempts, message_of, register_field, re
 use Rattle.pb_language.specs.Give.{with_all_sets, written_variables}
 use Rattle.pb_language.specs.Task.{Task}
 use Rattle.pb_language.specs.World.{World}
-use Rattle.pb_language.specs.plain.Gives.{put_all}
 use Rattle.pb_kind.specs.KindView.{shape_view}
 use Rattle.pb_value.specs.View.{fields_view}
 use Rattle.pb_start.specs.Blocks.{block_fields}

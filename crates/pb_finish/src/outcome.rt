@@ -1,13 +1,13 @@
 // How a task ended: its statuses, the variables that it writes, and the text of its failure.
 ghost use Rattle.std.specs.Prelude.{◌&&◌, ◌≡◌, IfOk, None, OnOk, Option, Some, codes, cond};
 ghost use Rattle.std.specs.Prelude.{is_some, map, not, option_map, string_bytes};
-ghost use Rattle.pb_semantics.specs.Words.{Fields as FieldsData, field_value, list, rec};
+ghost use Rattle.pb_semantics.specs.Words.{Fields as FieldsData, field_value, list, put_all, rec};
 ghost use Rattle.pb_language.specs.Give.{all_hold, all_skipped, any_changed, any_failed};
 ghost use Rattle.pb_language.specs.Give.{first_fields, looped_fields, message_of};
 ghost use Rattle.pb_language.specs.Give.{registered_fields, result_items, with_all_sets};
 ghost use Rattle.pb_language.specs.Give.{with_change, with_changes};
 ghost use Rattle.pb_language.specs.Task.{Task};
-ghost use Rattle.pb_language.specs.Words.{Expression, all_changes, put_all};
+ghost use Rattle.pb_language.specs.Words.{Expression, all_changes};
 ghost use Rattle.pb_value.specs.Words.{fields_view, view};
 ghost use Rattle.pb_start.specs.Words.{Prepares};
 ghost use Rattle.pb_finish.specs.Endings.{IsOutcome, final_view, text_in, written};

@@ -3,9 +3,8 @@ use Rattle.std.proofs.Common.{◌≡◌, ℕ, List, [], Bool, true, cond, Option
 use Rattle.std.specs.declared.alloc.Global.{Global}
 use Rattle.std.specs.declared.sync.Arc.{Arc}
 use denote.Ref.{Bor}
-use Rattle.pb_semantics.specs.Data.{Fields, no_fields, field, put_field}
+use Rattle.pb_semantics.specs.Data.{Fields, no_fields, field, put_all, put_field}
 use Rattle.pb_language.specs.plain.Gives as plain
-use Rattle.pb_facts.specs.Variables.{put_all}
 use Rattle.pb_position.specs.Texts.{text_of}
 use Rattle.pb_value.specs.View.{view}
 use Rattle.pb_value.specs.declared.value.Value.{Value}

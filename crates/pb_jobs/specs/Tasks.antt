@@ -1,7 +1,7 @@
 -- What a host's task does as it starts, and what the answers to its job make of it.
 use Rattle.std.specs.Prelude.{◌≡◌, ℕ, List, Vec, Bool, true, false, not, ◌&&◌, map, get_or}
 use Rattle.std.specs.declared.alloc.Global.{Global}
-use Rattle.pb_semantics.specs.Data.{Fields}
+use Rattle.pb_semantics.specs.Data.{Fields, put_all}
 use Rattle.pb_language.specs.Cases.{action_name}
 use Rattle.pb_language.specs.Give.{Answer, Ended, any_changed, any_failed, asks_again}
 use Rattle.pb_language.specs.Give.{last_attempts, written_variables}
@@ -16,7 +16,6 @@ use Rattle.pb_history.specs.Happens.{Comes, MayStart, Works, answered, left_by, 
 use Rattle.pb_history.specs.Happens.{task_of_start}
 use Rattle.pb_history.specs.Jobs.{pass_calls}
 use Rattle.pb_value.specs.View.{fields_view}
-use Rattle.pb_facts.specs.Variables.{put_all}
 use Rattle.pb_start.specs.Passes.{pass_view}
 use Rattle.pb_start.specs.declared.passes.Pass.{Pass}
 use Rattle.pb_finish.specs.Answers.{answer_data}

@@ -33,10 +33,6 @@ pub mod Least
 pub mod Short
 pub mod Certain
 pub mod Untaught
-pub mod PlainRows
-pub mod PlainSteps
-pub mod PlainGives
-pub mod PlainEval
 pub mod Derived
 pub mod Derives
 pub mod Evaluated

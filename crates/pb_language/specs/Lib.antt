@@ -30,13 +30,11 @@ pub mod Judged
 pub mod Drive
 pub mod Builtins
 pub mod Theorem
-pub mod Simple
 pub mod Wells
 pub mod Ordered
 pub mod SameBelow
 pub mod Nodes
 pub mod Links
-pub mod plain
 pub mod Tokens
 pub mod Grammar
 pub mod Derivations

@@ -37,7 +37,6 @@ pub use Rattle.pb_language.specs.Rules.{is_parameter, is_variable_name, is_well_
 pub use Rattle.pb_language.specs.Rules.{reserved_names, set_names, written_names}
 pub use Rattle.pb_language.specs.Scope.{spot_kind}
 pub use Rattle.pb_language.specs.Setting.{names_list}
-pub use Rattle.pb_language.specs.Simple.{are_simple, is_simple, parts_simple, shared_names}
 pub use Rattle.pb_language.specs.Start.{acts, all_changes, calls, eval_action, plan_of, planned}
 pub use Rattle.pb_language.specs.Start.{unchanged, with_pass}
 pub use Rattle.pb_language.specs.Tables.{written_spot}
@@ -47,7 +46,3 @@ pub use Rattle.pb_language.specs.Tokens.{number_then, quoted, sign_then, token, 
 pub use Rattle.pb_language.specs.Tokens.{tokens_of, unreadable, word_token}
 pub use Rattle.pb_language.specs.Verdict.{accepted, code_of}
 pub use Rattle.pb_language.specs.World.{World}
-pub use Rattle.pb_language.specs.plain.Books.{are_plain_tasks, is_plain_task, lone_host, task_data}
-pub use Rattle.pb_language.specs.plain.Gives.{a_pass, action_fields, goes_on, put_all}
-pub use Rattle.pb_language.specs.plain.Gives.{result_writes}
-pub use Rattle.pb_language.specs.plain.Tasks.{plain_action, plain_run, work_calls}

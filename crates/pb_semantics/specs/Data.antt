@@ -35,6 +35,11 @@ put_field n d no_fields = field n d no_fields
 put_field n d (field m e fs) = match_ordering (slice_cmp nat_cmp n m) (field n d (field m e fs))
     (field m d fs) (field m e (put_field n d fs))
 
+-- the fields are put one after the other
+abbrev pub put_all : Fields → Fields → Fields
+put_all no_fields vars = vars
+put_all (field n d fs) vars = put_all fs (put_field n d vars)
+
 abbrev pub count_of : Items → ℕ
 count_of no_items = 0
 count_of (item d ds) = suc (count_of ds)

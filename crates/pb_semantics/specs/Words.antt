@@ -4,7 +4,7 @@ pub use Rattle.pb_semantics.specs.Ascending.{are_ascending}
 pub use Rattle.pb_semantics.specs.Below.{all_cases, are_among, below, is_covered, names_among}
 pub use Rattle.pb_semantics.specs.Below.{record_below, same_case, slots_below, spot_below}
 pub use Rattle.pb_semantics.specs.Data.{Data, Fields, boolean, count_of, field_value, int, list}
-pub use Rattle.pb_semantics.specs.Data.{no_fields, null, put_field, rec, text}
+pub use Rattle.pb_semantics.specs.Data.{no_fields, null, put_all, put_field, rec, text}
 pub use Rattle.pb_semantics.specs.Equal.{data_eq, fields_eq, is_item, is_part, items_eq}
 pub use Rattle.pb_semantics.specs.Fit.{any_case_holds, any_slot_holds, holds_any, is_any}
 pub use Rattle.pb_semantics.specs.Fit.{is_boolean}

@@ -1,3 +1,4 @@
 pub mod Passed
 pub mod Messages
 pub mod Items
+pub mod Worth

@@ -5,12 +5,12 @@ use Rattle.std.proofs.lemmas.Bool.Decides.{eqb_tells}
 use Rattle.std.proofs.lemmas.List.{get_or-set_other, get_or-set_same, length-map, length-set, map-set}
 use Rattle.std.proofs.lemmas.List.Elements.{All-append, All-head, All-set, All-tail}
 use Rattle.std.proofs.lemmas.Option.{get_or_from_slice_get, slice_get_within}
-use Rattle.pb_semantics.specs.Data.{Fields, no_fields, field, put_field}
+use Rattle.pb_semantics.specs.Data.{Fields, no_fields, field, put_all, put_field}
 use Rattle.pb_language.specs.Expression.{Name}
 use Rattle.pb_language.specs.Theorem.{are_distinct}
 use Rattle.pb_language.specs.World.{HostVariables}
 use Rattle.pb_facts.specs.Facts.{Held, IsBlock, row_of, with_value}
-use Rattle.pb_facts.specs.Variables.{VariablesArePut, put_all, variables_over}
+use Rattle.pb_facts.specs.Variables.{VariablesArePut, variables_over}
 use Rattle.pb_slots.specs.Slots.{slot_in}
 use Rattle.pb_value.specs.Append.{append_fields}
 use Rattle.pb_value.specs.View.{fields_view, view}

@@ -1,7 +1,7 @@
 // The variables that a task sets on its host, written to their slots.
 ghost use Rattle.std.specs.Prelude.{◌<◌, ◌≡◌, ℕ, All, IfOk, IfSome, cond, is_some, length, nat_eq};
 ghost use Rattle.std.specs.Prelude.{List};
-ghost use Rattle.pb_facts.specs.Words.{put_all};
+ghost use Rattle.pb_semantics.specs.Words.{put_all};
 ghost use Rattle.pb_language.specs.World.{HostVariables};
 ghost use Rattle.pb_slots.specs.Words.{names_of_slots};
 ghost use Rattle.pb_slots.specs.declared.slots.Slots.{Slots as SlotsOfNames};

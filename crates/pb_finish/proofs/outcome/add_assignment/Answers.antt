@@ -1,5 +1,5 @@
 use Rattle.std.proofs.Common.{refl, ap, ◌∙◌}
-use Rattle.pb_language.specs.plain.Gives.{put_all}
+use Rattle.pb_semantics.specs.Data.{put_all}
 use Rattle.pb_value.specs.View.{fields_view}
 use Rattle.pb_finish.proofs.Written.{put_all-push}
 use Rattle.pb_finish.proofs.outcome.add_assignment.Goals as goal

@@ -1,5 +1,5 @@
 use Rattle.std.proofs.Common.{◌≡◌, [], ap, sym, ◌∙◌}
-use Rattle.pb_language.specs.plain.Gives.{put_all}
+use Rattle.pb_semantics.specs.Data.{put_all}
 use Rattle.pb_value.specs.View.{fields_view}
 use Rattle.pb_value.proofs.Appended.{append_fields-none}
 use Rattle.pb_value.specs.Append.{append_fields}

@@ -1,7 +1,6 @@
 use Rattle.std.proofs.Common.{◌≡◌, drop}
-use Rattle.pb_semantics.specs.Data.{Fields}
+use Rattle.pb_semantics.specs.Data.{Fields, put_all}
 use Rattle.pb_language.specs.Give.{with_changes}
-use Rattle.pb_language.specs.plain.Gives.{put_all}
 use Rattle.pb_value.specs.View.{fields_view}
 use Rattle.pb_finish.specs.Results.{changes_view}
 use Rattle.pb_finish.proofs.outcome.add_gathered.Given as goal

@@ -1,7 +1,7 @@
 use Rattle.pb_language.specs.Evaluation.{eval_parts}
 use Rattle.pb_language.specs.Expansion.{parts_expanded}
 use Rattle.pb_language.specs.Start.{eval_arguments}
-use Rattle.pb_language.proofs.PlainEval.{arguments_worth}
+use Rattle.pb_start.proofs.Worth.{arguments_worth}
 use Rattle.pb_sig.specs.ModuleView.{shared_view}
 use Rattle.pb_syntax.specs.ExprView.{parts_view}
 use Rattle.pb_start.proofs.Passed.{made-call}

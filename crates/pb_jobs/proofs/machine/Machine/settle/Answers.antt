@@ -4,7 +4,7 @@ use Rattle.pb_language.specs.Machine.{give}
 use Rattle.pb_machine.specs.Run.{step}
 use Rattle.pb_history.specs.Happens.{step_in}
 use Rattle.pb_inventory.specs.Inventory.{inventory_view}
-use Rattle.pb_facts.specs.Variables.{put_all}
+use Rattle.pb_semantics.specs.Data.{put_all}
 use Rattle.pb_slots.specs.Words.{names_of_slots}
 use Rattle.pb_value.specs.View.{fields_view}
 use Rattle.pb_world.specs.Variables.{host_variables}

@@ -11,16 +11,16 @@ use Rattle.pb_executor.specs.Replays.{FollowsRun, with_enabled}
 use Rattle.pb_executor.specs.States.{RunState, opening_of, state_of}
 use Rattle.pb_executor.proofs.Driven.{moved}
 
-abbrev data : List EventView → List machine.Event
-data vs = map (λ v. v.0) vs
+abbrev events_in : List EventView → List machine.Event
+events_in vs = map (λ v. v.0) vs
 
-data_is : (es : List Event) → data_of es ≡ data (map event_view es)
+data_is : (es : List Event) → data_of es ≡ events_in (map event_view es)
 data_is [] = refl
 data_is (e ∷ es) = ap (λ xs. event_data e ∷ xs) (data_is es)
 
-data_more : (vs : List EventView) (v : EventView) → data (vs ++ v ∷ []) ≡ data vs ++ v.0 ∷ []
-data_more [] v = refl
-data_more (w ∷ vs) v = ap (λ xs. w.0 ∷ xs) (data_more vs v)
+events_more : (vs : List EventView) (v : EventView) → events_in (vs ++ v ∷ []) ≡ events_in vs ++ v.0 ∷ []
+events_more [] v = refl
+events_more (w ∷ vs) v = ap (λ xs. w.0 ∷ xs) (events_more vs v)
 
 run_more : (s : State) (es : List machine.Event) (e : machine.Event) → machine.run_from s (es ++ e ∷ []) ≡ step (machine.run_from s es) e
 run_more s [] e = refl
@@ -31,8 +31,8 @@ module _ (v : EventView) (old new : RunState) (f : FollowsRun v old new) where
   abbrev vs : List EventView
   vs = map event_view old.history
 
-  stands : (ws : List EventView) → map event_view new.history ≡ ws → state_of new ≡ state_after (opening_of old) (data ws)
-  stands ws e = moved old new f.same ∙ ap (state_after (opening_of old)) (data_is new.history ∙ ap data e)
+  stands : (ws : List EventView) → map event_view new.history ≡ ws → state_of new ≡ state_after (opening_of old) (events_in ws)
+  stands ws e = moved old new f.same ∙ ap (state_after (opening_of old)) (data_is new.history ∙ ap events_in e)
 
   pub follows_all : (ws : List EventView) → with_enabled new ws ≡ with_enabled old (v ∷ ws)
   follows_all ws = by (enabled (state_of old) v.0) f.events where
@@ -40,8 +40,8 @@ module _ (v : EventView) (old new : RunState) (f : FollowsRun v old new) where
         → with_enabled new ws ≡ vs ++ cond q (v ∷ enabled_of (step (state_of old) v.0) ws) (enabled_of (state_of old) ws)
     by true e =
         let after : state_of new ≡ step (state_of old) v.0 =
-        stands (vs ++ v ∷ []) e ∙ ap (state_after (opening_of old)) (data_more vs v)
-        ∙ run_more (machine.opening (opening_of old).program (opening_of old).inventory (opening_of old).forks) (data vs) v.0
+        stands (vs ++ v ∷ []) e ∙ ap (state_after (opening_of old)) (events_more vs v)
+        ∙ run_more (machine.opening (opening_of old).program (opening_of old).inventory (opening_of old).forks) (events_in vs) v.0
         ∙ ap (λ es. step (state_after (opening_of old) es) v.0) (sym (data_is old.history)) in
         ap₂ (λ xs s. xs ++ enabled_of s ws) e after ∙ append_assoc vs (v ∷ []) (enabled_of (step (state_of old) v.0) ws)
     by false e =

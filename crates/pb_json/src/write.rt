@@ -66,11 +66,7 @@ fn json_fields(alloc: Global, fields: &Fields) -> Result<Map<String, Json>, Allo
     Ok(found)
 }
 
-fn put_member(
-    members: &mut Map<String, Json>,
-    name: String,
-    member: Json,
-) -> Result<(), AllocError>
+fn put_member(members: &mut Map<String, Json>, name: String, member: Json) -> Result<(), AllocError>
     ensures { OnOk result (members_view members.new.entries
         ≡ put (string_bytes name) (json_view member) (members_view members.old.entries)) }
 {

@@ -1,6 +1,7 @@
 -- What the calls of a run record, and what they tell.
 use Rattle.std.specs.Prelude.{◌≡◌, ◌+◌, ◌++◌, ◌==◌, ℕ, List, [], ◌∷◌, Vec, Bool, true, false, cond}
-use Rattle.std.specs.Prelude.{not, ◌&&◌, ◌||◌, nat_eq, nat_lt, map, length, replicate, Option, Some, None}
+use Rattle.std.specs.Prelude.{not, ◌&&◌, ◌||◌, nat_eq, nat_lt, map, length, replicate, Option, Some}
+use Rattle.std.specs.Prelude.{None}
 use Rattle.std.specs.declared.alloc.Global.{Global}
 use Rattle.pb_language.specs.Machine as machine
 use Rattle.pb_language.specs.Drive.{next_start}

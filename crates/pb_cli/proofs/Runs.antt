@@ -13,7 +13,7 @@ use Rattle.pb_verify.specs.declared.checked.Accepted.{Accepted}
 use Rattle.pb_executor.specs.Drives.{Drives}
 use Rattle.pb_executor.specs.States.{RunState, opened, state_of}
 use Rattle.pb_executor.proofs.Driven.{NoneOut, drives_going, drives_none}
-use Rattle.pb_cli.specs.Outcomes.{JudgesFiles, RunSays, RunsAccepted, RunsAcceptedAs, RunsAs}
+use Rattle.pb_cli.specs.Outcomes.{IsRunBy, JudgesFiles, RunSays, RunsAccepted, RunsAcceptedAs, RunsAcceptedWith, RunsAs, RunsWith}
 use Rattle.pb_cli.specs.declared.judge.Fault.{Fault}
 use Rattle.pb_cli.specs.declared.outcome.Bytes.{Bytes}
 use Rattle.pb_cli.specs.declared.outcome.Outcome.{Outcome}
@@ -54,3 +54,17 @@ accepted_runs (Err e) forks b a answers same judges x = x
 pub refused_runs : (r : Result Outcome AllocError) (forks : ℕ) (b : Bytes) (f : Fault) → JudgesFiles b (Err f) → IfOk r (RunSays (Err f)) → IfOk r (RunsAs forks b)
 refused_runs (Ok o) forks b f judges says = (Err f, (inl (f, (judges, refl)), says))
 refused_runs (Err e) forks b f judges says = says
+
+-- and so it does where a runner answers the calls
+module _ {R : Type 0} (answers : R → Call → Answer → R → Type 0) (first : R) where
+  pub says_with : (x : Result Outcome AllocError) (forks : ℕ) (a : Accepted) (r : RunState) → IsRunBy answers first forks a r → IfOk x (RunSays (Ok r)) → IfOk x (RunsAcceptedWith answers first forks a)
+  says_with (Ok o) forks a r is says = (r, (is, says))
+  says_with (Err e) forks a r is says = says
+
+  pub accepted_with : (x : Result Outcome AllocError) (forks : ℕ) (b : Bytes) (a : Accepted) → JudgesFiles b (Ok a) → IfOk x (RunsAcceptedWith answers first forks a) → IfOk x (RunsWith answers first forks b)
+  accepted_with (Ok o) forks b a judges runs = inr (a, (judges, runs))
+  accepted_with (Err e) forks b a judges runs = runs
+
+  pub refused_with : (x : Result Outcome AllocError) (forks : ℕ) (b : Bytes) (f : Fault) → JudgesFiles b (Err f) → IfOk x (RunSays (Err f)) → IfOk x (RunsWith answers first forks b)
+  refused_with (Ok o) forks b f judges says = inl (f, (judges, says))
+  refused_with (Err e) forks b f judges says = says

@@ -6,6 +6,8 @@ use Rattle.pb_semantics.specs.Data.{Fields}
 use Rattle.pb_semantics.specs.Limits.{most_answer_bytes}
 use Rattle.pb_inventory.specs.Inventory.{inventory_view}
 use Rattle.pb_verify.specs.declared.checked.Accepted.{Accepted}
+use Rattle.pb_finish.specs.declared.answer.Answer.{Answer}
+use Rattle.pb_jobs.specs.declared.job.Call.{Call}
 use Rattle.pb_run.specs.Recorded.{is_none}
 use Rattle.pb_runner.specs.Scripts.{IsFromFile, script_in}
 use Rattle.pb_runner.specs.declared.script.ScriptFault.{ScriptFault}
@@ -14,8 +16,7 @@ use Rattle.pb_executor.specs.Drives.{Drives}
 use Rattle.pb_executor.specs.Sound.{IsSound}
 use Rattle.pb_executor.specs.States.{RunState, opened, state_of}
 use Rattle.pb_cli.specs.FileVerdicts.{HasScriptFault, Judges, of_script}
-use Rattle.pb_cli.specs.Texts.{not_built_line, recaps_of, refusal_line, run_lines, status_for}
-use Rattle.pb_cli.specs.Texts.{verdict_line}
+use Rattle.pb_cli.specs.Texts.{recaps_of, refusal_line, run_lines, status_for, verdict_line}
 use Rattle.pb_cli.specs.declared.judge.Fault.{Fault}
 use Rattle.pb_cli.specs.declared.judge.Fault.TheVariants.{Refused, NoMemory}
 use Rattle.pb_cli.specs.declared.outcome.Bytes.{Bytes}
@@ -118,12 +119,30 @@ RunsAcceptedAs forks answers a o =
 abbrev pub RunsAs : ℕ → Bytes → Outcome → Type 0
 RunsAs forks b o = (r : Result RunState Fault) × (RunsFiles forks b r × RunSays r o)
 
--- by what answers the calls; programs aren't built yet
-abbrev pub RunsBy : Source → ℕ → Bytes → Outcome → Type 0
-RunsBy (Answers name) forks b o = RunsAs forks b o
-RunsBy (Modules name) forks b o = Prints Error not_built_line usage_status o
+-- by what is said of a runner, which has made no calls yet
+module _ {R : Type 0} (answers : R → Call → Answer → R → Type 0) (first : R) where
+  -- a run of that book to its end, each Give of which has just what the runner answers to the
+  -- calls of its job, in order
+  pub record IsRunBy (most : ℕ) (a : Accepted) (r : RunState) : Type 0 where
+    pub whole : IsWholeRun most a r
+    pub last : R
+    pub driven : Drives answers (opened a r.forks) first r last
 
--- what the options and the files come to
-abbrev pub IsOutcome : Options → Bytes → Outcome → Type 0
-IsOutcome (Check s) b o = ChecksAs b o
-IsOutcome (Run s forks source) b o = RunsBy source forks b o
+  -- what the run of an accepted book comes to
+  abbrev pub RunsAcceptedWith : ℕ → Accepted → Outcome → Type 0
+  RunsAcceptedWith forks a o = (r : RunState) × (IsRunBy forks a r × RunSays (Ok r) o)
+
+  -- what `run` comes to: the verdict's fault, or what the run of what it accepts does
+  abbrev pub RunsWith : ℕ → Bytes → Outcome → Type 0
+  RunsWith forks b o = ((f : Fault) × (JudgesFiles b (Err f) × RunSays (Err f) o))
+      ⊎ ((a : Accepted) × (JudgesFiles b (Ok a) × RunsAcceptedWith forks a o))
+
+  -- the file of answers, or the runner, answers the calls
+  abbrev pub RunsBy : Source → ℕ → Bytes → Outcome → Type 0
+  RunsBy (Answers name) forks b o = RunsAs forks b o
+  RunsBy (Modules name) forks b o = RunsWith forks b o
+
+  -- what the options and the files come to
+  abbrev pub IsOutcome : Options → Bytes → Outcome → Type 0
+  IsOutcome (Check s) b o = ChecksAs b o
+  IsOutcome (Run s forks source) b o = RunsBy source forks b o

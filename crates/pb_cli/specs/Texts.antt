@@ -24,10 +24,6 @@ refusal_line r = codes "refused "
     ++ (code_text r.code ++ (codes " line "
     ++ (decimal r.line ++ (codes " host " ++ (host_text r.host ++ (10 ∷ []))))))
 
--- where programs are to answer the calls
-abbrev pub not_built_line : List ℕ
-not_built_line = codes "playcheck: --modules is not built yet" ++ (10 ∷ [])
-
 -- the line of a verdict, with its line feed
 abbrev pub verdict_line : Result Accepted Fault → List ℕ
 verdict_line (Ok a) = codes "accepted budget " ++ (decimal a.budget ++ (10 ∷ []))

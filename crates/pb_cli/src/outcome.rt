@@ -2,10 +2,12 @@
 // status.
 ghost use Rattle.std.specs.Prelude.{◌≡◌, Err, IfOk, Ok, max, min};
 ghost use Rattle.pb_runner.specs.Words.{answers_in};
+ghost use Rattle.pb_executor.specs.Drives.{Drives};
+ghost use Rattle.pb_executor.specs.States.{opened};
 ghost use Rattle.pb_cli.specs.Outcomes.{ChecksAs, IsAnsweredBy, IsOutcome, IsWholeRun};
-ghost use Rattle.pb_cli.specs.Outcomes.{JudgesFiles, LineSays, Prints, RunSays, RunsAccepted};
-ghost use Rattle.pb_cli.specs.Outcomes.{RunsAcceptedAs, RunsAs, RunsBy, VerdictSays, usage_status};
-ghost use Rattle.pb_cli.specs.Texts.{not_built_line};
+ghost use Rattle.pb_cli.specs.Outcomes.{JudgesFiles, LineSays, RunSays, RunsAccepted};
+ghost use Rattle.pb_cli.specs.Outcomes.{RunsAcceptedAs, RunsAcceptedWith, RunsAs, RunsBy};
+ghost use Rattle.pb_cli.specs.Outcomes.{RunsWith, VerdictSays};
 
 use crate::judge::{Fault, judge};
 use crate::texts::{recap_text, refusal_text, status_of, verdict_text};
@@ -88,35 +90,37 @@ fn printed(text: String, status: u8) -> Outcome
 }
 
 /// What comes of the options and the bytes of the files that they name: of `check` the verdict, of
-/// `run` the recap of the run, or the refusal. Nothing for want of memory.
-pub fn outcome_of(alloc: Global, options: &Options, bytes: &Bytes) -> Result<Outcome, AllocError>
-    ensures { IfOk result (IsOutcome options.now bytes.now) }
+/// `run` the recap of the run, or the refusal. Without a file of answers the calls of the run are
+/// put to the programs. Nothing for want of memory.
+pub fn outcome_of<R: Runner>(
+    alloc: Global,
+    options: &Options,
+    bytes: &Bytes,
+    programs: &mut R,
+) -> Result<Outcome, AllocError>
+    requires { R.calls programs.old ≡ 0 }
+    ensures { IfOk result (IsOutcome R.answers programs.old options.now bytes.now) }
 {
     match options {
         Options::Check(_) => checked(alloc, bytes),
-        Options::Run { forks, source, .. } => answered(alloc, source, bytes, *forks),
+        Options::Run { forks, source, .. } => answered(alloc, source, bytes, *forks, programs),
     }
 }
 
-fn answered(
+fn answered<R: Runner>(
     alloc: Global,
     source: &Source,
     bytes: &Bytes,
     forks: u16,
+    programs: &mut R,
 ) -> Result<Outcome, AllocError>
-    ensures { IfOk result (RunsBy source.now forks bytes.now) }
+    requires { R.calls programs.old ≡ 0 }
+    ensures { IfOk result (RunsBy R.answers programs.old source.now forks bytes.now) }
 {
     match source {
         Source::Answers(_) => ran(alloc, bytes, forks),
-        Source::Modules(_) => not_built(alloc),
+        Source::Modules(_) => ran_by(alloc, bytes, forks, programs),
     }
-}
-
-fn not_built(alloc: Global) -> Result<Outcome, AllocError>
-    ensures { IfOk result (Prints Stream.Error not_built_line usage_status) }
-{
-    let text = String::from_str(alloc, "playcheck: --modules is not built yet\n")?;
-    Ok(told(text, USAGE))
 }
 
 fn checked(alloc: Global, bytes: &Bytes) -> Result<Outcome, AllocError>
@@ -141,7 +145,42 @@ fn ran(alloc: Global, bytes: &Bytes, forks: u16) -> Result<Outcome, AllocError>
     }
 }
 
-// What comes of the run of what was accepted.
+fn ran_by<R: Runner>(
+    alloc: Global,
+    bytes: &Bytes,
+    forks: u16,
+    programs: &mut R,
+) -> Result<Outcome, AllocError>
+    requires { R.calls programs.old ≡ 0 }
+    ensures { IfOk result (RunsWith R.answers programs.old forks bytes.now) }
+{
+    match verdict_of(alloc, bytes) {
+        Ok(checked) => {
+            let outcome = ran_accepted_by(alloc, &checked, forks, programs);
+            leave(checked);
+            outcome
+        }
+        Err(fault) => fault_outcome(alloc, &fault),
+    }
+}
+
+// What comes of the run of what was accepted, whose calls the runner answers.
+fn ran_accepted_by<R: Runner>(
+    alloc: Global,
+    checked: &Checked,
+    forks: u16,
+    runner: &mut R,
+) -> Result<Outcome, AllocError>
+    requires { R.calls runner.old ≡ 0 }
+    ensures { IfOk result (RunsAcceptedWith R.answers runner.old forks checked.now) }
+{
+    let run = whole_run(alloc, checked, forks, runner)?;
+    let outcome = run_outcome(alloc, &run);
+    leave(run);
+    outcome
+}
+
+// What comes of the run of what was accepted, with the answers of the file.
 fn ran_accepted(
     alloc: Global,
     checked: &Checked,
@@ -241,12 +280,28 @@ fn ended_run<'c>(
     ensures whole { IfOk result (IsWholeRun forks checked.now) }
     ensures answered { IfOk result (IsAnsweredBy (answers_in runner.old) checked.now) }
 {
+    let run = whole_run(alloc, checked, forks, runner)?;
+    if runner.is_short() {
+        return Err(AllocError);
+    }
+    Ok(run)
+}
+
+// The run of the book to its end, whose calls the runner answers.
+fn whole_run<'c, R: Runner>(
+    alloc: Global,
+    checked: &'c Checked,
+    forks: u16,
+    runner: &mut R,
+) -> Result<Run<'c>, AllocError>
+    requires { R.calls runner.old ≡ 0 }
+    ensures whole { IfOk result (IsWholeRun forks checked.now) }
+    ensures driven { IfOk result (λ r. Drives R.answers (opened checked.now r.forks) runner.old r
+        runner.new) }
+{
     // A budget fits into 64 bits.
     let _budget = checked.budget();
     let mut run = Run::open(alloc, checked, workers_of(forks, checked.hosts()))?;
     drive(&mut run, runner)?;
-    if runner.is_short() {
-        return Err(AllocError);
-    }
     Ok(run)
 }

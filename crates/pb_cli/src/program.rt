@@ -7,24 +7,53 @@ use pb_inventory::INVENTORY_LIMIT;
 use pb_options::input::{is_input, names_input_twice};
 use pb_options::options::options;
 use pb_options::{Options, Source, Subject};
+use pb_process::ProcessRunner;
 use pb_runner::ANSWERS_LIMIT;
 use pb_sig::SIGNATURES_LIMIT;
 use std::alloc::AllocError;
+use std::process::Processes;
 use std::rt::Files;
 use std::{fs, io};
 
 /// Does what the words say; the answer is the program's status.
-pub fn run<R: Files + AllocGlobal + Print + Eprint + Input>(rt: &R, words: &[String]) -> u8 {
+pub fn run<R: Files + AllocGlobal + Print + Eprint + Input + Processes>(
+    rt: &R,
+    words: &[String],
+) -> u8 {
     match options(rt.alloc(), words) {
         Ok(options) => act(rt, &options),
         Err(fault) => say(rt, line_outcome(fault)),
     }
 }
 
-fn act<R: Files + AllocGlobal + Print + Eprint + Input>(rt: &R, options: &Options) -> u8 {
+fn act<R: Files + AllocGlobal + Print + Eprint + Input + Processes>(
+    rt: &R,
+    options: &Options,
+) -> u8 {
     match read_all(rt, options) {
-        Ok(bytes) => say(rt, outcome_of(rt.alloc(), options, &bytes)),
+        Ok(bytes) => say(rt, come_to(rt, options, &bytes)),
         Err(status) => status,
+    }
+}
+
+// What the options and the files come to; without a file of answers, programs answer the calls.
+fn come_to<R: AllocGlobal + Processes>(
+    rt: &R,
+    options: &Options,
+    bytes: &Bytes,
+) -> Result<Outcome, AllocError> {
+    let mut programs = ProcessRunner::new(rt.alloc(), rt, folder_of(options))?;
+    outcome_of(rt.alloc(), options, bytes, &mut programs)
+}
+
+// The folder of the programs; none where no folder is named.
+fn folder_of(options: &Options) -> &str {
+    match options {
+        Options::Run {
+            source: Source::Modules(folder),
+            ..
+        } => folder.as_str(),
+        _ => "",
     }
 }
 

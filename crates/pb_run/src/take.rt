@@ -63,7 +63,7 @@ impl RecordedMachine<'_> {
     }
 
     // The host's task begins.
-    fn begin(&mut self, host: usize) -> Result<Job, AllocError>
+    pub(crate) fn begin(&mut self, host: usize) -> Result<Job, AllocError>
         requires { self.old.is_stopped ≡ false }
         ensures starts { IfOk result (λ j. StartsJob 0 host j self.old self.new) }
         ensures err { OnErr result (StaysRecorded self.old self.new) }

@@ -82,15 +82,15 @@ def in_rounds(commands, rounds=ROUNDS):
 
 
 class Figures:
-    """The median time and memory of every second run of one command, with what it printed; and of all the least time of
-    the processor, which other work on the machine may lengthen and never shortens."""
+    """The median time and memory of every second run of one command, with what it printed; and the processor's time of
+    each of its runs."""
 
     def __init__(self, every):
         runs = every[1::2]
         self.seconds = median(run.seconds for run in runs)
         self.memory = median(run.memory for run in runs)
-        self.least = min(run.processor for run in every)
         self.printed = [run.printed for run in runs]
+        self.processor = [run.processor for run in every]
 
 
 # Instructions.

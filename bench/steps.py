@@ -1,6 +1,7 @@
 # Measures runs beyond their checks: task steps a second, what grows with what, loops, registers, memory, instructions. It
 # has the books of runs; bench/run.py prints its figures.
 import functools
+from statistics import median
 
 from measure import at_most, can_count, in_rounds, instructions, line, measured, ms, write
 
@@ -10,7 +11,7 @@ FORKS = (5, 256)
 STRATEGIES = ("linear", "free")
 MOST_ITEMS = 65_536
 READERS = 100  # tasks that read one register
-ROUNDS = 5
+ROUNDS = 7
 SOME = 256  # tasks whose instructions are counted, and twice as many
 ROWS = 64  # tasks on hosts whose instructions are counted
 
@@ -37,8 +38,8 @@ def conditional(number):
     return {"command": f"/bin/echo {number}", "register": f"r{number}", "when": "ready == 1"}
 
 
-def book(tasks, strategy="linear"):
-    return [{"hosts": "all", "strategy": strategy, "tasks": tasks}]
+def book(tasks, **words):
+    return [{"hosts": "all", **words, "tasks": tasks}]
 
 
 def asking(*tasks):
@@ -74,8 +75,8 @@ def printing(lines):
     return ANSWER | {"stdout": "\n".join(texts), "stdout_lines": texts}
 
 
-def recap(hosts, ok, changed):
-    counts = f"ok={ok} changed={changed} unreachable=0 failed=0 skipped=0 rescued=0 ignored=0"
+def recap(hosts, ok, changed, failed=0):
+    counts = f"ok={ok} changed={changed} unreachable=0 failed={failed} skipped=0 rescued=0 ignored=0"
     return "".join(f"{host} : {counts}\n" for host in names(hosts))
 
 
@@ -83,21 +84,21 @@ def recap(hosts, ok, changed):
 
 
 class Scene:
-    """A book with its inventory and its answers, in files, and what it prints."""
+    """A book with its inventory and its answers, in files, and what its run prints and ends with."""
 
-    def __init__(self, folder, name, plays, hosts, entries, accepted, ran):
+    def __init__(self, folder, name, plays, hosts, entries, accepted, ran, ended=0):
         self.book = write(folder, f"{name}.json", plays)
         self.nothing = write(folder, f"{name}_nothing.json", [])
         self.inventory = write(folder, f"{name}_hosts.json", inventory(hosts))
         self.answers = write(folder, f"{name}_answers.json", answers(hosts, entries))
-        self.accepted, self.ran, self.idle = f"accepted budget {accepted}\n", ran, recap(hosts, 0, 0)
+        self.accepted, self.ran, self.ended, self.idle = f"accepted budget {accepted}\n", ran, ended, recap(hosts, 0, 0)
 
     def check(self, program):
         return [program, "check", self.book, "-i", self.inventory], self.accepted
 
     def run(self, program, forks=5):
         words = [program, "run", self.book, "-i", self.inventory, "--answers", self.answers, "-f", str(forks)]
-        return words, self.ran
+        return words, self.ran, self.ended
 
     def reading(self, program):
         """The run of an empty book, which reads the same inventory and the same answers."""
@@ -119,8 +120,20 @@ class Scene:
 def by_turns(folder, name, tasks, hosts, strategy="linear"):
     """Commands and debugs by turns on so many hosts."""
     calls = (tasks + 1) // 2
-    plays = book([task(number) for number in range(tasks)], strategy)
+    plays = book([task(number) for number in range(tasks)], strategy=strategy)
     return Scene(folder, name, plays, hosts, [ANSWER] * calls, calls * hosts, recap(hosts, tasks, calls))
+
+
+def one_by_one(folder, name, hosts):
+    """Hosts each of which is a batch of its own."""
+    plays = book([{"debug": {"msg": "here"}}], serial=1)
+    return Scene(folder, name, plays, hosts, [], 0, recap(hosts, 1, 0))
+
+
+def leaving(folder, name, hosts):
+    """Hosts that leave one after the other, since there is no answer."""
+    plays = book([{"debug": {"msg": "here"}}, {"ping": None}, {"debug": {"msg": "gone"}}])
+    return Scene(folder, name, plays, hosts, [], hosts, recap(hosts, 1, 0, 1), 2)
 
 
 def loop(folder, name, items, module):
@@ -148,9 +161,13 @@ def scenes(folder):
     return {
         "one": by_turns(folder, "one", LARGE, 1),
         "half the tasks": by_turns(folder, "half_the_tasks", LARGE // 2, 1),
-        "linear": by_turns(folder, "linear", FEW, HOSTS),
         "free": by_turns(folder, "free", FEW, HOSTS, "free"),
+        "linear": by_turns(folder, "linear", FEW, HOSTS),
         "half the hosts": by_turns(folder, "half_the_hosts", FEW, HOSTS // 2),
+        "one by one": one_by_one(folder, "one_by_one", HOSTS),
+        "half one by one": one_by_one(folder, "half_one_by_one", HOSTS // 2),
+        "leaving": leaving(folder, "leaving", HOSTS),
+        "half leaving": leaving(folder, "half_leaving", HOSTS // 2),
         "shown": loop(folder, "shown", MOST_ITEMS, SHOWN),
         "called": loop(folder, "called", MOST_ITEMS, CALLED),
         "half the items": loop(folder, "half_the_items", half, CALLED),
@@ -160,30 +177,42 @@ def scenes(folder):
 
 
 def all_commands(program, made):
+    """Those of a scene, and those of scenes that are compared, stand beside each other."""
     words = {}
     for name, scene in made.items():
         words |= scene.commands(program, name)
-    for name in STRATEGIES:
-        words |= {(name, forks): made[name].run(program, forks) for forks in FORKS}
+        if name in STRATEGIES:
+            words |= {(name, forks): scene.run(program, forks) for forks in FORKS}
     return words
 
 
-# The figures, of what a command costs: the processor's time or instructions.
+# The figures, of what a command costs: the processor's time in one round or instructions. Ratios are medians of the
+# ratios in each round, since what slows the machine for a while slows the commands of a round alike; rates are those of
+# the round that was slowed the least.
 
 
-def times_of(found):
-    return lambda name, what: found[name, what].least
+def rounds_of(found):
+    """What commands cost, round by round."""
+    return [functools.partial(time_in, found, number) for number in range(2 * ROUNDS)]
+
+
+def time_in(found, number, name, what):
+    return found[name, what].processor[number]
 
 
 def counts_of(words):
-    """The instructions of a command, each counted once."""
+    """What commands cost in instructions, each counted once."""
     count = functools.cache(instructions)
 
     def cost(name, what):
-        command, printed = words[name, what]
-        return count(tuple(command), printed)
+        command, *wanted = words[name, what]
+        return count(tuple(command), *wanted)
 
-    return cost
+    return [cost]
+
+
+def middle(costs, figure, *of):
+    return median(figure(cost, *of) for cost in costs)
 
 
 def reading(cost, name):
@@ -196,8 +225,16 @@ def beyond(cost, name, run="run"):
     return cost(name, run) - cost(name, "check")
 
 
-def alone(cost, name):
-    return beyond(cost, name) - reading(cost, name)
+def alone(cost, name, run="run"):
+    return beyond(cost, name, run) - reading(cost, name)
+
+
+def single(cost, name, what):
+    return cost(name, what)
+
+
+def over(cost, figure, large, small):
+    return figure(cost, *large) / figure(cost, *small)
 
 
 def rate(name, steps, seconds, least, detail):
@@ -209,39 +246,43 @@ def rate(name, steps, seconds, least, detail):
         print(f"{name}: {steps / seconds:,.0f} task steps a second ({detail}); no bar")
 
 
-def print_rate(cost, name, run, steps, least, told):
-    over = beyond(cost, name, run)
-    detail = f"{ms(cost(name, run))} less {ms(cost(name, 'check'))}"
-    rate(f"{told}, beyond check", steps, over, least, detail)
-    rest = over - reading(cost, name)
+def print_rate(costs, name, run, steps, least, told):
+    cost = min(costs, key=lambda cost: sum(cost(name, what) for what in (run, "check", "reading")))
+    taken, rest = beyond(cost, name, run), alone(cost, name, run)
+    rate(f"{told}, beyond check", steps, taken, least, f"{ms(cost(name, run))} less {ms(cost(name, 'check'))}")
     rate(f"{told}, beyond check and the reading of the answers", steps, rest, None, ms(rest))
 
 
-def print_rates(cost):
-    print_rate(cost, "one", "run", LARGE, STEPS_OF_ONE, f"{LARGE:,} tasks on one host")
+def print_rates(costs):
+    print_rate(costs, "one", "run", LARGE, STEPS_OF_ONE, f"{LARGE:,} tasks on one host")
     for name in STRATEGIES:
         for forks in FORKS:
             told = f"{FEW} tasks on {HOSTS:,} hosts, {name}, {forks} forks"
-            print_rate(cost, name, forks, FEW * HOSTS, STEPS_OF_MANY, told)
+            print_rate(costs, name, forks, FEW * HOSTS, STEPS_OF_MANY, told)
 
 
-def print_growth(cost, unit, shown):
+def print_ratio(costs, told, figure, large, small, most, shown):
+    detail = f"{shown(middle(costs, figure, *large))} over {shown(middle(costs, figure, *small))}"
+    at_most(told, middle(costs, over, figure, large, small), most, detail)
+
+
+def print_growth(costs, unit, shown):
     for name in STRATEGIES:
-        few, many = (cost(name, forks) for forks in FORKS)
-        told = f"{FORKS[0]} forks and {FORKS[1]}, the more over the less, {name}, {unit}"
-        at_most(told, max(few, many) / min(few, many), 1.2, f"{shown(few)} and {shown(many)}")
+        told = f"{FORKS[1]} forks over {FORKS[0]}, {name}, {unit}"
+        print_ratio(costs, told, single, (name, FORKS[1]), (name, FORKS[0]), 1.2, shown)
     pairs = [
         ("twice the tasks, beyond check", beyond, "one", "half the tasks"),
         ("twice the hosts, beyond check", beyond, "linear", "half the hosts"),
+        ("twice the hosts, each a batch of its own, beyond check", beyond, "one by one", "half one by one"),
+        ("twice the hosts, which all leave, beyond check", beyond, "leaving", "half leaving"),
         ("twice the answers, their reading", reading, "linear", "half the hosts"),
         ("twice the answers to one job, beyond check and reading", alone, "called", "half the items"),
     ]
     for told, figure, large, small in pairs:
-        more, less = figure(cost, large), figure(cost, small)
-        at_most(f"{told}, {unit}", more / less, 2.2, f"{shown(more)} over {shown(less)}")
+        print_ratio(costs, f"{told}, {unit}", figure, (large,), (small,), 2.2, shown)
 
 
-def print_sizes(cost):
+def print_sizes(costs, unit, shown):
     """Runs over the reading of their answers, by a run of an empty book."""
     told = {
         "shown": f"a debug looped over {MOST_ITEMS:,} items",
@@ -249,8 +290,8 @@ def print_sizes(cost):
         "readers": f"a register of {MOST_ITEMS:,} lines read by {READERS} tasks",
     }
     for name, text in told.items():
-        whole, part = cost(name, "run"), cost(name, "reading")
-        at_most(f"{text}, over the reading of its answers", whole / part, 3, f"{ms(whole)} over {ms(part)}")
+        text = f"{text}, over the reading of its answers, {unit}"
+        print_ratio(costs, text, single, (name, "run"), (name, "reading"), 3, shown)
 
 
 def print_memory(found):
@@ -265,16 +306,22 @@ def print_figures(program, folder):
     made = scenes(folder)
     words = all_commands(program, made)
     found = in_rounds(words, ROUNDS)
-    cost = times_of(found)
-    print_rates(cost)
-    print_growth(cost, "time", ms)
-    print_sizes(cost)
+    rounds = rounds_of(found)
+    print_rates(rounds)
+    print_growth(rounds, "time", ms)
+    print_sizes(rounds, "time", ms)
     print_memory(found)
     if can_count():
-        print_growth(counts_of(words), "instructions", lambda count: f"{count:,}")
+        counts = counts_of(words)
+        print_growth(counts, "instructions", count_text)
+        print_sizes(counts, "instructions", count_text)
         print_instructions(program, folder, made)
     else:
         print("instructions: not counted, since valgrind isn't here")
+
+
+def count_text(count):
+    return f"{count:,.0f}"
 
 
 # Instructions.

@@ -564,6 +564,7 @@ def examples(folder):
         *runs(settings, SETTINGS_RECAP),
         *runs(signed, SIGNED_RECAP, signatures),
         *runs(folder / "site", SITE_RECAP),
+        *runs(folder / "site", BAD_DAY_RECAP, answers="answers_of_a_bad_day.json", status=2),
         *site(folder / "site"),
         *compared(folder / "compared"),
     ]
@@ -586,12 +587,22 @@ web2 : ok=36 changed=17 unreachable=0 failed=0 skipped=9 rescued=0 ignored=0
 web3 : ok=23 changed=4 unreachable=0 failed=0 skipped=21 rescued=0 ignored=1
 """
 
+# The same where the standby isn't reached and one web server fails, which ends the run.
+BAD_DAY_RECAP = """\
+lb1 : ok=0 changed=0 unreachable=0 failed=0 skipped=0 rescued=0 ignored=0
+db1 : ok=23 changed=9 unreachable=0 failed=0 skipped=3 rescued=0 ignored=0
+db2 : ok=1 changed=0 unreachable=1 failed=0 skipped=0 rescued=0 ignored=0
+web1 : ok=26 changed=14 unreachable=0 failed=1 skipped=0 rescued=1 ignored=0
+web2 : ok=0 changed=0 unreachable=0 failed=0 skipped=0 rescued=0 ignored=0
+web3 : ok=0 changed=0 unreachable=0 failed=0 skipped=0 rescued=0 ignored=0
+"""
 
-def runs(folder, recap, words=()):
+
+def runs(folder, recap, words=(), answers="answers.json", status=0):
     """The runs of an example, which come to the same with whatever number of workers."""
-    words = [*words_of("run", folder), *words, "--answers", str(folder / "answers.json")]
+    words = [*words_of("run", folder), *words, "--answers", str(folder / answers)]
     return [
-        Check(f"example-{folder.name}-run-{forks}", [*words, "-f", str(forks)], quietly(recap, 0))
+        Check(f"example-{folder.name}-run-{answers}-{forks}", [*words, "-f", str(forks)], quietly(recap, status))
         for forks in [1, 5, 256]
     ]
 

@@ -262,8 +262,11 @@ def print_rates(costs):
 
 
 def print_ratio(costs, told, figure, large, small, most, shown):
-    detail = f"{shown(middle(costs, figure, *large))} over {shown(middle(costs, figure, *small))}"
-    at_most(told, middle(costs, over, figure, large, small), most, detail)
+    more, less = middle(costs, figure, *large), middle(costs, figure, *small)
+    if min(more, less) <= 0:
+        print(f"{told}: too short to be measured")
+        return
+    at_most(told, middle(costs, over, figure, large, small), most, f"{shown(more)} over {shown(less)}")
 
 
 def print_growth(costs, unit, shown):

@@ -20,7 +20,8 @@ BAD = PLAY + '''    - name: "a \\x01\\x1b[31m <b> & \\"c\\" ]]> \\ufffe"
 NAME = 'a \ufffd\ufffd[31m <b> & "c" ]]> \ufffd'
 TITLE = "a variable that is perhaps undefined"
 DETAIL = "'prot' is set nowhere: not in this book, not in the inventory"
-UNKNOWN = "not judged: task '<unknown>': the module `apt` is neither built in nor declared"
+UNKNOWN = ("not judged: task '<unknown>': the module `apt` is neither built in nor declared: "
+           "ansible-doc isn't installed")
 # https://docs.gitlab.com/ci/testing/code_quality/#code-quality-report-format
 SEVERITIES = ("info", "minor", "major", "critical", "blocker")
 

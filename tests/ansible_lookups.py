@@ -34,8 +34,11 @@ NEITHER = "is neither built in nor declared"
 UNKNOWN = f"one.yml:5:7: not judged: the module `other.sort.thing` {NEITHER}: ansible-doc doesn't know it"
 CHOICE = ("one.yml:4:22: A-choice task: a value that is none of the parameter's choices: 'presnet' is no choice of "
           "`state` of probe. Did you mean 'present'? Choices: absent present")
-NOT_LOOKED_UP = ["one.yml:4:7: not judged: the module `probe` " + NEITHER,
-                 "one.yml:5:7: not judged: the module `other.sort.thing` " + NEITHER]
+
+
+def not_looked_up(reason):
+    return [f"one.yml:4:7: not judged: the module `probe` {NEITHER}: {reason}",
+            f"one.yml:5:7: not judged: the module `other.sort.thing` {NEITHER}: {reason}"]
 
 
 def looked_up(program, *words):
@@ -58,11 +61,11 @@ def wrong_lookups():
         ("one call", KNOWS_ONE, [], [CHOICE, UNKNOWN], [BROKEN], ["-t module --json other.sort.thing probe"]),
         ("one without documentation", FAILS_ON_ONE, [], [CHOICE, UNKNOWN], [BROKEN],
          ["-t module --json other.sort.thing probe", "-t module --json probe"]),
-        ("--no-lookup", KNOWS_ONE, ["--no-lookup"], NOT_LOOKED_UP, [BROKEN], []),
-        ("no ansible-core", "", [], NOT_LOOKED_UP, [BROKEN], []),
-        ("a failure", FAILS, [], NOT_LOOKED_UP,
+        ("--no-lookup", KNOWS_ONE, ["--no-lookup"], not_looked_up("`--no-lookup` is given"), [BROKEN], []),
+        ("no ansible-core", "", [], not_looked_up("ansible-doc isn't installed"), [BROKEN], []),
+        ("a failure", FAILS, [], not_looked_up("ansible-doc failed"),
          ["playcheck-ansible: modules aren't looked up: ansible-doc ended with status 5: no such luck", BROKEN], []),
-        ("no JSON", NO_JSON, [], NOT_LOOKED_UP,
+        ("no JSON", NO_JSON, [], not_looked_up("ansible-doc failed"),
          ["playcheck-ansible: modules aren't looked up: ansible-doc printed no JSON: ", BROKEN], []),
     ]
     for name, program, words, said, told, calls in cases:

@@ -11,8 +11,8 @@ from .converting import warning_of, write_converted
 from .formats import FORMATS
 from .documented import documentation, signatures_of, without_file
 from .loading import load_book
-from .looking_up import UNKNOWN, looked_up, used_modules
-from .modules import PROFILE, read_signatures, short_name
+from .looking_up import NOT_INSTALLED, looked_up, used_modules
+from .modules import PROFILE, UNKNOWN, read_signatures, short_name
 from .nodes import Mapping, is_nothing, made
 from .positions import node_of, read_file
 from .problems import Place, Problem
@@ -64,6 +64,8 @@ def add_inputs(words):
     words.add_argument("--skip-tags", action="append", default=[], metavar="TAGS",
                        help="as Ansible has it: tasks with these tags are left out")
     words.add_argument("--trust-facts", action="store_true", help="all six facts are there where facts are gathered")
+    words.add_argument("--trust-returns", action="store_true",
+                       help="all fields that a module's documentation names are there in each answer")
     words.add_argument("--no-lookup", action="store_true",
                        help="looks no modules up by ansible-doc, where ansible-core is installed")
     words.add_argument("--vars", action="append", default=[], metavar="FILE", help="a file of variables")
@@ -160,14 +162,20 @@ def variables_in(node, path):
 
 def with_lookup(paths, options, words):
     """Looks the modules of books up, and answers the book where it is one alone, since it is read by now."""
-    names, read = [], []
-    for path in paths if not words.no_lookup and shutil.which("ansible-doc") else ():
-        try:
-            read = [load_book(path)]
-        except Problem:
-            continue  # it is told when the book is checked
-        names += used_modules(read[0])
-    options.modules = looked_up(names, options.modules, told)
+    read = []
+    if words.no_lookup or not shutil.which("ansible-doc"):
+        options.modules.unasked = "`--no-lookup` is given" if words.no_lookup else NOT_INSTALLED
+    else:
+        names = []
+        for path in paths:
+            try:
+                read = [load_book(path)]
+            except Problem:
+                continue  # it is told when the book is checked
+            names += used_modules(read[0])
+        options.modules = looked_up(names, options.modules, told)
+    if words.trust_returns:
+        options.modules = options.modules.trusting()
     return read if len(paths) == 1 else []
 
 

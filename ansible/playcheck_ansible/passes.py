@@ -3,9 +3,10 @@
 import re
 
 from .books import is_module
+from .hints import nearest
 from .loops import dict_loops, loop_variables, loops
 from .mistakes import documented_values
-from .modules import CHANGES_FLOW, FREE_FORM, FREE_TEXTS, SETS_UNSEEN, short_name
+from .modules import CHANGES_FLOW, CORE, FREE_FORM, FREE_TEXTS, SETS_UNSEEN, UNKNOWN, short_name
 from .names import mentioned
 from .nodes import Mapping, Scalar, Sequence, has_template, is_literal, is_nothing, is_text, made, plain, texts_of
 from .values import arguments_of, as_bool, as_int, converted, is_whole
@@ -24,6 +25,8 @@ EMPTY = {"text": "", "bool": False, "int": 0, "list": [], "ints": []}
 PATH = re.compile(r"[A-Za-z_][\w.'\"\[\]]*")
 ENDS = ("end_host", "end_play", "end_batch", "end_role")
 NO_FLOW = ("noop", "reset_connection")
+# A name of so few letters is near to too many.
+SHORT = 5
 
 
 def run_passes(task, modules):
@@ -232,12 +235,20 @@ def known_module(task, modules):
     if len(keys) != 1 or modules.has(keys[0]):
         return
     module, node = keys[0], task.words.get(keys[0])
-    why = f": {modules.unknown[module]}" if module in modules.unknown else ""
-    told = f"the module `{module}` is neither built in nor declared{why}"
+    why = modules.unknown.get(module, modules.unasked)
+    told = f"the module `{module}` is neither built in nor declared{': ' * bool(why)}{why}{meant(module, modules)}"
     task.leave(told, task.words.keys.get(module) or node.place)
     if not task.is_handler and module not in SETS_UNSEEN:
         task.is_still_asked = True
         task.asked += [converted(text, "omitted") for text in texts_of(node)]
+
+
+def meant(module, modules):
+    """The module that a name may mean; of those that are not declared only where none has the name for certain."""
+    is_sought = modules.unknown.get(module) == UNKNOWN
+    names = {*modules.parameters, *modules.written, *(CORE if is_sought else ())}
+    near = nearest(module, names) if is_sought or len(module) > SHORT else ""
+    return f". Did you mean '{near}'?" if near else ""
 
 
 def meta_actions(task, modules):

@@ -200,7 +200,14 @@ def lost_passes():
     return [f"docs/FROM_ANSIBLE.md doesn't name {one.__name__}" for one in passes if f"`{one.__name__}`" not in page]
 
 
-SEARCHES = (lost_titles, lost_passes, lost_hook, wrong_long_texts, wrong_many_forms, wrong_conversion, wrong_warnings,
+def lost_files():
+    """Each file of the package stands in the table of ansible/README.md."""
+    page = (TOP / "ansible" / "README.md").read_text(encoding="utf-8")
+    files = (path.name for path in sorted((TOP / "ansible").glob("*/[a-z]*.py")))
+    return [f"ansible/README.md doesn't name {name}" for name in files if f"`{name}`" not in page]
+
+
+SEARCHES = (lost_titles, lost_files, lost_passes, lost_hook, wrong_long_texts, wrong_many_forms, wrong_conversion, wrong_warnings,
             wrong_signatures, wrong_gitlab, wrong_junit, wrong_strict, wrong_sarif, wrong_lookups, wrong_time_limit,
             wrong_rewritings, wrong_completion, lost_words, wrong_action, wrong_gitlab_job)
 

@@ -1,6 +1,5 @@
 # Looks up the modules of books in Ansible's documentation: one call for all that are neither built in nor declared.
 import re
-import shutil
 
 from .books import Block, Play, Task, is_module
 from .documented import documentation, signatures_of

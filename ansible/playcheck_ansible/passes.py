@@ -3,13 +3,13 @@
 import re
 
 from .books import is_module
-from .hints import nearest
 from .loops import dict_loops, loop_variables, loops
 from .mistakes import documented_values
 from .modules import CHANGES_FLOW, CORE, FREE_FORM, FREE_TEXTS, SETS_UNSEEN, UNKNOWN, short_name
 from .names import mentioned
 from .nodes import Mapping, Scalar, Sequence, has_template, is_literal, is_nothing, is_text, made, plain, texts_of
 from .values import arguments_of, as_bool, as_int, converted, is_whole
+from .wording import nearest
 
 # Words that change neither the flow nor the variables.
 PASSED = ("tags", "become", "become_exe", "become_flags", "become_method", "become_user", "environment", "no_log",

@@ -2,7 +2,7 @@
 from collections import deque
 from graphlib import CycleError, TopologicalSorter
 
-from .books import Block, Play, Raw
+from .books import Block, Play, Raw, steps_below
 from .further_facts import FURTHER
 from .names import KNOWN, given_names, mentioned, names_of_vars
 from .nodes import Mapping
@@ -10,7 +10,7 @@ from .nodes import Mapping
 
 class Scope:
     def __init__(self, book, inventory):
-        self.book = book
+        self.book, self.inventory = book, inventory
         self.outside = inventory.names()
         self.plays = [play for play in book.plays if isinstance(play, Play)]
         self.tasks = book.tasks()
@@ -27,6 +27,13 @@ class Scope:
                     self.hold(part, [step, *holders])
             else:
                 self.holders[id(step)] = holders
+
+    def blocks_round(self, task):
+        return [holder for holder in self.holders.get(id(task), []) if isinstance(holder, Block)]
+
+    def is_in(self, task, block, part):
+        """Whether a task stands in a part of a block, however deep."""
+        return any(step is task for step in steps_below(block.parts.get(part, [])))
 
     def given(self):
         """All names that the book gives."""

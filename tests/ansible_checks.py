@@ -11,6 +11,7 @@ from ansible_lookups import wrong_lookups, wrong_time_limit
 from ansible_pipelines import lost_words, wrong_action, wrong_completion, wrong_gitlab_job
 from ansible_rewritings import wrong_rewritings
 from ansible_tools import SECONDS, TOOL, TOP, run_tool
+from ansible_words import wrong_words
 from check import Check, outcome_of
 
 CASES = TOP / "tests" / "ansible"
@@ -207,9 +208,9 @@ def lost_files():
     return [f"ansible/README.md doesn't name {name}" for name in files if f"`{name}`" not in page]
 
 
-SEARCHES = (lost_titles, lost_files, lost_passes, lost_hook, wrong_long_texts, wrong_many_forms, wrong_conversion, wrong_warnings,
-            wrong_signatures, wrong_gitlab, wrong_junit, wrong_strict, wrong_sarif, wrong_lookups, wrong_time_limit,
-            wrong_rewritings, wrong_completion, lost_words, wrong_action, wrong_gitlab_job)
+SEARCHES = (lost_titles, lost_files, lost_passes, lost_hook, wrong_long_texts, wrong_many_forms, wrong_conversion,
+            wrong_warnings, wrong_signatures, wrong_gitlab, wrong_junit, wrong_strict, wrong_sarif, wrong_lookups,
+            wrong_time_limit, wrong_rewritings, wrong_words, wrong_completion, lost_words, wrong_action, wrong_gitlab_job)
 
 
 def main():

@@ -27,9 +27,13 @@ class Culprit:
 
 def culprit(task, known):
     """The first name that a task reads without a guard and that is set nowhere."""
-    for expression, node in read_places(task.words, task.asked):
+    return culprit_in(list(read_places(task.words, task.asked)), known)
+
+
+def culprit_in(places, known):
+    for expression, node in places:
         for name in ordered_names(expression):
-            if name not in known and name not in GRAMMAR and not is_guarded(name, task):
+            if name not in known and name not in GRAMMAR and not is_guarded(name, places):
                 return Culprit(name, node.place)
     return None
 
@@ -40,9 +44,9 @@ def ordered_names(expression):
     return [name for name in found if name in expression_names(expression)]
 
 
-def is_guarded(name, task):
+def is_guarded(name, places):
     guard = re.compile(rf"\b{re.escape(name)}{GUARD}")
-    return any(guard.search(expression) for expression, _ in read_places(task.words, task.asked))
+    return any(guard.search(expression) for expression, _ in places)
 
 
 def first_text(task):
@@ -94,8 +98,16 @@ def of_holder(answer, line, settler):
     if line.kind == "condition":
         return Hint(holder.words.get("when").place)
     if line.kind == "asked" and isinstance(holder, (Play, Block)) and holder.asked:
-        return Hint(holder.asked[0].place)
+        return of_words(answer, holder, settler)
     return Hint(holder.place)
+
+
+def of_words(answer, holder, settler):
+    """Of the words of a play or a block that are passed over."""
+    places = list(read_places(Mapping({}, holder.place), holder.asked))
+    names = settler.names_in_scope(holder)
+    found = culprit_in(places, names) if answer.code == "V01" else None
+    return nowhere(found, names, settler) if found else Hint(places[0][1].place if places else holder.place)
 
 
 def unset(task, line, settler):
@@ -108,6 +120,11 @@ def unset(task, line, settler):
     if found.name in settler.given():
         place = where(settler.place_of_name(found.name), found.place)
         return Hint(found.place, f"'{found.name}' isn't set here: `vars` give it elsewhere{place}")
+    return nowhere(found, names, settler)
+
+
+def nowhere(found, names, settler):
+    """A name that nothing sets, and the one that may be meant."""
     near = nearest(found.name, names - GRAMMAR)
     meant = f". Did you mean '{near}'{where(settler.place_of_name(near), found.place)}?" if near else ""
     return Hint(found.place, f"'{found.name}' is set nowhere: not in this book, not in the inventory{meant}")

@@ -331,7 +331,7 @@ def included_block(task, kind, words, steps):
     """What stands in the place of a task that names a file or a role: of an include its words aren't its tasks'."""
     block = Block(words, task.place, {"block": steps}, is_include=kind.startswith("include"))
     if block.is_include:
-        words.take("ignore_errors")
+        block.asked += [words.take("ignore_errors")] if "ignore_errors" in words else []
         block.is_asked_once = is_asked_once(words, steps)
     return block
 

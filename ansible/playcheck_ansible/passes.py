@@ -188,7 +188,7 @@ def flow_words(task, modules):
             continue
         is_off = isinstance(node, Scalar) and node.value in (False, None)
         if is_off and key != "poll" or key in ONLY_BY_RESULT and not ONLY_BY_RESULT[key](task):
-            task.words.take(key)
+            pass_over(task, key)
         else:
             task.leave(f"`{key}` changes the flow", node.place)
             return
@@ -200,33 +200,41 @@ def checks_alone(task):
 
 
 def runs_for_all(task):
-    """Of a task that is run for one host, the others get the result: it hangs on that host's condition and values."""
+    """Of a task that is run for one host, the others get the result: it hangs on that host's condition and values.
+
+    A template in the place of the truth value is evaluated before the task's condition.
+    """
     loops = any(key == "loop" or key.startswith("with_") for key in task.words.pairs)
     facts = task.words.get("set_fact")
     return ("register" in task.words and (task.is_below_condition or "when" in task.words or loops)
-            or facts is not None and not is_literal(facts))
+            or facts is not None and not is_literal(facts) or not is_literal(task.words.get("run_once")))
 
 
 def is_left_running(task):
-    """A task that isn't waited for registers the number of its job."""
-    poll = task.words.get("poll")
-    return poll is not None and as_int(poll).value == 0 and "register" in task.words
+    """A task that isn't waited for registers the number of its job; a template may say so."""
+    poll = plain(as_int(task.words.get("poll") or made(None, task.place)))
+    is_waited_for = poll is None or isinstance(poll, int) and poll > 0
+    return "register" in task.words and not is_waited_for
 
 
 ONLY_BY_RESULT = {"check_mode": checks_alone, "run_once": runs_for_all, "async": is_left_running,
                   "poll": lambda task: False}
 
 
+def pass_over(task, key):
+    """Takes a word away, whose templates are asked; those of a handler can't be."""
+    node = task.words.take(key)
+    if task.is_handler and not is_literal(node):
+        task.leave(f"`{key}` of a handler holds a template", node.place)
+    else:
+        task.asked.append(node)
+
+
 def passed_words(task, modules):
     """Words that change neither the flow nor variables: their templates are asked, and they are passed over."""
     for key in PASSED:
-        node = task.words.take(key)
-        if node is None:
-            continue
-        if task.is_handler and not is_literal(node):
-            task.leave(f"`{key}` of a handler holds a template", node.place)
-            return
-        task.asked.append(node)
+        if key in task.words:
+            pass_over(task, key)
 
 
 def known_module(task, modules):
@@ -290,8 +298,13 @@ def shown(task, node):
     verbosity = node.take("verbosity")
     if verbosity is not None and "register" in task.words:
         task.leave("`verbosity` decides what is registered", verbosity.place)
+    elif verbosity is not None:
+        task.asked.append(verbosity)
     name = node.take("var")
-    if name is None or "msg" in node:
+    if name is not None and "msg" in node:
+        task.leave("`debug` with both `msg` and `var`", name.place)
+        return node
+    if name is None:
         if "msg" not in node:
             node.put("msg", made("Hello world!", node.place))
         return node

@@ -180,7 +180,7 @@ def lost_titles():
     sys.dont_write_bytecode = True
     from playcheck_ansible.codes import OWN_PAGE, OWN_TITLES, PAGE, TITLES
 
-    text = PAGE.read_text(encoding="utf-8") + OWN_PAGE.read_text(encoding="utf-8")
+    text = "".join(Path(page).read_text(encoding="utf-8") for page in (PAGE, OWN_PAGE))
     page = dict(re.findall(r"^### ([A-Z]\d\d|A-[a-z]+): (.*)$", text, re.M))
     titles = {**TITLES, **OWN_TITLES}
     return [f"{code}: {page.get(code)!r} on the page, {titles.get(code)!r} in codes.py"

@@ -1,11 +1,10 @@
 # Signatures of modules out of Ansible's own documentation, which `ansible-doc` prints where ansible-core is installed.
 import json
 import re
-import shutil
 
 from .modules import BOOL_FIELD, FAILURE, PROFILE, are_choices
 from .problems import Problem
-from .processes import run_within
+from .processes import on_path, run_within
 
 SECONDS = 300
 MOST_UNDOCUMENTED = 4
@@ -33,7 +32,7 @@ NOT_FIELDS = ("failed", "skipped", "skip_reason", "results", "unreachable", "cha
 
 def documentation(names, seconds=SECONDS, again=MOST_UNDOCUMENTED):
     """What ansible-doc has on these modules; those that it doesn't know or that have no documentation are left out."""
-    found = shutil.which("ansible-doc")
+    found = on_path("ansible-doc")
     if not found:
         raise Problem(None, "`ansible-doc` isn't installed; it comes with ansible-core")
     said, told, status = run_within([found, "-t", "module", "--json", *names], seconds)

@@ -2,7 +2,6 @@
 import re
 
 from .books import Block, Play, Task, is_module
-from .documented import documentation, signatures_of
 from .modules import INCLUDES, PREFIXES, UNKNOWN, Modules, short_name
 from .nodes import Mapping, is_text, texts_of
 from .problems import Problem
@@ -64,6 +63,8 @@ def looked_up(names, modules, told):
                      and name not in modules.written})
     if not wanted:
         return modules
+    from .documented import documentation, signatures_of  # read where it is wanted: a book of built-in modules asks nothing
+
     try:
         documents = documentation(wanted, SECONDS)
     except Problem as problem:

@@ -3,7 +3,6 @@ import re
 
 from .books import Block, Play, Raw, Task, is_module, steps_below
 from .further_facts import FURTHER
-from .hints import culprit
 from .lines import Line, Printer
 from .magic import outside_names
 from .modules import CHANGES_FLOW, PROFILE, SETS_UNSEEN
@@ -296,6 +295,8 @@ class Settler(Scope):
         if answer.code == "V03":
             return self.undocumented_field(task)
         if answer.code == "V01":
+            from .hints import culprit  # read where it is wanted: an accepted book has no finding
+
             known = self.names_in_scope(task)
             found = culprit(task, known)
             if found and found.name != "item" and self.has_unseen(task, line.play):

@@ -1,4 +1,5 @@
 # Tries how playcheck-ansible looks modules up: by one call with a limit of time, and not where that is not wanted.
+import json
 import sys
 import tempfile
 import time
@@ -74,6 +75,24 @@ def wrong_lookups():
         are_told = len(told) == len(found[1]) and all(line.startswith(one) for line, one in zip(found[1], told))
         if lost or not are_told or found[2] != calls:
             yield f"{name}: lost {lost}, told {found[1]}, calls {found[2]}, printed {found[0]}"
+
+
+def wrong_long_names():
+    """Modules whose names are longer than those of the format are judged all the same, each by its own documentation."""
+    names = [f"some.sort.{'long_' * 12}{end}" for end in ("one", "two")]
+    options = {"state": {"choices": ["absent", "present"]}}
+    documents = {names[0]: {"doc": {"options": options}}, names[1]: {"doc": {"options": {"level": {"type": "int"}}}}}
+    book = "- hosts: all\n  gather_facts: false\n  tasks:\n"
+    with tempfile.TemporaryDirectory() as folder:
+        Path(folder, "bin").mkdir()
+        Path(folder, "bin", "ansible-doc").write_text(f"#!/bin/sh\ncat <<'END'\n{json.dumps(documents)}\nEND\n")
+        Path(folder, "bin", "ansible-doc").chmod(0o755)
+        Path(folder, "hosts.json").write_text(BOOKS["hosts.json"])
+        Path(folder, "book.yml").write_text(f"{book}    - {names[0]}: {{state: present}}\n    - {names[1]}: {{lvl: 1}}\n")
+        done = run_tool(["check", "book.yml", "-i", "hosts.json"], folder, Path(folder, "bin"))
+    told = f"{names[1]} has no parameter 'lvl'. Known: level"
+    if f"V07 task: an unknown or missing parameter: {told}" not in done.stdout or "2 of 2 tasks" not in done.stdout:
+        yield f"long names: {done}"
 
 
 def wrong_time_limit():

@@ -198,15 +198,16 @@ def parameter(task, line, settler):
     known = set(settler.modules.parameters.get(module, {}))
     if not isinstance(node, Mapping) or not known:
         return None
-    for name in node.pairs:
-        if name not in known:
-            near = nearest(name, known)
-            meant = f" Did you mean '{near}'?" if near else ""
-            listed = " ".join(sorted(known)[:MOST_NAMES])
-            place = node.keys.get(name) or node.place
-            return Hint(place, f"{module} has no parameter '{name}'.{meant} Known: {listed}")
+    documented = settler.modules.documented.get(module)
+    called = documented.name if documented is not None else module
     listed = " ".join(sorted(known)[:MOST_NAMES])
-    return Hint(node.place, f"a parameter of {module} that has to be there is missing. Known: {listed}")
+    unknown = next((name for name in node.pairs if name not in known), None)
+    if unknown is None:
+        return Hint(node.place, f"a parameter of {called} that has to be there is missing. Known: {listed}")
+    near = nearest(unknown, known)
+    meant = f" Did you mean '{near}'?" if near else ""
+    place = node.keys.get(unknown) or node.place
+    return Hint(place, f"{called} has no parameter '{unknown}'.{meant} Known: {listed}")
 
 
 def reserved(task, line, settler):

@@ -1,11 +1,13 @@
 # Tries the formats for pipelines that playcheck-ansible prints, against what their publishers want of each file.
 import json
+import os
 import re
+import subprocess
 import tempfile
 import xml.etree.ElementTree as xml
 from pathlib import Path
 
-from ansible_tools import run_tool
+from ansible_tools import SECONDS, TOOL, run_tool
 
 HOSTS = '{"all": {"hosts": ["h1", "h2"]}}'
 PLAY = "- hosts: all\n  gather_facts: false\n  tasks:\n"
@@ -97,6 +99,31 @@ def wrong_strict():
     severities = [issue["severity"] for issue in json.loads(printed("gitlab", "--strict", files=book)[0])]
     if (status, cases, severities) != (1, ["failure"], ["major"]):
         yield f"strict: {status}, {cases}, {severities}"
+
+
+def wrong_colours():
+    """The code is red on a terminal, unless NO_COLOR is set, and where it is asked for."""
+    cases = [("auto", True, {}, True), ("auto", True, {"NO_COLOR": "1"}, False), ("auto", False, {}, False),
+             ("always", False, {"NO_COLOR": "1"}, True), ("never", True, {}, False)]
+    for choice, is_terminal, given, wanted in cases:
+        said = printed_on(is_terminal, ["check", "--color", choice, "bad.yml", "-i", "hosts.json"], given)
+        if (": \x1b[1m\x1b[31mV01\x1b[0m task" in said, ": V01 task" in said) != (wanted, not wanted):
+            yield f"colours: --color {choice}, a terminal {is_terminal}, {given}: {said!r}"
+
+
+def printed_on(is_terminal, words, given):
+    """What is printed on a terminal, or into a pipe."""
+    reader, writer = os.openpty() if is_terminal else os.pipe()
+    with tempfile.TemporaryDirectory() as folder:
+        Path(folder, "bad.yml").write_text(PLAY + '    - debug: {msg: "{{ gone }}"}\n', encoding="utf-8")
+        Path(folder, "hosts.json").write_text(HOSTS, encoding="utf-8")
+        others = {name: text for name, text in os.environ.items() if name != "NO_COLOR"}
+        subprocess.run([TOOL, *words], cwd=folder, stdout=writer, stdin=subprocess.DEVNULL, check=False,
+                       timeout=SECONDS, env={**others, **given})
+    said = os.read(reader, 4096).decode()
+    os.close(reader)
+    os.close(writer)
+    return said
 
 
 # https://docs.oasis-open.org/sarif/sarif/v2.1.0/errata01/os/schemas/sarif-schema-2.1.0.json: of each object that is

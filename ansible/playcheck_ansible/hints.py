@@ -14,6 +14,7 @@ from .problems import Place
 from .wording import Hint, named, nearest, shown, where
 
 GUARD = r"\s*(?:is\s+(?:not\s+)?(?:defined|undefined)|\|\s*default)"
+DEFAULTED = re.compile(r"\s*([A-Za-z_][\w.]*)\s*\|\s*default\([^()]*\)\s*")
 MOST_NAMES = 12
 # Those facts that an answer of `setup` needn't have.
 PERHAPS_FACTS = FACTS[2:]
@@ -174,6 +175,10 @@ def wrong_kind(task, line, settler):
             name = shown(node)
             return Hint(key_place(task, (key,)) or node.place, f"{key}: '{name}' may be no truth value",
                         f"Write a comparison, as {name} == '..' or {name} | length > 0")
+    for expression, node in read_places(task.words, task.asked):
+        found = DEFAULTED.fullmatch(expression)
+        if found:
+            return Hint(node.place, f"'{found[1]}' and its default may be of two kinds")
     node = first_text(task)
     return Hint(node.place) if node is not None else None
 

@@ -309,10 +309,14 @@ def shown(task, node):
             node.put("msg", made("Hello world!", node.place))
         return node
     if is_text(name) and not has_template(name.value):
-        text = name.value.strip() + (" | default('')" if PATH.fullmatch(name.value.strip()) else "")
-        name = Scalar("{{ " + text + " }}", name.place, name.text, True)
+        name = Scalar("{{ " + read_if_there(name.value.strip()) + " }}", name.place, name.text, True)
     node.put("msg", name)
     return node
+
+
+def read_if_there(text):
+    """An expression that reads a path of any kind where it is there; any other expression as it is."""
+    return f"{text} is defined and [{text}] | length == 1" if PATH.fullmatch(text) else text
 
 
 def parameters(task, modules):

@@ -78,7 +78,7 @@ def wrong_lookups():
 
 
 def wrong_long_names():
-    """Modules whose names are longer than those of the format are judged all the same, each by its own documentation."""
+    """Modules with longer names than the format has are judged all the same, each by its own documentation."""
     names = [f"some.sort.{'long_' * 12}{end}" for end in ("one", "two")]
     options = {"state": {"choices": ["absent", "present"]}}
     documents = {names[0]: {"doc": {"options": options}}, names[1]: {"doc": {"options": {"level": {"type": "int"}}}}}
@@ -88,7 +88,8 @@ def wrong_long_names():
         Path(folder, "bin", "ansible-doc").write_text(f"#!/bin/sh\ncat <<'END'\n{json.dumps(documents)}\nEND\n")
         Path(folder, "bin", "ansible-doc").chmod(0o755)
         Path(folder, "hosts.json").write_text(BOOKS["hosts.json"])
-        Path(folder, "book.yml").write_text(f"{book}    - {names[0]}: {{state: present}}\n    - {names[1]}: {{lvl: 1}}\n")
+        tasks = f"    - {names[0]}: {{state: present}}\n    - {names[1]}: {{lvl: 1}}\n"
+        Path(folder, "book.yml").write_text(book + tasks)
         done = run_tool(["check", "book.yml", "-i", "hosts.json"], folder, Path(folder, "bin"))
     told = f"{names[1]} has no parameter 'lvl'. Known: level"
     if f"V07 task: an unknown or missing parameter: {told}" not in done.stdout or "2 of 2 tasks" not in done.stdout:

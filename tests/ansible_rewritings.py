@@ -100,7 +100,7 @@ ARGUMENTS = [
     ("src=a\n  dest=b  ", {"src": "a", "dest": "b"}),
     ("src=a\tdest=b mode=c\t", {"src": "a\tdest=b", "mode": "c"}),
     ("src=\"a  b\" dest='c d'", {"src": "a  b", "dest": "c d"}),
-    ("src={{ a | default(\"x y\") }} dest={{ b }}{{ c }}", {"src": '{{ a | default("x y") }}', "dest": "{{ b }}{{ c }}"}),
+    ("src={{ a | default('x y') }} dest={{ b }}{{ c }}", {"src": "{{ a | default('x y') }}", "dest": "{{ b }}{{ c }}"}),
     ("src=a \\\n dest=b", {"src": "a", "dest": "b"}),
     (r'src="a \"b\" c" dest=d\x21\n', {"src": 'a "b" c', "dest": "d!"}),
     ("src==a url=http://x/?a=b", {"src": "=a", "url": "http://x/?a=b"}),

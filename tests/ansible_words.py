@@ -1,4 +1,4 @@
-# Tries that each word of a task and each parameter whose value is passed over is asked: what a name that nothing sets shows.
+# Tries that templates in each word of a task and in each parameter are asked: by a name that nothing sets.
 import json
 import sys
 import tempfile
@@ -7,12 +7,12 @@ from pathlib import Path
 from ansible_tools import TOP, run_tool
 
 GONE = "{{ gone }}"
-# What no run evaluates where nothing reads it, what is no value, and what the tests of other passes have.
+# What no run evaluates where nothing reads it, and what names the module itself.
 NO_VALUES = {"name", "listen", "register", "vars", "action", "local_action"}
 # What a module has to be given, so that the parameter that is tried is the only fault of the task.
-NEEDED = {"command": {"cmd": "x"}, "shell": {"cmd": "x"}, "stat": {"path": "/a"}, "copy": {"dest": "/a", "content": "x"},
-          "file": {"path": "/a"}, "service": {"name": "a"}, "debug": {"msg": "x"}, "assert": {"that": "1 == 1"},
-          "fail": {"msg": "x"}}
+NEEDED = {"command": {"cmd": "x"}, "shell": {"cmd": "x"}, "stat": {"path": "/a"},
+          "copy": {"dest": "/a", "content": "x"}, "file": {"path": "/a"}, "service": {"name": "a"},
+          "debug": {"msg": "x"}, "assert": {"that": "1 == 1"}, "fail": {"msg": "x"}}
 
 
 def tasks_of_words():
@@ -26,8 +26,8 @@ def tasks_of_parameters():
     from playcheck_ansible.modules import ALIASES, CHANGES_FLOW, PASSED_OVER, PROFILE
 
     for module in sorted(PROFILE.keys() - {"meta", "set_fact"}):
-        known = {*PROFILE[module], *PASSED_OVER.get(module, ()), *ALIASES.get(module, ()), *CHANGES_FLOW.get(module, ())}
-        for name in sorted(known):
+        further = (PASSED_OVER, ALIASES, CHANGES_FLOW)
+        for name in sorted({*PROFILE[module], *(name for table in further for name in table.get(module, ()))}):
             needed = {} if ALIASES.get(module, {}).get(name) in NEEDED.get(module, {}) else NEEDED.get(module, {})
             yield {"name": f"{module} {name}", module: {**needed, name: GONE}}
 

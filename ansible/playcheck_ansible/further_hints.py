@@ -10,7 +10,7 @@ from .wording import Hint, named, nearest, shown, where
 HOSTVARS = re.compile(r"hostvars\s*(?:\[\s*['\"]([^'\"]+)['\"]\s*\]|\.\s*(\w+))")
 GROUPS = re.compile(r"(?<![\w.])groups\s*(?:\[\s*['\"]([^'\"]+)['\"]\s*\]|\.\s*(\w+))")
 OTHER_HOST = re.compile(r"hostvars(?:\[[^\]]*\]|\.\w+)\.\w+")
-# What a batch hangs on, and the hosts that are still active.
+# Names whose values hang on other hosts.
 OTHERS = ("hostvars", "ansible_play_batch")
 # Modules that can't fail on a host that gets to them.
 NEVER_FAIL = ("debug", "set_fact", "meta")
@@ -68,9 +68,10 @@ def judged_by_others(task, line, settler):
 
 
 def second_handler(task, line, settler):
+    """A handler with the name of an earlier one."""
     first = next((other for other in line.play.sections.get("handlers", []) if other.name == task.name), task)
-    node = task.written.get("name")
-    return Hint(node.place, f"it is that of an earlier one{where(first.place, node.place)}") if first is not task else None
+    place = task.written.get("name").place
+    return Hint(place, f"it is that of an earlier one{where(first.place, place)}") if first is not task else None
 
 
 def earlier_handler(task, line, settler):

@@ -63,7 +63,7 @@ def looked_up(names, modules, told):
                      and name not in modules.written})
     if not wanted:
         return modules
-    from .documented import documentation, signatures_of  # read where it is wanted: a book of built-in modules asks nothing
+    from .documented import documentation, signatures_of  # read where it is wanted: many books ask nothing
 
     try:
         documents = documentation(wanted, SECONDS)

@@ -252,7 +252,7 @@ def known_module(task, modules):
 
 
 def meant(module, modules):
-    """The module that a name may mean; of those that are not declared only where none has the name for certain."""
+    """The module that a name may mean: one that isn't declared only where ansible-doc doesn't know the name."""
     is_sought = modules.unknown.get(module) == UNKNOWN
     names = {*modules.parameters, *modules.written, *(CORE if is_sought else ())}
     near = nearest(module, names) if is_sought or len(module) > SHORT else ""

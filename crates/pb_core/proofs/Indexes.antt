@@ -51,18 +51,17 @@ behind_first p k (x ∷ xs) =
 next_of : (forks : ℕ) (l : Bool) (xs : List Activity) (o : Option Starting) → o ≡ first_in always 0 xs → next_in forks l xs ≡ kept (can_start_in forks l xs) o
 next_of forks l xs o e = next_kept forks l xs ∙ ap (kept (can_start_in forks l xs)) (sym e)
 
-next_some : (forks : ℕ) (l : Bool) (xs : List Activity) (x : Starting) → Some x ≡ first_in always 0 xs → can_start_in forks l xs x.place ≡ true → number_of (next_in forks l xs) ≡ Some x.number
-next_some forks l xs x e h = ap number_of (next_of forks l xs (Some x) e) ∙ ap (λ b. number_of (cond b (Some x) None)) h
-
-next_no : (forks : ℕ) (l : Bool) (xs : List Activity) (x : Starting) → Some x ≡ first_in always 0 xs → can_start_in forks l xs x.place ≡ false → number_of (next_in forks l xs) ≡ None
-next_no forks l xs x e h = ap number_of (next_of forks l xs (Some x) e) ∙ ap (λ b. number_of (cond b (Some x) None)) h
-
 pub next_empty : (xs : List Activity) (forks : ℕ) (l : Bool) → None ≡ first_in always 0 xs → None ≡ number_of (next_in forks l xs)
 next_empty xs forks l e = sym (ap number_of (next_of forks l xs None e))
 
-and_no : (a b : Bool) → b ≡ false → a && b ≡ false
-and_no true b e = e
-and_no false b e = refl
+-- the lowest starts next, where it can
+pub next_lowest : (xs : List Activity) (forks n p : ℕ) (l q : Bool) → starting_of (Some (n, p)) ≡ first_in always 0 xs → q ≡ can_start_in forks l xs p → cond q (Some n) None ≡ number_of (next_in forks l xs)
+next_lowest xs forks n p l q low can =
+    either q ∙ ap (λ b. number_of (cond b (Some (let x : Starting = record { number = n; place = p } in x)) None)) can
+    ∙ sym (ap number_of (next_of forks l xs (Some (record { number = n; place = p })) low)) where
+      either : (b : Bool) → cond b (Some n) None ≡ number_of (cond b (Some (let x : Starting = record { number = n; place = p } in x)) None)
+      either true = refl
+      either false = refl
 
 not_flip : (b : Bool) → not b ≡ true → b ≡ false
 not_flip false e = refl
@@ -72,33 +71,34 @@ not_back : (b : Bool) → not b ≡ false → b ≡ true
 not_back true e = refl
 not_back false e = untrue (sym e)
 
-module _ (x : ReadyIndex) (xs : List Activity) (i : IsIndexOf x xs) (forks n p m : ℕ) (low : starting_of (Some (n, p)) ≡ first_in always 0 xs) (count : m ≡ length x.running.keys) where
+not_twice : (b : Bool) → not (not b) ≡ b
+not_twice true = refl
+not_twice false = refl
+
+-- whether a host at a place can start, by how many run
+module _ (x : ReadyIndex) (xs : List Activity) (i : IsIndexOf x xs) (forks p m : ℕ) (count : m ≡ length x.running.keys) (l : Bool) where
+  pub start_full : forks ≤ m → false ≡ can_start_in forks l xs p
+  start_full h = sym (ap (λ b. b && (not l || none_behind p xs)) (ap (λ n. nat_lt n forks) (sym i.count ∙ sym count) ∙ le-ltb m forks h))
+
   fork_free : m < forks → nat_lt (running_in xs) forks ≡ true
-  fork_free h = ap (λ b. nat_lt b forks) (sym i.count ∙ sym count) ∙ lt-ltb m forks h
+  fork_free h = ap (λ n. nat_lt n forks) (sym i.count ∙ sym count) ∙ lt-ltb m forks h
 
-  itself : is_not_behind p (first_in always 0 xs) ≡ true
-  itself = ap (is_not_behind p) (sym low) ∙ le-leb p p (omega arith)
+  pub start_free : m < forks → l ≡ false → true ≡ can_start_in forks l xs p
+  start_free h free = sym (ap₂ (λ a b. a && (not b || none_behind p xs)) (fork_free h) free)
 
-  behind_is : (o : Option (ℕ × ℕ)) → starting_of o ≡ first_in always 0 (map exchanged xs) → none_behind p xs ≡ is_not_behind p (starting_of o)
-  behind_is o e = behind_first p 0 xs ∙ ap₂ (λ a b. a && b) itself (ap (is_not_behind p) (sym e))
+  pub start_linear : (q : Bool) → m < forks → l ≡ true → q ≡ none_behind p xs → q ≡ can_start_in forks l xs p
+  start_linear q h linear e = e ∙ sym (ap₂ (λ a b. a && (not b || none_behind p xs)) (fork_free h) linear)
 
-  pub next_full : (l : Bool) → forks ≤ m → None ≡ number_of (next_in forks l xs)
-  next_full l h =
-      let full : nat_lt (running_in xs) forks ≡ false = ap (λ b. nat_lt b forks) (sym i.count ∙ sym count) ∙ le-ltb m forks h in
-      sym (next_no forks l xs (record { number = n; place = p }) low (ap (λ b. b && (not l || none_behind p xs)) full))
+-- whether a host stands before a place, by the lowest that waits and the lowest that runs
+module _ (xs : List Activity) (p : ℕ) (o : Option (ℕ × ℕ)) (waits : starting_of o ≡ first_in always 0 xs) where
+  pub behind_waiting : not (is_not_behind p (starting_of o)) ≡ true → false ≡ none_behind p xs
+  behind_waiting h =
+      sym (behind_first p 0 xs ∙ ap (λ a. a && is_not_behind p (first_in always 0 (map exchanged xs))) (ap (is_not_behind p) (sym waits) ∙ not_flip (is_not_behind p (starting_of o)) h))
 
-  pub next_behind : (l : Bool) (o : Option (ℕ × ℕ)) → l ≡ true → starting_of o ≡ first_in always 0 (map exchanged xs) → not (is_not_behind p (starting_of o)) ≡ true → None ≡ number_of (next_in forks l xs)
-  next_behind l o linear e h =
-      let behind : none_behind p xs ≡ false = behind_is o e ∙ not_flip (is_not_behind p (starting_of o)) h in
-      sym (next_no forks l xs (record { number = n; place = p }) low (and_no (nat_lt (running_in xs) forks) (not l || none_behind p xs) (ap₂ (λ a b. not a || b) linear behind)))
-
-  pub next_free : (l : Bool) → m < forks → l ≡ false → Some n ≡ number_of (next_in forks l xs)
-  next_free l h free = sym (next_some forks l xs (record { number = n; place = p }) low (ap₂ (λ a b. a && (not b || none_behind p xs)) (fork_free h) free))
-
-  pub next_linear : (l : Bool) (o : Option (ℕ × ℕ)) → m < forks → l ≡ true → starting_of o ≡ first_in always 0 (map exchanged xs) → not (is_not_behind p (starting_of o)) ≡ false → Some n ≡ number_of (next_in forks l xs)
-  next_linear l o h linear e f =
-      let ahead : none_behind p xs ≡ true = behind_is o e ∙ not_back (is_not_behind p (starting_of o)) f in
-      sym (next_some forks l xs (record { number = n; place = p }) low (ap₂ (λ a b. a && b) (fork_free h) (ap₂ (λ a b. not a || b) linear ahead)))
+  pub behind_running : (r : Option (ℕ × ℕ)) → not (is_not_behind p (starting_of o)) ≡ false → starting_of r ≡ first_in always 0 (map exchanged xs) → not (not (is_not_behind p (starting_of r))) ≡ none_behind p xs
+  behind_running r h run =
+      not_twice (is_not_behind p (starting_of r)) ∙ ap (is_not_behind p) run
+      ∙ sym (behind_first p 0 xs ∙ ap (λ a. a && is_not_behind p (first_in always 0 (map exchanged xs))) (ap (is_not_behind p) (sym waits) ∙ not_back (is_not_behind p (starting_of o)) h))
 
 -- whether all hosts are idle
 abbrev is_none_first : Option Starting → Bool

@@ -92,10 +92,10 @@ module _ (ss : List Step) where
   stand_same p (h ∷ hs) = ap₂ (λ a b. a && b) (stands_same p h.stage) (stand_same p hs)
 
 module _ (s : FlatState) (b : program.Batch) (later : List program.Batch) (is : s.batches ≡ b ∷ later) (going : s.is_stopped ≡ false) where
-  can_same : (p : ℕ) → nat_lt (running s.hosts) s.forks && (not b.play.is_linear || all_stand (plan_steps b) p s.hosts) ≡ can_start_in s.forks b.play.is_linear (activities (plan_steps b) s.hosts) p
+  pub can_same : (p : ℕ) → nat_lt (running s.hosts) s.forks && (not b.play.is_linear || all_stand (plan_steps b) p s.hosts) ≡ can_start_in s.forks b.play.is_linear (activities (plan_steps b) s.hosts) p
   can_same p = ap₂ (λ x y. nat_lt x s.forks && (not b.play.is_linear || y)) (running_same (plan_steps b) s.hosts) (stand_same (plan_steps b) p s.hosts)
 
-  enabled_is : (k : ℕ) (h : FlatHost) → host_at k s.hosts ≡ Some h → enabled s (start k) ≡ can_start s b h.stage
+  pub enabled_is : (k : ℕ) (h : FlatHost) → host_at k s.hosts ≡ Some h → enabled s (start k) ≡ can_start s b h.stage
   enabled_is k h e =
       ap₂ (λ x bs. not x && is_possible s bs (start k)) going is
       ∙ ap (λ o. of_host o (λ g. can_start s b g.stage)) e

@@ -7,33 +7,51 @@ use Rattle.pb_language.specs.Expression.{Name}
 use Rattle.pb_language.specs.World.{HostVariables}
 use Rattle.pb_language.specs.Program as program
 use Rattle.pb_language.specs.Program.{all_batches}
-use Rattle.pb_language.specs.Machine.{any_names, empty_recap, turn, stop}
+use Rattle.pb_language.specs.Machine.{any_names, empty_recap, start, turn, stop}
 use Rattle.pb_machine.specs.Steps as flat
-use Rattle.pb_machine.specs.Hosts.{FlatHost, stands, at_end}
-use Rattle.pb_machine.specs.Run.{FlatState, current_steps, host_at, still_active, all_idle, enabled, is_possible, happened, on_turn, step, opening_hosts}
+use Rattle.pb_machine.specs.Hosts.{FlatHost, FlatStage, stands, works, at, at_end, left_play}
+use Rattle.pb_machine.specs.Ways.{step_at}
+use Rattle.pb_machine.specs.Run.{FlatState, can_start, current_steps, plan_steps, host_at, still_active, all_idle, enabled, is_possible, happened, on_turn, step, opening_hosts}
 use Rattle.pb_core.specs.declared.batch.Batch.{Batch}
 use Rattle.pb_core.specs.declared.batch.RunPlay.{RunPlay}
 use Rattle.pb_core.specs.declared.host.HostState.{HostState}
 use Rattle.pb_core.specs.declared.index.ReadyIndex.{ReadyIndex}
 use Rattle.pb_core.specs.declared.run.RunCore.{RunCore}
 use Rattle.pb_core.specs.Readings.{Reading, AreGiven}
-use Rattle.pb_core.specs.Activities.{Activity, activities, running_in, all_idle_in, next_in, number_of}
+use Rattle.pb_core.specs.Activities.{Activity, activity_in, activities, running_in, all_idle_in, can_start_in, next_in, number_of}
 use Rattle.pb_core.specs.Indexes.{is_ready, IsIndexOf, HoldsOnly}
 use Rattle.pb_core.specs.Hosts.{PlaySize, IsStage, IsHost, IsHostAt, IsFresh}
 use Rattle.pb_core.specs.declared.entry.Entry.{Entry}
 use Rattle.pb_core.specs.Entries.{found, entered, waits_in, AreEntries, AreHosts, IsAnyHere}
-use Rattle.pb_core.specs.Cores.{AreEntriesAt, LeadsTo, AreBatches, size_of, activities_of, IsCore, scheduled_batches, scheduled_plays, play_in, play_of, HasNoPlay}
-use Rattle.pb_core.specs.Events.{IsDisabled, IsNext, RunsBatch, TellsEnd, Turns, CanTurn, is_over, Opens, Stops}
-use Rattle.pb_core.proofs.Hosts.{past}
-use Rattle.pb_core.proofs.Nexts.{next_same, next_stopped, next_ended}
+use Rattle.pb_core.specs.Cores.{AreEntriesAt, LeadsTo, AreBatches, size_of, activities_of, IsCore, scheduled_batches, scheduled_plays, play_in, play_of, ready_place, HasNoPlay, IsReadyAt}
+use Rattle.pb_core.specs.Events.{CanStart, IsDisabled, IsNext, RunsBatch, TellsEnd, Turns, CanTurn, is_over, Opens, Stops}
+use Rattle.pb_core.proofs.Hosts.{activity_at, no_activity, past}
+use Rattle.pb_core.proofs.Nexts.{can_same, enabled_is, next_same, next_stopped, next_ended}
 use Rattle.pb_core.proofs.Indexes.{holds_only}
-use Rattle.pb_core.proofs.Cores.{drop_at, drop_past, no_batches, play_is, play_none}
+use Rattle.pb_core.proofs.Cores.{cannot_start, ended_ready, drop_at, drop_past, no_batches, play_is, play_none}
 use Rattle.pb_core.proofs.Beginnings.{any_active, idle_same, runs_on}
 
 some_at : {A : Type 0} → (xs : List A) (k : ℕ) → k < length xs → slice_get xs k ≡ None → ⊥
 some_at [] k h e = omega arith
 some_at (x ∷ xs) zero h e = let no : Some x ≡ None = e in cc
 some_at (x ∷ xs) (suc k) h e = some_at xs k (omega arith) e
+
+-- where a host waits before a task
+place_ready : (ss : List flat.Step) (g : FlatStage) (p : ℕ) → ready_place (Some (activity_in ss g)) ≡ Some p → (n : ℕ) × (g ≡ stands (at n)) × ((step_at ss n).task.place ≡ p)
+place_ready ss (stands at_end) p e = cc
+place_ready ss (stands left_play) p e = cc
+place_ready ss (stands (at n)) p e = (n, refl, let same : Some (step_at ss n).task.place ≡ Some p = e in cc)
+place_ready ss (works n i ps) p e = cc
+
+start_ready : (s : FlatState) (b : program.Batch) (later : List program.Batch) → s.batches ≡ b ∷ later → s.is_stopped ≡ false → (k p : ℕ) → ready_place (slice_get (activities (plan_steps b) s.hosts) k) ≡ Some p
+    → can_start_in s.forks b.play.is_linear (activities (plan_steps b) s.hosts) p ≡ enabled s (start k)
+start_ready s b later is going k p e = by (host_at k s.hosts) refl where
+  by : (o : Option FlatHost) → host_at k s.hosts ≡ o → can_start_in s.forks b.play.is_linear (activities (plan_steps b) s.hosts) p ≡ enabled s (start k)
+  by None f = let no : None ≡ Some p = sym (ap ready_place (no_activity (plan_steps b) s.hosts k f)) ∙ e in cc
+  by (Some h) f =
+      let there = place_ready (plan_steps b) h.stage p (sym (ap ready_place (activity_at (plan_steps b) s.hosts k h f)) ∙ e) in
+      sym (enabled_is s b later is going k h f ∙ ap (can_start s b) there.1 ∙ can_same s b later is going (step_at (plan_steps b) there.0).task.place
+      ∙ ap (can_start_in s.forks b.play.is_linear (activities (plan_steps b) s.hosts)) there.2)
 
 module _ {P : Type 0} (core : RunCore P) where
   pub ready_stopped : core.is_stopped ≡ true → IsNext core None
@@ -49,6 +67,25 @@ module _ {P : Type 0} (core : RunCore P) where
       ∙ ap₂ (λ n l. number_of (next_in n l (activities_of s))) (sym i.forks) found.6.linear
       ∙ ap (λ bs. number_of (next_in s.forks found.0.play.is_linear (activities (current_steps bs) s.hosts))) found.3
       ∙ ap number_of (sym (next_same s found.0 found.1 found.3 (i.stopped ∙ going)))
+
+  -- whether a host may start
+  pub start_stopped : (k : ℕ) → core.is_stopped ≡ true → CanStart k core false
+  start_stopped k e reading s i = sym (ap (λ q. not q && is_possible s s.batches (start k)) (i.stopped ∙ e))
+
+  pub start_not : (k : ℕ) → IsDisabled (start k) core → CanStart k core false
+  start_not k no reading s i = sym (no reading s i)
+
+  pub start_ended : (k : ℕ) → play_of core core.current ≡ None → CanStart k core false
+  start_ended k e = start_not k (cannot_start core k (ended_ready core k e))
+
+  pub start_at : (k p : ℕ) (play : RunPlay) (q : Bool) → core.is_stopped ≡ false → play_of core core.current ≡ Some play → IsReadyAt core k (Some p)
+      → ((xs : List Activity) → IsIndexOf core.index xs → q ≡ can_start_in core.forks play.is_linear xs p) → CanStart k core q
+  start_at k p play q going e at can reading s i =
+      let found = play_is reading.name (scheduled_plays core) (scheduled_batches core) core.current play s.batches i.batches e in
+      can (activities_of s) i.index
+      ∙ ap₂ (λ n l. can_start_in n l (activities_of s) p) (sym i.forks) found.6.linear
+      ∙ ap (λ bs. can_start_in s.forks found.0.play.is_linear (activities (current_steps bs) s.hosts) p) found.3
+      ∙ start_ready s found.0 found.1 found.3 (i.stopped ∙ going) k p (ap (λ bs. ready_place (slice_get (activities (current_steps bs) s.hosts) k)) (sym found.3) ∙ sym (at reading s i))
 
   -- whether a Turn may happen
   and_none : (q : Bool) → q && false ≡ false

@@ -78,6 +78,11 @@ module _ {P : Type 0} where
   IsNext c o = (reading : Reading P) (s : FlatState) → IsCore reading c s
       → o ≡ number_of (flat.next_start s)
 
+  -- it says whether the host may start its task
+  abbrev pub CanStart : ℕ → RunCore P → Bool → Type 0
+  CanStart k c q = (reading : Reading P) (s : FlatState) → IsCore reading c s
+      → q ≡ flat.enabled s (start k)
+
   -- once no host is at a task, that batch begins, or the run ends
   abbrev pub RunsBatch : ℕ → RunCore P → RunCore P → Type 0
   RunsBatch n old new = (reading : Reading P) (s : FlatState) (bs : List Batch)

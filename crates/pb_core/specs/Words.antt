@@ -5,6 +5,7 @@ pub use Rattle.pb_core.specs.Entries.{AreHosts}
 pub use Rattle.pb_core.specs.Cores.{AreBatches, AreOfNoProgram, IsBatch, IsCore, IsPlay}
 pub use Rattle.pb_core.specs.Cores.{activities_of, counts_at, job_at, play_of, recaps_of}
 pub use Rattle.pb_core.specs.Cores.{scheduled_batches, scheduled_plays, size_of, tickets_of}
-pub use Rattle.pb_core.specs.Events.{AreActive, Begins, CanTurn, HasNoJob, IsDisabled, IsNext}
+pub use Rattle.pb_core.specs.Events.{AreActive, Begins, CanStart, CanTurn, HasNoJob, IsDisabled}
+pub use Rattle.pb_core.specs.Events.{IsNext}
 pub use Rattle.pb_core.specs.Events.{Leaves, Opens, Repeats, Settles, Stops, TellsEnd, TellsStop}
 pub use Rattle.pb_core.specs.Events.{Turns, TurnsTo, active_in, is_over}

@@ -1,7 +1,8 @@
 // The hosts that wait before a task and those whose task runs, by the places of their tasks.
 ghost use Rattle.std.specs.Prelude.{◌≡◌, List, OnErr, OnOk, false, not};
-ghost use Rattle.pb_core.specs.Activities.{Activity, all_idle_in, always, first_in, next_in};
-ghost use Rattle.pb_core.specs.Activities.{is_not_behind, number_of, starting_of};
+ghost use Rattle.pb_core.specs.Activities.{Activity, all_idle_in, always, can_start_in, first_in};
+ghost use Rattle.pb_core.specs.Activities.{is_not_behind, next_in, none_behind, number_of};
+ghost use Rattle.pb_core.specs.Activities.{starting_of};
 ghost use Rattle.pb_core.specs.Indexes.{AddsPlace, BeginsIn, GoesOnIn, HasPlaces, HoldsOnly};
 ghost use Rattle.pb_core.specs.Indexes.{IsIndexOf, LeavesIn, PutsIn, TakesOut};
 
@@ -76,13 +77,37 @@ impl ReadyIndex {
         let Some((host, place)) = lowest_in(&self.waiting) else {
             return None;
         };
+        if self.can_start(place, forks, is_linear) {
+            Some(host)
+        } else {
+            None
+        }
+    }
+
+    /// Whether a host that waits before that place may start: fewer than `forks` hosts run, and in
+    /// a linear play none is behind it.
+    pub fn can_start(&self, place: usize, forks: usize, is_linear: bool) -> bool
+        ensures { (hosts : List Activity) → IsIndexOf self.now hosts
+            → result ≡ can_start_in forks is_linear hosts place }
+    {
         if self.running.len() >= forks {
-            return None;
+            return false;
         }
-        if is_linear && is_behind(lowest_in(&self.running), place) {
-            return None;
+        if !is_linear {
+            return true;
         }
-        Some(host)
+        self.has_none_behind(place)
+    }
+
+    // Whether no host stands before that place.
+    fn has_none_behind(&self, place: usize) -> bool
+        ensures { (hosts : List Activity) → IsIndexOf self.now hosts
+            → result ≡ none_behind place hosts }
+    {
+        if is_behind(lowest_in(&self.waiting), place) {
+            return false;
+        }
+        !is_behind(lowest_in(&self.running), place)
     }
 
     /// Whether all hosts are idle.

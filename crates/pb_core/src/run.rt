@@ -3,7 +3,8 @@ ghost use Rattle.std.specs.Prelude.{◌<◌, ◌≡◌, All, IfOk, IfSome, lengt
 ghost use Rattle.std.specs.Prelude.{false, true};
 ghost use Rattle.pb_core.specs.Cores.{IsReadyAt, IsRunningAt, batches_left, play_of};
 ghost use Rattle.pb_core.specs.Cores.{scheduled_batches};
-ghost use Rattle.pb_core.specs.Events.{AreActive, CanTurn, IsNext, TellsEnd, TellsStop};
+ghost use Rattle.pb_core.specs.Events.{AreActive, CanStart, CanTurn, IsNext, TellsEnd};
+ghost use Rattle.pb_core.specs.Events.{TellsStop};
 
 use crate::active::active_of;
 use crate::batch::{Batch, RunPlay, Schedule};
@@ -89,6 +90,22 @@ impl<P> RunCore<P> {
             return None;
         };
         self.index.next(self.forks, play.is_linear)
+    }
+
+    /// Whether the host's task can begin: one of those of which `ready` tells the first.
+    pub fn can_start(&self, host: usize) -> bool
+        ensures { CanStart host self.now result }
+    {
+        if self.is_stopped {
+            return false;
+        }
+        let Some(play) = self.play() else {
+            return false;
+        };
+        let Some(place) = self.ready_at(host) else {
+            return false;
+        };
+        self.index.can_start(place, self.forks, play.is_linear)
     }
 
     /// Whether the batch is over: no host is before a task or in one.

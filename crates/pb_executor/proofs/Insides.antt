@@ -4,7 +4,8 @@ use Rattle.std.specs.declared.alloc.AllocError.{AllocError}
 use Rattle.std.specs.declared.alloc.Global.{Global}
 use Rattle.pb_finish.specs.declared.answer.Answer.{Answer}
 use Rattle.pb_history.specs.Jobs.{is_out_at}
-use Rattle.pb_run.specs.Calls.{Gives, HasJob, IsRefused, StaysRecorded, Takes}
+use Rattle.pb_run.specs.Calls.{Gives, HasJob, IsRefused, StaysRecorded, Takes, TakesSome}
+use Rattle.pb_run.specs.Follows.{EventView, Follows}
 use Rattle.pb_run.specs.Openings.{IsNeverStuck, Opening}
 use Rattle.pb_run.specs.Recorded.{IsRecorded, Stops, stop_events}
 use Rattle.pb_run.specs.declared.event.Given.{Given}
@@ -15,7 +16,8 @@ use Rattle.pb_run.specs.declared.event.Taken.TheVariants as taken
 use Rattle.pb_run.specs.declared.recorded.RecordedMachine.{RecordedMachine}
 use Rattle.pb_executor.specs.Drives.{GivesRun, TakesRun}
 use Rattle.pb_executor.specs.Inside.{IsRun, run_state}
-use Rattle.pb_executor.specs.Refusals.{IsRefusedRun}
+use Rattle.pb_executor.specs.Refusals.{IsRefusedRun, TakesSomeRun}
+use Rattle.pb_executor.specs.Replays.{FollowsRun}
 use Rattle.pb_executor.specs.Sound.{IsSound}
 use Rattle.pb_executor.specs.States.{opening_for, state_of}
 use Rattle.pb_executor.specs.declared.run.Run.TheInside.{Inside}
@@ -36,6 +38,9 @@ module _ (a : Inside) (is : IsRun a) where
   refused_run refusal.Stopped k t x = x o is.recorded
   refused_run refusal.Stranger k t x = x o is.recorded
 
+  pub takes_some : TakesSome a.recorded → TakesSomeRun (run_state a)
+  takes_some x = x o is.recorded
+
   module _ (m : RecordedMachine) where
     abbrev b : Inside
     b = record a { recorded = m }
@@ -55,6 +60,14 @@ module _ (a : Inside) (is : IsRun a) where
     idle_run t takes idle =
         let x = takes o never is.recorded in
         waits_out (run_state b) is.accepted is.forks (subst (HasJob o a.recorded.history.items m.history.items _) idle x.taken.job).1
+
+    -- an event happens again, where it can
+    pub follow_keeps : {E : Type 0} (v : EventView) (r : Result Unit₀ E) → OnOk r (Follows v a.recorded m) → OnErr r (StaysRecorded a.recorded m) → IsRun b
+    follow_keeps v (Ok t) follows stays = keeps (follows o never is.recorded).recorded
+    follow_keeps v (Err e) follows stays = keeps (stays.recorded o is.recorded)
+
+    pub follows_run : (v : EventView) → Follows v a.recorded m → FollowsRun v (run_state a) (run_state b)
+    follows_run v follows = record { same = refl; events = (follows o never is.recorded).events }
 
     -- answers are given
     pub give_keeps : {E : Type 0} (k t : ℕ) (xs : Vec Answer Global) (r : Result Given E) → IfOk r (λ g. Gives k t xs g a.recorded m) → OnErr r (StaysRecorded a.recorded m) → IsRun b

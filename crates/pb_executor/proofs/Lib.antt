@@ -3,4 +3,5 @@ pub mod Runs
 pub mod Driven
 pub mod Filed
 pub mod Insides
+pub mod Replays
 pub mod Turns

@@ -4,3 +4,4 @@ pub mod Sound
 pub mod Drives
 pub mod Refusals
 pub mod Words
+pub mod Replays

@@ -9,6 +9,7 @@
 #![tactic(auto)]
 
 pub mod drive;
+pub mod replay;
 mod run;
 
 pub use run::Run;

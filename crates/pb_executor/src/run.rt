@@ -1,15 +1,17 @@
 // The run of a book that was accepted.
-ghost use Rattle.std.specs.Prelude.{◌++◌, ◌<◌, ◌^◌, ◌≡◌, IfErr, IfOk, OnErr, Some, get_or};
-ghost use Rattle.std.specs.Prelude.{length, option_map, slice_get, true, false, ℕ};
+ghost use Rattle.std.specs.Prelude.{◌++◌, ◌<◌, ◌^◌, ◌≡◌, IfErr, IfOk, OnErr, OnOk, Some};
+ghost use Rattle.std.specs.Prelude.{get_or, length, option_map, slice_get, true, false, ℕ};
 ghost use Rattle.pb_core.specs.Words.{recap_view};
 ghost use Rattle.pb_history.specs.Jobs.{is_out_at};
 ghost use Rattle.pb_language.specs.Machine.{empty_recap};
 ghost use Rattle.pb_inventory.specs.Words.{inventory_view};
+ghost use Rattle.pb_run.specs.Follows.{event_view};
 ghost use Rattle.pb_run.specs.Recorded.{recaps_in, stop_events};
 ghost use Rattle.pb_executor.specs.Drives.{GivesRun, TakesRun};
 ghost use Rattle.pb_executor.specs.Sound.{IsSound};
 ghost use Rattle.pb_executor.specs.States.{opened, opening_of, state_of};
-ghost use Rattle.pb_executor.specs.Refusals.{IsRefusedRun};
+ghost use Rattle.pb_executor.specs.Refusals.{IsRefusedRun, TakesSomeRun};
+ghost use Rattle.pb_executor.specs.Replays.{FollowsRun};
 
 use pb_core::Recap;
 use pb_finish::Answer;
@@ -85,12 +87,14 @@ impl<'c> Run<'c> {
     ///
     /// # Errors
     ///
-    /// Want of memory: nothing has happened then, no Turn either.
+    /// Want of memory, where a Turn or a Start is to be recorded: nothing has happened then, no
+    /// Turn either.
     pub fn take(&mut self) -> Result<Taken, AllocError>
         ensures taken { IfOk result (λ t. TakesRun t self.old self.new) }
         ensures idle { IfOk result (λ t. t ≡ Taken.Idle
             → (k : ℕ) × (is_out_at k (state_of self.new) ≡ true)) }
         ensures err { OnErr result (self.new ≡ self.old) }
+        ensures memory { OnErr result (TakesSomeRun self.old) }
         ensures sound { IsSound self.new }
         ensures few { length self.new.history < 2 ^ 63 }
     {
@@ -128,6 +132,13 @@ impl<'c> Run<'c> {
         } }
     {
         self.recorded.stop();
+    }
+
+    // The event happens, where it can; else nothing does.
+    pub(crate) fn follow(&mut self, event: &Event) -> Result<(), AllocError>
+        ensures { OnOk result (FollowsRun (event_view event.now) self.old self.new) }
+    {
+        self.recorded.follow(event)
     }
 
     /// What has happened, in order. The run is the definitions' run of these events, never stuck

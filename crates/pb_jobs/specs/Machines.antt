@@ -5,7 +5,7 @@ use Rattle.std.specs.declared.alloc.AllocError.{AllocError}
 use Rattle.std.specs.declared.alloc.Global.{Global}
 use Rattle.pb_language.specs.Cases.{action_name}
 use Rattle.pb_language.specs.Give.{Answer}
-use Rattle.pb_language.specs.Machine.{give, start, stop}
+use Rattle.pb_language.specs.Machine.{give, start, stop, turn}
 use Rattle.pb_language.specs.Program.{Program, all_batches}
 use Rattle.pb_language.specs.Start as started
 use Rattle.pb_language.specs.Start.{plan_of, planned}
@@ -103,6 +103,11 @@ BeginsAfter n k cs old new = (reading : Reading (Vec Pass Global)) (s : FlatStat
 abbrev pub GoesOnTo : ℕ → Machine → Machine → Type 0
 GoesOnTo n old new = (reading : Reading (Vec Pass Global)) (s : FlatState)
     → IsMachine old reading s → IsMachine new reading (turned n s)
+
+-- it is the state after one Turn that may happen
+abbrev pub TurnsAs : Machine → Machine → Type 0
+TurnsAs old new = (reading : Reading (Vec Pass Global)) (s : FlatState) → IsMachine old reading s
+    → flat.enabled s turn ≡ true → IsMachine new reading (flat.step s turn)
 
 abbrev pub StopsAs : Machine → Machine → Type 0
 StopsAs old new = (reading : Reading (Vec Pass Global)) (s : FlatState) → IsMachine old reading s

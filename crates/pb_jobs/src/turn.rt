@@ -1,18 +1,38 @@
 // How the machine of a run goes on to the next batch, and how it stops.
-ghost use Rattle.std.specs.Prelude.{◌≡◌, IfOk, OnErr, OnOk, Some, length, slice_set};
-ghost use Rattle.pb_core.specs.Words.{TurnsTo, tickets_of};
-ghost use Rattle.pb_jobs.specs.Machines.{BeginsAfter, CountsMore, GoesOnTo, StopsAs};
+ghost use Rattle.std.specs.Prelude.{◌≡◌, IfErr, IfOk, OnErr, OnOk, Some, length, slice_set};
+ghost use Rattle.pb_language.specs.Machine.{turn};
+ghost use Rattle.pb_core.specs.Words.{IsDisabled, TurnsTo, tickets_of};
+ghost use Rattle.pb_jobs.specs.Machines.{BeginsAfter, CountsMore, GoesOnTo, StopsAs, TurnsAs};
 
 use crate::active::ActiveBatch;
 use crate::begin::know;
 use crate::job::Call;
 use crate::machine::Machine;
 use crate::start::Begun;
-use pb_core::Turned;
+use pb_core::{CoreFault, Turned};
 use pb_start::Pass;
 use std::alloc::{AllocError, Global};
 
 impl Machine<'_> {
+    /// One Turn happens: the next batch begins, or the run ends.
+    ///
+    /// # Errors
+    ///
+    /// Want of memory; `NotThere` where the batch isn't over. Nothing has happened then.
+    pub fn turn(&mut self) -> Result<(), CoreFault>
+        ensures turns { OnOk result (TurnsAs self.old self.new) }
+        ensures tickets { OnOk result (tickets_of self.new.core ≡ tickets_of self.old.core) }
+        ensures calls { OnOk result (self.new.calls ≡ self.old.calls) }
+        ensures err { OnErr result (self.new ≡ self.old) }
+        ensures there { IfErr result (λ e. e ≡ CoreFault.NotThere
+            → IsDisabled turn self.old.core) }
+        ensures full { IfErr result (λ e. e ≡ CoreFault.Full → ⊥) }
+    {
+        self.core.turn()?;
+        know(&mut self.batch, None);
+        Ok(())
+    }
+
     /// Those Turns happened.
     pub fn go_on(&mut self, turned: Turned<Vec<Pass>>)
         requires turns { TurnsTo turned.turns self.now.core turned.core }

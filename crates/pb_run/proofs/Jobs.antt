@@ -1,5 +1,6 @@
 -- The jobs that a Start or a Give hands out.
 use Rattle.std.proofs.Common.{◌≡◌, ◌<◌, ℕ, zero, suc, ◌+◌, List, [], ◌∷◌, length, Bool, true, false, not, ◌&&◌, cond, Option, Some, None, option_map, refl, sym, ap, ap₂, ◌∙◌, arith}
+use Rattle.pb_semantics.proofs.Bools.{and-right}
 use Rattle.pb_language.specs.Cases.{action_name}
 use Rattle.pb_language.specs.Drive as drive
 use Rattle.pb_language.specs.Drive.{Starting}
@@ -9,13 +10,13 @@ use Rattle.pb_language.specs.Give.{Answer, Ended, asks_again}
 use Rattle.pb_language.specs.Machine as machine
 use Rattle.pb_language.specs.Machine.{Host, State, give, start, turn}
 use Rattle.pb_language.specs.Start.{Entry, Pass, acts, call_count, calls, is_call, skips}
-use Rattle.pb_machine.specs.Hosts.{FlatHost, works}
-use Rattle.pb_machine.specs.Run.{FlatState, current_steps, enabled, host_at, is_possible, next_start, plan_steps, put_host, step}
+use Rattle.pb_machine.specs.Hosts.{FlatHost, FlatStage, stands, works, at, at_end, left_play}
+use Rattle.pb_machine.specs.Run.{FlatState, can_start, current_steps, enabled, host_at, is_out, is_possible, next_start, of_host, plan_steps, put_host, step}
 use Rattle.pb_machine.specs.Simulation.{hosts_of, state_of}
 use Rattle.pb_machine.specs.Steps.{Step}
 use Rattle.pb_machine.specs.Ways.{host_of, step_at}
 use Rattle.pb_machine.proofs.Machines.{same_next}
-use Rattle.pb_history.specs.Happens.{turned}
+use Rattle.pb_history.specs.Happens.{MayStart, Works, turned}
 use Rattle.pb_history.specs.Jobs.{CallData, entry_calls, host_calls, job_calls, pass_calls}
 use Rattle.pb_history.specs.Turns as tree
 use Rattle.pb_history.specs.Turns.{Next, next_of, start_or, stopped}
@@ -42,6 +43,38 @@ calls_of_job s t b later k n i before h ps batches there same put =
     ∙ ap₂ (λ bs hs. option_map (host_of (current_steps bs)) (host_at k hs)) (same ∙ batches) put
     ∙ ap (option_map (host_of (plan_steps b))) (put_here k h g s.hosts there) in
     ap (host_calls k before) hosts
+
+-- a host that may start stands before a task
+node_of : (s : FlatState) (b : Batch) (g : FlatStage) → can_start s b g ≡ true → (n : ℕ) × (g ≡ stands (at n))
+node_of s b (stands at_end) e = cc
+node_of s b (stands left_play) e = cc
+node_of s b (stands (at n)) e = (n, refl)
+node_of s b (works n i ps) e = cc
+
+pub may_start : (s : FlatState) (k : ℕ) → enabled s (start k) ≡ true → MayStart s k
+may_start s k on = by s.batches refl (and-right (not s.is_stopped) (is_possible s s.batches (start k)) on) where
+  by : (bs : List Batch) → s.batches ≡ bs → is_possible s bs (start k) ≡ true → MayStart s k
+  by [] e f = cc
+  by (b ∷ later) e f = of (host_at k s.hosts) refl f where
+    of : (o : Option FlatHost) → host_at k s.hosts ≡ o → of_host o (λ h. can_start s b h.stage) ≡ true → MayStart s k
+    of None g h = cc
+    of (Some h) g can =
+        let there = node_of s b h.stage can in record {
+          batch = b;
+          later = later;
+          host = h;
+          node = there.0;
+          batches = e;
+          there = g;
+          stage = there.1;
+          enabled = on;
+        }
+
+-- and one whose job is out may be answered
+pub may_give : (s : FlatState) (k : ℕ) (w : Works s k) (xs : List Answer) → enabled s (give k xs) ≡ true
+may_give s k w xs =
+    ap₂ (λ q bs. not q && is_possible s bs (give k xs)) w.going w.batches
+    ∙ ap (λ h. of_host h (λ x. is_out x.stage)) w.there ∙ ap is_out w.stage
 
 -- what there is to do once the Turns that are due have happened
 module _ (s : FlatState) (n : ℕ) where

@@ -5,3 +5,4 @@ pub mod Stories
 pub mod Opened
 pub mod Records
 pub mod Takes
+pub mod Follows

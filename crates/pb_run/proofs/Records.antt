@@ -96,13 +96,20 @@ module _ (old new : RecordedMachine) where
         recorded = rw (same, still) after;
       }
 
+  pub goes_on_at : (n : ℕ) → new.is_stopped ≡ old.is_stopped → new.history.items ≡ es ++ replicate n Turn → (o : Opening) (recorded : IsRecorded o old) → MayTurn n (flat_after o (data_of es))
+      → IsMachine new.machine recorded.reading (turned n (flat_after o (data_of es))) → tickets_of new.machine.core ≡ tickets_of old.machine.core → new.machine.calls ≡ old.machine.calls → IsRecorded o new
+  goes_on_at n still history o recorded on goes tickets calls =
+      let ds = data_of es in
+      let same : data_of new.history.items ≡ ds ++ replicate n turn = ap data_of history ∙ data_join es (replicate n Turn) ∙ ap (λ xs. ds ++ xs) (data_turns n) in
+      rw (same, still) (has_turned o ds old.machine new.machine n old.is_stopped recorded on goes tickets calls)
+
   -- so many Turns happen
   pub goes_on_by : (n : ℕ) → new.is_stopped ≡ old.is_stopped → new.history.items ≡ es ++ replicate n Turn → GoesOnTo n old.machine new.machine
       → tickets_of new.machine.core ≡ tickets_of old.machine.core → new.machine.calls ≡ old.machine.calls → GoesOn n old new
   goes_on_by n still history goes tickets calls = λ o recorded on.
       let ds = data_of es in
       let same : data_of new.history.items ≡ ds ++ replicate n turn = ap data_of history ∙ data_join es (replicate n Turn) ∙ ap (λ xs. ds ++ xs) (data_turns n) in
-      let after = has_turned o ds old.machine new.machine n old.is_stopped recorded on goes tickets calls in
+      let after = has_turned o ds old.machine new.machine n old.is_stopped recorded on (goes recorded.reading (flat_after o ds) recorded.machine) tickets calls in
       record {
         history = history;
         stands = ap (state_after o) same ∙ same_run o.program o.inventory o.forks (ds ++ replicate n turn) ∙ ap state_of (after_turns o ds n);

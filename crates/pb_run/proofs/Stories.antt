@@ -11,22 +11,20 @@ use Rattle.pb_language.specs.Machine.{Event, State, give, start, stop, turn}
 use Rattle.pb_language.specs.Program.{Batch}
 use Rattle.pb_language.specs.Start.{call_count}
 use Rattle.pb_machine.specs.Hosts.{FlatHost, works}
-use Rattle.pb_machine.specs.Run.{FlatState, enabled, happened, host_at, is_out, is_possible, next_start, of_host, put_host, step, plan_steps}
+use Rattle.pb_machine.specs.Run.{FlatState, enabled, happened, host_at, is_possible, put_host, step, plan_steps}
 use Rattle.pb_machine.specs.Simulation.{state_of}
 use Rattle.pb_machine.specs.Ways.{step_at}
 use Rattle.pb_machine.proofs.Machines.{same_run}
 use Rattle.pb_history.specs.Happens.{MayStart, Starts, Works, step_in, task_of_start, turned}
 use Rattle.pb_history.specs.Jobs.{handed_to, is_out_at, job_calls, pass_calls, ticket_out, last_place}
 use Rattle.pb_history.proofs.Histories.{handed_join, last_more}
-use Rattle.pb_history.proofs.Starts.{next_may_start}
 use Rattle.pb_start.specs.declared.passes.Pass.{Pass}
-use Rattle.pb_core.specs.Activities.{number_of}
 use Rattle.pb_core.specs.Cores.{tickets_of}
 use Rattle.pb_core.specs.Readings.{Reading}
 use Rattle.pb_core.proofs.Steps.{steps_again, steps_start}
 use Rattle.pb_core.proofs.Tickets.{hosts_stay}
 use Rattle.pb_jobs.specs.Calls.{call_data}
-use Rattle.pb_jobs.specs.Machines.{BeginsAfter, CountsMore, GivesAs, GoesOnTo, HasBegun, HasCallsAfter, HasGiven, IsMachine, StopsAs, calls_after, ticket_after}
+use Rattle.pb_jobs.specs.Machines.{BeginsAfter, CountsMore, GivesAs, HasBegun, HasCallsAfter, HasGiven, IsMachine, StopsAs, calls_after, ticket_after}
 use Rattle.pb_jobs.specs.declared.job.Call.{Call}
 use Rattle.pb_jobs.specs.declared.machine.Answered.{Answered}
 use Rattle.pb_jobs.specs.declared.machine.Answered.TheVariants as answered
@@ -36,7 +34,7 @@ use Rattle.pb_run.specs.Calls.{and_host, but_host}
 use Rattle.pb_run.specs.Recorded.{Stands}
 use Rattle.pb_run.specs.Starts.{MayTurn}
 use Rattle.pb_run.proofs.Events.{after_behind, after_turns, behind, counted_behind, counted_turned, enabled_behind, enabled_turns, fine_after, handed_more, places_set, places_turned, turned_going}
-use Rattle.pb_run.proofs.Jobs.{calls_many, calls_of_job, put_here}
+use Rattle.pb_run.proofs.Jobs.{calls_many, calls_of_job, may_give, may_start, put_here}
 use Rattle.pb_run.proofs.Outs.{out_is, within_core, works_out}
 
 module _ (o : Opening) (es : List Event) where
@@ -58,11 +56,11 @@ module _ (o : Opening) (es : List Event) where
   out_at m q stands k = ap (is_out_at k) same_after ∙ out_is stands.reading m.core (flat_after o es) stands.machine.kept.core k
 
 -- Turns happened
-pub has_turned : (o : Opening) (es : List Event) (old new : Machine) (n : ℕ) (q : Bool) → Stands o es old q → MayTurn n (flat_after o es)
-    → GoesOnTo n old new → tickets_of new.core ≡ tickets_of old.core → new.calls ≡ old.calls → Stands o (es ++ replicate n turn) new q
+pub has_turned : (o : Opening) (es : List Event) (old new : Machine) (n : ℕ) (q : Bool) (stands : Stands o es old q) → MayTurn n (flat_after o es)
+    → IsMachine new stands.reading (turned n (flat_after o es)) → tickets_of new.core ≡ tickets_of old.core → new.calls ≡ old.calls → Stands o (es ++ replicate n turn) new q
 has_turned o es old new n q stands on goes tickets calls = record {
   reading = stands.reading;
-  machine = subst (IsMachine new stands.reading) (sym (after_turns o es n)) (goes stands.reading (flat_after o es) stands.machine);
+  machine = subst (IsMachine new stands.reading) (sym (after_turns o es n)) goes;
   enabled = enabled_turns o es n stands.enabled on;
   is_stopped = ap (λ (s : FlatState). s.is_stopped) (after_turns o es n) ∙ turned_going n (flat_after o es) ∙ stands.is_stopped;
   tickets = subst (λ ts. ArePlaces ts (es ++ replicate n turn)) (sym tickets) (places_turned (tickets_of old.core) es n stands.tickets);
@@ -71,13 +69,13 @@ has_turned o es old new n q stands on goes tickets calls = record {
 
 -- a host's task began after so many Turns
 module _ (o : Opening) (never : IsNeverStuck o) (es : List Event) (old new : Machine) (n k t : ℕ) (cs : List Call) (stands : Stands o es old false) (on : MayTurn n (flat_after o es))
-    (next : number_of (next_start (turned n (flat_after o es))) ≡ Some k) (begins : BeginsAfter n k cs old new) (tickets : tickets_of new.core ≡ set (tickets_of old.core) k (Some t))
+    (can : enabled (turned n (flat_after o es)) (start k) ≡ true) (begins : BeginsAfter n k cs old new) (tickets : tickets_of new.core ≡ set (tickets_of old.core) k (Some t))
     (counts : CountsMore k (length cs) old new) (place : t ≡ length es + n) where
   abbrev before : FlatState
   before = turned n (flat_after o es)
 
   may : MayStart before k
-  may = next_may_start before k next
+  may = may_start before k can
 
   is : flat_after o (es ++ behind n (start k)) ≡ step before (start k)
   is = after_behind o es n (start k)
@@ -161,11 +159,6 @@ module _ (o : Opening) (never : IsNeverStuck o) (es : List Event) (old new : Mac
   given : HasGiven works_now xs a (get_or old.calls.items k 0) new
   given = gives stands.reading now stands.machine works_now (sym (ap (λ (s : FlatState). s.is_stuck) given_is) ∙ fine_after o never (es ++ behind 0 (give k xs)))
 
-  can_give : enabled now (give k xs) ≡ true
-  can_give =
-      ap₂ (λ q bs. not q && is_possible now bs (give k xs)) works_now.going works_now.batches
-      ∙ ap (λ h. of_host h (λ x. is_out x.stage)) works_now.there ∙ ap is_out works_now.stage
-
   place_after : (p : ℕ) → ticket_after (length es) a ≡ Some p → p ≡ length es + 0
   place_after p e = by a e where
     by : (b : Answered) → ticket_after (length es) b ≡ Some p → p ≡ length es + 0
@@ -176,7 +169,7 @@ module _ (o : Opening) (never : IsNeverStuck o) (es : List Event) (old new : Mac
   has_given = record {
     reading = given.after.reading;
     machine = subst (IsMachine new given.after.reading) (sym given_is) given.after.machine;
-    enabled = enabled_behind o es 0 (give k xs) stands.enabled (λ i l. absurd (omega (arith, l))) can_give;
+    enabled = enabled_behind o es 0 (give k xs) stands.enabled (λ i l. absurd (omega (arith, l))) (may_give now k works_now xs);
     is_stopped = ap (λ (s : FlatState). s.is_stopped) (given_is ∙ given.steps) ∙ stands.is_stopped;
     tickets = subst (λ ts. ArePlaces ts (es ++ behind 0 (give k xs))) (sym tickets)
         (places_set k (give k xs) (λ j. refl) (tickets_of old.core) es 0 (ticket_after (length es) a) stands.tickets place_after);

@@ -9,6 +9,7 @@ use Rattle.pb_machine.specs.Run.{FlatState, enabled, next_start}
 use Rattle.pb_machine.specs.Simulation.{state_of}
 use Rattle.pb_machine.proofs.Machines.{same_enabled, same_next, same_run}
 use Rattle.pb_history.specs.Happens.{turned}
+use Rattle.pb_history.proofs.Starts.{next_may_start}
 use Rattle.pb_history.specs.Turns.{ended, next_of, start_or, turns_due, waits}
 use Rattle.pb_start.specs.declared.passes.Pass.{Pass}
 use Rattle.pb_core.specs.Activities.{number_of}
@@ -98,7 +99,7 @@ module _ (old new : RecordedMachine) (n : ℕ) (core : Core) (going : old.is_sto
   takes_started k j next starts = λ o never recorded.
       let s = flat_after o (data_of old.history.items) in
       let number : number_of (next_start (turned n s)) ≡ Some k = sym (next recorded.reading (turned n s) (there o recorded)) in
-      let st = starts o never recorded (on o recorded) number in
+      let st = starts o never recorded (on o recorded) (next_may_start (turned n s) k number).enabled in
       record {
         taken = record {
           next = sym (ap next_of (same_after o old) ∙ next_starts s n (on o recorded) (off o recorded) k (going_on o recorded) number ∙ rw st.host refl);

@@ -1,6 +1,7 @@
 -- What the calls of a run record, and what they tell.
 use Rattle.std.specs.Prelude.{◌≡◌, ◌+◌, ◌++◌, ◌==◌, ℕ, List, [], ◌∷◌, Vec, Bool, true, false, cond}
-use Rattle.std.specs.Prelude.{not, ◌&&◌, ◌||◌, nat_eq, map, length, replicate, Option, Some, None}
+use Rattle.std.specs.Prelude.{not, ◌&&◌, ◌||◌, nat_eq, nat_lt, map, length, replicate, Option, Some}
+use Rattle.std.specs.Prelude.{None}
 use Rattle.std.specs.declared.alloc.Global.{Global}
 use Rattle.pb_language.specs.Machine as machine
 use Rattle.pb_language.specs.Drive.{next_start}
@@ -105,6 +106,19 @@ pub record IsTakenFrom (o : Opening) (old new : RecordedMachine) (t : Taken) : T
 
 abbrev pub Takes : Taken → RecordedMachine → RecordedMachine → Type 0
 Takes t old new = (o : Opening) → IsNeverStuck o → IsRecorded o old → IsTakenFrom o old new t
+
+-- whether a Turn or a Start is to be recorded
+abbrev pub records_some : Next → ℕ → Bool
+records_some (starts k) n = true
+records_some waits n = nat_lt 0 n
+records_some ended n = nat_lt 0 n
+records_some stopped n = false
+
+-- memory is wanted only where it is
+abbrev pub TakesSome : RecordedMachine → Type 0
+TakesSome m = (o : Opening) → IsRecorded o m
+    → (let s = state_after o (data_of m.history.items) in
+    records_some (next_of s) (turns_due s) ≡ true)
 
 -- nothing has happened
 pub record StaysRecorded (old new : RecordedMachine) : Type 0 where

@@ -2,4 +2,5 @@ pub mod Openings
 pub mod Recorded
 pub mod Calls
 pub mod Starts
+pub mod Follows
 pub mod Words

@@ -1,11 +1,10 @@
 -- How a job is handed out, by the Turns that happen before.
-use Rattle.std.specs.Prelude.{◌≡◌, ◌+◌, ◌++◌, ◌<◌, ℕ, List, [], ◌∷◌, Some, true, length, replicate}
-use Rattle.pb_language.specs.Machine.{turn}
+use Rattle.std.specs.Prelude.{◌≡◌, ◌+◌, ◌++◌, ◌<◌, ℕ, List, [], ◌∷◌, true, length, replicate}
+use Rattle.pb_language.specs.Machine.{start, turn}
 use Rattle.pb_machine.specs.Run as flat
-use Rattle.pb_machine.specs.Run.{FlatState, next_start}
+use Rattle.pb_machine.specs.Run.{FlatState}
 use Rattle.pb_machine.specs.Simulation.{state_of}
 use Rattle.pb_history.specs.Happens.{turned}
-use Rattle.pb_core.specs.Activities.{number_of}
 use Rattle.pb_jobs.specs.declared.job.Job.{Job}
 use Rattle.pb_run.specs.Calls.{AreOut, Continues, HandsOutNone, IsHandedOut, and_host}
 use Rattle.pb_run.specs.Openings.{IsNeverStuck, Opening, flat_after, state_after}
@@ -30,11 +29,11 @@ pub record IsStarted (o : Opening) (n k : ℕ) (old new : RecordedMachine) (j : 
   pub going : Continues o old.history.items new.history.items
   pub recorded : IsRecorded o new
 
--- the host of that number starts after so many Turns
+-- the host of that number starts after so many Turns, where it may
 abbrev pub StartsJob : ℕ → ℕ → Job → RecordedMachine → RecordedMachine → Type 0
 StartsJob n k j old new = (o : Opening) → IsNeverStuck o → IsRecorded o old
     → (let s = flat_after o (data_of old.history.items) in MayTurn n s
-    → number_of (next_start (turned n s)) ≡ Some k → IsStarted o n k old new j)
+    → flat.enabled (turned n s) (start k) ≡ true → IsStarted o n k old new j)
 
 -- so many Turns happen
 pub record HasTurned (o : Opening) (n : ℕ) (old new : RecordedMachine) : Type 0 where

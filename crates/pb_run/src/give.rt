@@ -41,7 +41,7 @@ impl RecordedMachine<'_> {
 
     // Records the answers to the host's job of that ticket, which is out; they come back for want
     // of memory.
-    fn record(
+    pub(crate) fn record(
         &mut self,
         host: usize,
         out: usize,

@@ -8,6 +8,7 @@
 #![tactic(auto)]
 
 pub mod event;
+mod follow;
 mod give;
 mod look;
 mod open;

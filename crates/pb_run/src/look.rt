@@ -34,18 +34,28 @@ impl RecordedMachine<'_> {
         self.machine.core.hosts().len()
     }
 
+    // The ticket of the host's job that is out.
+    pub(crate) fn ticket_of(&self, host: usize) -> Option<usize>
+        ensures { result ≡ get_or (tickets_of self.now.machine.core) host None }
+    {
+        let hosts = self.machine.core.hosts();
+        if host >= hosts.len() {
+            return None;
+        }
+        match hosts[host].stage {
+            Stage::Waits => None,
+            Stage::Runs { ticket, .. } => Some(ticket),
+        }
+    }
+
     // Whether the host's job of that ticket is out.
     pub(crate) fn is_out(&self, host: usize, ticket: usize) -> bool
         ensures { result
             ≡ is_ticket ticket (get_or (tickets_of self.now.machine.core) host None) }
     {
-        let hosts = self.machine.core.hosts();
-        if host >= hosts.len() {
-            return false;
-        }
-        match &hosts[host].stage {
-            Stage::Waits => false,
-            Stage::Runs { ticket: out, .. } => *out == ticket,
+        match self.ticket_of(host) {
+            Some(out) => out == ticket,
+            None => false,
         }
     }
 }

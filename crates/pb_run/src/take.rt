@@ -2,7 +2,7 @@
 ghost use Rattle.std.specs.Prelude.{◌+◌, ◌++◌, ◌≡◌, ◌≤◌, IfOk, OnErr, OnOk, cond, false, length};
 ghost use Rattle.std.specs.Prelude.{replicate, vec_capacity};
 ghost use Rattle.pb_core.specs.Words.{TurnsTo, tickets_of};
-ghost use Rattle.pb_run.specs.Calls.{StaysRecorded, Takes};
+ghost use Rattle.pb_run.specs.Calls.{StaysRecorded, Takes, TakesSome};
 ghost use Rattle.pb_run.specs.Starts.{GoesOn, StartsJob};
 
 use crate::event::{Event, Taken};
@@ -18,10 +18,12 @@ impl RecordedMachine<'_> {
     ///
     /// # Errors
     ///
-    /// Want of memory: nothing has happened then, no Turn either.
+    /// Want of memory, where a Turn or a Start is to be recorded: nothing has happened then, no
+    /// Turn either.
     pub fn take(&mut self) -> Result<Taken, AllocError>
         ensures takes { IfOk result (λ t. Takes t self.old self.new) }
         ensures err { OnErr result (StaysRecorded self.old self.new) }
+        ensures memory { OnErr result (TakesSome self.old) }
     {
         if self.is_stopped {
             return Ok(Taken::Stopped);
@@ -61,7 +63,7 @@ impl RecordedMachine<'_> {
     }
 
     // The host's task begins.
-    fn begin(&mut self, host: usize) -> Result<Job, AllocError>
+    pub(crate) fn begin(&mut self, host: usize) -> Result<Job, AllocError>
         requires { self.old.is_stopped ≡ false }
         ensures starts { IfOk result (λ j. StartsJob 0 host j self.old self.new) }
         ensures err { OnErr result (StaysRecorded self.old self.new) }

@@ -148,6 +148,7 @@ fn two_hosts_go_on_together(rt: HostRuntime) -> Result<(), Fail> {
     let mut core = open(alloc, 5)?;
     assert!(rt; host_at(&core, 0)?.position.location() == Location::Node(1));
     assert!(rt; core.ready() == Some(0));
+    assert!(rt; core.can_start(1));
     done(core.begin(0, 7, 0, 1))?;
     assert!(rt; core.ready() == Some(1));
     done(core.begin(1, 8, 1, 1))?;
@@ -156,6 +157,7 @@ fn two_hosts_go_on_together(rt: HostRuntime) -> Result<(), Fail> {
     assert!(rt; host_at(&core, 0)?.position.location() == Location::Node(2));
     // under `linear` it waits for the other
     assert!(rt; core.ready().is_none());
+    assert!(rt; !core.can_start(0));
     done(core.settle(1, outcome(alloc, false, false)))?;
     assert!(rt; core.ready() == Some(0));
     let first = host_at(&core, 0)?;

@@ -2,6 +2,7 @@
 use pb_book::Book;
 use pb_executor::Run;
 use pb_executor::drive::drive;
+use pb_executor::replay::replay;
 use pb_finish::Answer;
 use pb_inventory::Inventory;
 use pb_jobs::Job;
@@ -148,6 +149,43 @@ fn driven(alloc: Global, checked: &Checked) -> Result<(bool, (usize, u64, u64)),
 fn drive_runs_to_the_end(rt: HostRuntime) -> Result<(), Fail> {
     let checked = accepted(rt.alloc(), ONE_PING).ok_or("refused")?;
     let found = driven(rt.alloc(), &checked)?;
+    assert_eq!(rt; found, (true, (3, 1, 0)));
+    Ok(())
+}
+
+// A task's events, one that can't happen behind each of them.
+fn events_of_ping(alloc: Global) -> Result<Vec<Event>, Fail> {
+    let first = answer_of(alloc, PONG)?;
+    let again = answer_of(alloc, PONG)?;
+    let events = vec![in alloc;
+        Event::Start(0),
+        Event::Turn,
+        Event::Give(0, first),
+        Event::Give(0, again),
+        Event::Turn,
+        Event::Stop,
+    ]?;
+    Ok(events)
+}
+
+fn replayed(
+    alloc: Global,
+    checked: &Checked,
+    events: &[Event],
+) -> Result<(bool, (usize, u64, u64)), Fail> {
+    let run = replay(alloc, checked, 1, events)?;
+    let is_kept = matches!(
+        run.history(),
+        [Event::Start(0), Event::Give(0, _), Event::Turn]
+    );
+    Ok((is_kept, told(&run)))
+}
+
+#[test]
+fn a_run_is_made_anew_of_what_can_happen(rt: HostRuntime) -> Result<(), Fail> {
+    let checked = accepted(rt.alloc(), ONE_PING).ok_or("refused")?;
+    let events = events_of_ping(rt.alloc())?;
+    let found = replayed(rt.alloc(), &checked, &events)?;
     assert_eq!(rt; found, (true, (3, 1, 0)));
     Ok(())
 }

@@ -20,7 +20,7 @@ use Rattle.pb_finish.specs.Answers.{answer_data}
 use Rattle.pb_finish.specs.declared.answer.Answer.{Answer}
 use Rattle.pb_core.specs.Activities.{number_of}
 use Rattle.pb_core.specs.Cores.{tickets_of}
-use Rattle.pb_core.specs.Events.{CanStart, CanTurn, IsDisabled, IsNext}
+use Rattle.pb_core.specs.Events.{CanStart, CanTurn, IsNext}
 use Rattle.pb_jobs.specs.Machines.{TurnsAs}
 use Rattle.pb_jobs.specs.declared.job.Job.{Job}
 use Rattle.pb_run.specs.Calls.{Gives, StaysRecorded, TakesSome, records_some}
@@ -116,10 +116,6 @@ follows_give old new k t xs v g is going out gives = λ o never recorded.
 pub follows_no_turn : (m : RecordedMachine) (q : Bool) → CanTurn m.machine.core q → q ≡ false → Follows (turn, []) m m
 follows_no_turn m q can off = λ o never recorded.
     follows_off m m (turn, []) o recorded (sym (can recorded.reading (flat_now o m) recorded.machine.kept.core) ∙ off) (stays_same m)
-
-pub follows_disabled : (old new : RecordedMachine) → IsDisabled turn old.machine.core → StaysRecorded old new → Follows (turn, []) old new
-follows_disabled old new off stays = λ o never recorded.
-    follows_off old new (turn, []) o recorded (off recorded.reading (flat_now o old) recorded.machine.kept.core) stays
 
 one_turn : (s : FlatState) → enabled s turn ≡ true → MayTurn 1 s
 one_turn s on zero l = on

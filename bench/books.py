@@ -5,7 +5,7 @@ import tempfile
 
 sys.dont_write_bytecode = True
 
-from run import LOAD, PROGRAM, TIMED_LOAD, against_json_load, at_most, in_rounds, ms, write
+from measure import LOAD, TIMED_LOAD, against_json_load, at_most, in_rounds, ms, program_of, write
 
 # Blocks of a rescue and an always part, so that 64 handlers and 503 blocks of 8 lines make 4,089 lines of at most 4,096.
 LARGE, SMALL = 503, 251
@@ -66,9 +66,7 @@ def commands(program, folder):
 
 
 def main():
-    program = os.path.abspath(sys.argv[1] if len(sys.argv) > 1 else PROGRAM)
-    if not os.access(program, os.X_OK):
-        sys.exit(f"{program} isn't there; ./playcheck --help builds it")
+    program = program_of(sys.argv[1:])
     with tempfile.TemporaryDirectory() as folder:
         found = in_rounds(commands(program, folder))
     against_json_load(found, "a whole book", 4)

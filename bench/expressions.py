@@ -9,7 +9,8 @@ from statistics import median
 
 sys.dont_write_bytecode = True
 
-from run import TIMED_LOAD, at_most, in_rounds, ms, task
+from measure import TIMED_LOAD, at_most, in_rounds, ms
+from steps import task
 
 TOP = Path(__file__).resolve().parent.parent
 PROGRAM = TOP / "crates/pb_probe/out/pb_probe"

@@ -5,7 +5,7 @@ import tempfile
 
 sys.dont_write_bytecode = True
 
-from run import LOAD, PROGRAM, TIMED_LOAD, against_json_load, at_most, in_rounds, ms, write
+from measure import LOAD, TIMED_LOAD, against_json_load, at_most, in_rounds, ms, program_of, write
 
 LARGE, SMALL = 1024, 256  # hosts, of which 1,024 are the most that an inventory may have
 VARIABLES = 40  # of each host
@@ -42,9 +42,7 @@ def commands(program, folder):
 
 
 def main():
-    program = os.path.abspath(sys.argv[1] if len(sys.argv) > 1 else PROGRAM)
-    if not os.access(program, os.X_OK):
-        sys.exit(f"{program} isn't there; ./playcheck --help builds it")
+    program = program_of(sys.argv[1:])
     with tempfile.TemporaryDirectory() as folder:
         found = in_rounds(commands(program, folder))
     against_json_load(found, f"an inventory of {LARGE:,} hosts")

@@ -7,7 +7,8 @@ import tempfile
 
 sys.dont_write_bytecode = True
 
-from run import LARGE, PROGRAM, TOP, at_most, in_rounds, ms, task, write
+from measure import PROGRAM, TOP, at_most, in_rounds, ms, write
+from steps import LARGE, task
 from verdicts import book, calls, inventory, most_tasks
 
 PROBE = TOP / "crates/pb_probe/out/pb_probe"

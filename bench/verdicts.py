@@ -5,7 +5,7 @@ import tempfile
 
 sys.dont_write_bytecode = True
 
-from run import PROGRAM, at_most, in_rounds, line, ms, write
+from measure import at_most, in_rounds, line, ms, program_of, write
 
 TASKS = 500
 HANDLERS = 20
@@ -158,9 +158,7 @@ def print_large(found):
 
 
 def main():
-    program = os.path.abspath(sys.argv[1] if len(sys.argv) > 1 else PROGRAM)
-    if not os.access(program, os.X_OK):
-        sys.exit(f"{program} isn't there; ./playcheck --help builds it")
+    program = program_of(sys.argv[1:])
     with tempfile.TemporaryDirectory() as folder:
         print_quick(in_rounds(quick(program, folder)))
         print_large(in_rounds(large(program, folder), FEW_ROUNDS))

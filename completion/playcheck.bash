@@ -55,7 +55,7 @@ _playcheck() {
 
 _playcheck_ansible() {
     local word before command
-    local inputs="-i --inventory -s --signatures -e --extra-vars -t --tags --skip-tags --trust-facts --no-lookup --vars -h --help"
+    local inputs="-i --inventory -s --signatures -e --extra-vars -t --tags --skip-tags --trust-facts --trust-returns --no-lookup --vars -h --help"
     _playcheck_place
     if [ "$COMP_CWORD" = 1 ]; then
         _playcheck_words "check convert signatures explain -h --help" "$word"

@@ -6,11 +6,12 @@ import sys
 import tempfile
 from pathlib import Path
 
-from ansible_formats import wrong_gitlab, wrong_junit, wrong_sarif, wrong_strict
-from ansible_lookups import wrong_lookups, wrong_time_limit
+from ansible_formats import wrong_colours, wrong_gitlab, wrong_junit, wrong_sarif, wrong_strict
+from ansible_lookups import wrong_long_names, wrong_lookups, wrong_time_limit
 from ansible_pipelines import lost_words, wrong_action, wrong_completion, wrong_gitlab_job
 from ansible_rewritings import wrong_rewritings
 from ansible_tools import SECONDS, TOOL, TOP, run_tool
+from ansible_words import wrong_words
 from check import Check, outcome_of
 
 CASES = TOP / "tests" / "ansible"
@@ -179,7 +180,7 @@ def lost_titles():
     sys.dont_write_bytecode = True
     from playcheck_ansible.codes import OWN_PAGE, OWN_TITLES, PAGE, TITLES
 
-    text = PAGE.read_text(encoding="utf-8") + OWN_PAGE.read_text(encoding="utf-8")
+    text = "".join(Path(page).read_text(encoding="utf-8") for page in (PAGE, OWN_PAGE))
     page = dict(re.findall(r"^### ([A-Z]\d\d|A-[a-z]+): (.*)$", text, re.M))
     titles = {**TITLES, **OWN_TITLES}
     return [f"{code}: {page.get(code)!r} on the page, {titles.get(code)!r} in codes.py"
@@ -200,9 +201,17 @@ def lost_passes():
     return [f"docs/FROM_ANSIBLE.md doesn't name {one.__name__}" for one in passes if f"`{one.__name__}`" not in page]
 
 
-SEARCHES = (lost_titles, lost_passes, lost_hook, wrong_long_texts, wrong_many_forms, wrong_conversion, wrong_warnings,
-            wrong_signatures, wrong_gitlab, wrong_junit, wrong_strict, wrong_sarif, wrong_lookups, wrong_time_limit,
-            wrong_rewritings, wrong_completion, lost_words, wrong_action, wrong_gitlab_job)
+def lost_files():
+    """Each file of the package stands in the table of ansible/README.md."""
+    page = (TOP / "ansible" / "README.md").read_text(encoding="utf-8")
+    files = (path.name for path in sorted((TOP / "ansible").glob("*/[a-z]*.py")))
+    return [f"ansible/README.md doesn't name {name}" for name in files if f"`{name}`" not in page]
+
+
+SEARCHES = (lost_titles, lost_files, lost_passes, lost_hook, wrong_long_texts, wrong_many_forms, wrong_conversion,
+            wrong_warnings, wrong_signatures, wrong_gitlab, wrong_junit, wrong_strict, wrong_sarif, wrong_colours,
+            wrong_lookups, wrong_long_names, wrong_time_limit, wrong_rewritings, wrong_words, wrong_completion,
+            lost_words, wrong_action, wrong_gitlab_job)
 
 
 def main():

@@ -1,10 +1,13 @@
 # Tries the formats for pipelines that playcheck-ansible prints, against what their publishers want of each file.
 import json
+import os
+import re
+import subprocess
 import tempfile
 import xml.etree.ElementTree as xml
 from pathlib import Path
 
-from ansible_tools import run_tool
+from ansible_tools import SECONDS, TOOL, run_tool
 
 HOSTS = '{"all": {"hosts": ["h1", "h2"]}}'
 PLAY = "- hosts: all\n  gather_facts: false\n  tasks:\n"
@@ -20,7 +23,8 @@ BAD = PLAY + '''    - name: "a \\x01\\x1b[31m <b> & \\"c\\" ]]> \\ufffe"
 NAME = 'a \ufffd\ufffd[31m <b> & "c" ]]> \ufffd'
 TITLE = "a variable that is perhaps undefined"
 DETAIL = "'prot' is set nowhere: not in this book, not in the inventory"
-UNKNOWN = "not judged: task '<unknown>': the module `apt` is neither built in nor declared"
+UNKNOWN = ("not judged: task '<unknown>': the module `apt` is neither built in nor declared: "
+           "ansible-doc isn't installed")
 # https://docs.gitlab.com/ci/testing/code_quality/#code-quality-report-format
 SEVERITIES = ("info", "minor", "major", "critical", "blocker")
 
@@ -97,14 +101,83 @@ def wrong_strict():
         yield f"strict: {status}, {cases}, {severities}"
 
 
+def wrong_colours():
+    """The code is red on a terminal, unless NO_COLOR is set, and where it is asked for."""
+    cases = [("auto", True, {}, True), ("auto", True, {"NO_COLOR": "1"}, False), ("auto", False, {}, False),
+             ("always", False, {"NO_COLOR": "1"}, True), ("never", True, {}, False)]
+    for choice, is_terminal, given, wanted in cases:
+        said = printed_on(is_terminal, ["check", "--color", choice, "bad.yml", "-i", "hosts.json"], given)
+        if (": \x1b[1m\x1b[31mV01\x1b[0m task" in said, ": V01 task" in said) != (wanted, not wanted):
+            yield f"colours: --color {choice}, a terminal {is_terminal}, {given}: {said!r}"
+
+
+def printed_on(is_terminal, words, given):
+    """What is printed on a terminal, or into a pipe."""
+    reader, writer = os.openpty() if is_terminal else os.pipe()
+    with tempfile.TemporaryDirectory() as folder:
+        Path(folder, "bad.yml").write_text(PLAY + '    - debug: {msg: "{{ gone }}"}\n', encoding="utf-8")
+        Path(folder, "hosts.json").write_text(HOSTS, encoding="utf-8")
+        others = {name: text for name, text in os.environ.items() if name != "NO_COLOR"}
+        subprocess.run([TOOL, *words], cwd=folder, stdout=writer, stdin=subprocess.DEVNULL, check=False,
+                       timeout=SECONDS, env={**others, **given})
+    said = os.read(reader, 4096).decode()
+    os.close(reader)
+    os.close(writer)
+    return said
+
+
+# https://docs.oasis-open.org/sarif/sarif/v2.1.0/errata01/os/schemas/sarif-schema-2.1.0.json: of each object that is
+# printed the members that it has to have, and all that are printed of those that it may have.
+SARIF = {
+    "log": ({"version", "runs"}, {"$schema"}),
+    "run": ({"tool"}, {"results"}),
+    "tool": ({"driver"}, set()),
+    "driver": ({"name"}, {"rules"}),
+    "rule": ({"id"}, {"shortDescription"}),
+    "result": ({"message"}, {"ruleId", "level", "locations"}),
+    "message": ({"text"}, set()),
+    "location": (set(), {"physicalLocation"}),
+    "physicalLocation": ({"artifactLocation"}, {"region"}),
+    "artifactLocation": (set(), {"uri"}),
+    "region": (set(), {"startLine", "startColumn"}),
+}
+LEVELS = ("none", "note", "warning", "error")
+# https://www.rfc-editor.org/rfc/rfc3986#section-2: a reference has these letters alone.
+REFERENCE = re.compile(r"(?:[A-Za-z0-9._~:/?#@!$&'()*+,;=\[\]-]|%[0-9A-F]{2})+")
+
+
+def wrong_members(kind, found):
+    """An object of SARIF that lacks a member, or has one that the schema doesn't know."""
+    wanted, allowed = SARIF[kind]
+    if not wanted <= set(found) <= wanted | allowed:
+        yield f"sarif: a {kind} has the members {sorted(found)}"
+
+
 def wrong_sarif():
-    """The members that SARIF 2.1.0 requires: `version`, `runs`, of each a `tool` with a named `driver`."""
-    log = json.loads(printed("sarif", "--all")[0])
-    run = log["runs"][0]
-    rules = {rule["id"] for rule in run["tool"]["driver"]["rules"]}
-    if log["version"] != "2.1.0" or run["tool"]["driver"]["name"] != "playcheck" or len(run["results"]) != 3:
+    """The members of SARIF 2.1.0, and what its schema says of their values."""
+    log = json.loads(printed("sarif", "--all", files={"a b#é.yml": BAD, "good.yml": GOOD})[0])
+    run, = log["runs"]
+    driver = run["tool"]["driver"]
+    for kind, found in [("log", log), ("run", run), ("tool", run["tool"]), ("driver", driver),
+                        *(("rule", rule) for rule in driver["rules"])]:
+        yield from wrong_members(kind, found)
+    if log["version"] != "2.1.0" or driver["name"] != "playcheck" or len(run["results"]) != 3:
         yield f"sarif: {log}"
+    rules = [rule["id"] for rule in driver["rules"]]
+    if len(set(rules)) != len(rules):
+        yield f"sarif: a rule stands twice in {rules}"
     for result in run["results"]:
-        region = result["locations"][0]["physicalLocation"]["region"]
-        if not result["message"]["text"] or result["ruleId"] not in rules or region["startLine"] < 1:
-            yield f"sarif: {result}"
+        yield from wrong_result(result, rules)
+
+
+def wrong_result(result, rules):
+    location, = result["locations"]
+    physical = location["physicalLocation"]
+    artifact, region = physical["artifactLocation"], physical["region"]
+    for kind, found in [("result", result), ("message", result["message"]), ("location", location),
+                        ("physicalLocation", physical), ("artifactLocation", artifact), ("region", region)]:
+        yield from wrong_members(kind, found)
+    if not result["message"]["text"] or result["ruleId"] not in rules or result["level"] not in LEVELS:
+        yield f"sarif: {result}"
+    if artifact["uri"] != "a%20b%23%C3%A9.yml" or not REFERENCE.fullmatch(artifact["uri"]) or min(region.values()) < 1:
+        yield f"sarif: {physical}"

@@ -1,4 +1,5 @@
 # Tries how playcheck-ansible looks modules up: by one call with a limit of time, and not where that is not wanted.
+import json
 import sys
 import tempfile
 import time
@@ -34,8 +35,11 @@ NEITHER = "is neither built in nor declared"
 UNKNOWN = f"one.yml:5:7: not judged: the module `other.sort.thing` {NEITHER}: ansible-doc doesn't know it"
 CHOICE = ("one.yml:4:22: A-choice task: a value that is none of the parameter's choices: 'presnet' is no choice of "
           "`state` of probe. Did you mean 'present'? Choices: absent present")
-NOT_LOOKED_UP = ["one.yml:4:7: not judged: the module `probe` " + NEITHER,
-                 "one.yml:5:7: not judged: the module `other.sort.thing` " + NEITHER]
+
+
+def not_looked_up(reason):
+    return [f"one.yml:4:7: not judged: the module `probe` {NEITHER}: {reason}",
+            f"one.yml:5:7: not judged: the module `other.sort.thing` {NEITHER}: {reason}"]
 
 
 def looked_up(program, *words):
@@ -58,11 +62,11 @@ def wrong_lookups():
         ("one call", KNOWS_ONE, [], [CHOICE, UNKNOWN], [BROKEN], ["-t module --json other.sort.thing probe"]),
         ("one without documentation", FAILS_ON_ONE, [], [CHOICE, UNKNOWN], [BROKEN],
          ["-t module --json other.sort.thing probe", "-t module --json probe"]),
-        ("--no-lookup", KNOWS_ONE, ["--no-lookup"], NOT_LOOKED_UP, [BROKEN], []),
-        ("no ansible-core", "", [], NOT_LOOKED_UP, [BROKEN], []),
-        ("a failure", FAILS, [], NOT_LOOKED_UP,
+        ("--no-lookup", KNOWS_ONE, ["--no-lookup"], not_looked_up("`--no-lookup` is given"), [BROKEN], []),
+        ("no ansible-core", "", [], not_looked_up("ansible-doc isn't installed"), [BROKEN], []),
+        ("a failure", FAILS, [], not_looked_up("ansible-doc failed"),
          ["playcheck-ansible: modules aren't looked up: ansible-doc ended with status 5: no such luck", BROKEN], []),
-        ("no JSON", NO_JSON, [], NOT_LOOKED_UP,
+        ("no JSON", NO_JSON, [], not_looked_up("ansible-doc failed"),
          ["playcheck-ansible: modules aren't looked up: ansible-doc printed no JSON: ", BROKEN], []),
     ]
     for name, program, words, said, told, calls in cases:
@@ -71,6 +75,25 @@ def wrong_lookups():
         are_told = len(told) == len(found[1]) and all(line.startswith(one) for line, one in zip(found[1], told))
         if lost or not are_told or found[2] != calls:
             yield f"{name}: lost {lost}, told {found[1]}, calls {found[2]}, printed {found[0]}"
+
+
+def wrong_long_names():
+    """Modules with longer names than the format has are judged all the same, each by its own documentation."""
+    names = [f"some.sort.{'long_' * 12}{end}" for end in ("one", "two")]
+    options = {"state": {"choices": ["absent", "present"]}}
+    documents = {names[0]: {"doc": {"options": options}}, names[1]: {"doc": {"options": {"level": {"type": "int"}}}}}
+    book = "- hosts: all\n  gather_facts: false\n  tasks:\n"
+    with tempfile.TemporaryDirectory() as folder:
+        Path(folder, "bin").mkdir()
+        Path(folder, "bin", "ansible-doc").write_text(f"#!/bin/sh\ncat <<'END'\n{json.dumps(documents)}\nEND\n")
+        Path(folder, "bin", "ansible-doc").chmod(0o755)
+        Path(folder, "hosts.json").write_text(BOOKS["hosts.json"])
+        tasks = f"    - {names[0]}: {{state: present}}\n    - {names[1]}: {{lvl: 1}}\n"
+        Path(folder, "book.yml").write_text(book + tasks)
+        done = run_tool(["check", "book.yml", "-i", "hosts.json"], folder, Path(folder, "bin"))
+    told = f"{names[1]} has no parameter 'lvl'. Known: level"
+    if f"V07 task: an unknown or missing parameter: {told}" not in done.stdout or "2 of 2 tasks" not in done.stdout:
+        yield f"long names: {done}"
 
 
 def wrong_time_limit():

@@ -17,7 +17,7 @@ GOOD = "- hosts: all\n  gather_facts: false\n  tasks:\n    - ping:\n"
 FILES = {"good book.yml": GOOD, "bad.yml": BAD, "hosts.yml": "all: {hosts: {h1: }}\n", "folder/more.yml": GOOD}
 DETAIL = "a variable that is perhaps undefined: 'gone' is set nowhere: not in this book, not in the inventory"
 INPUTS = ["-i", "--inventory", "-s", "--signatures", "-e", "--extra-vars", "-t", "--tags", "--skip-tags",
-          "--trust-facts", "--no-lookup", "--vars", "-h", "--help"]
+          "--trust-facts", "--trust-returns", "--no-lookup", "--vars", "-h", "--help"]
 # What stands on the command line up to the word that is completed, and what completes it.
 COMPLETED = [
     ("playcheck ", ["check", "run", "help", "--help", "--version"]),

@@ -94,6 +94,19 @@ RENAMED = [
     ("'one' ~ one ~ \"one\" ~ ones ~ someone", "'one' ~ item ~ \"one\" ~ ones ~ someone"),
     ("x[one] and one", "x[item] and item"),
 ]
+# Texts as ansible-core's `parse_kv` takes them apart; None where it refuses them, or leaves a word that is no pair.
+ARGUMENTS = [
+    ("src=a dest=/b", {"src": "a", "dest": "/b"}),
+    ("src=a\n  dest=b  ", {"src": "a", "dest": "b"}),
+    ("src=a\tdest=b mode=c\t", {"src": "a\tdest=b", "mode": "c"}),
+    ("src=\"a  b\" dest='c d'", {"src": "a  b", "dest": "c d"}),
+    ("src={{ a | default('x y') }} dest={{ b }}{{ c }}", {"src": "{{ a | default('x y') }}", "dest": "{{ b }}{{ c }}"}),
+    ("src=a \\\n dest=b", {"src": "a", "dest": "b"}),
+    (r'src="a \"b\" c" dest=d\x21\n', {"src": 'a "b" c', "dest": "d!"}),
+    ("src==a url=http://x/?a=b", {"src": "=a", "url": "http://x/?a=b"}),
+    ("src='a", None), ("src={{ a", None), ("src={{ it's }}", None), ("src=a b", None), ("src", None), ("=a", None),
+    (r"src=\ud800", None), (r"src=\N{no such letter}", None), ("", None),
+]
 
 
 class Values:
@@ -108,6 +121,7 @@ def wrong_rewritings():
     from playcheck_ansible.loops import renaming
     from playcheck_ansible.parts import TRUE_TEXTS
     from playcheck_ansible.stand_ins import stand_ins
+    from playcheck_ansible.values import arguments_of
 
     rename = renaming("one")
     cases = [(plain_truths, *case) for case in TRUTHS] + [(plain_truths, text, text) for text in KEPT_TRUTHS]
@@ -123,6 +137,9 @@ def wrong_rewritings():
     if sorted(TRUE_TEXTS[2:-2].split("', '")) != sorted({way for word in ("yes", "on", "1", "true")
                                                          for way in map("".join, product(*zip(word, word.upper())))}):
         yield f"stand_ins: the texts that are true: {TRUE_TEXTS}"
+    for text, wanted in ARGUMENTS:
+        if arguments_of(text) != wanted:
+            yield f"name_value_texts: {text!r}: wanted {wanted}, found {arguments_of(text)}"
     for text, wanted in RENAMED:
         if rename(text) != wanted:
             yield f"loop_variables: {text}: wanted {wanted}, found {rename(text)}"

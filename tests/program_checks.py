@@ -554,33 +554,28 @@ def python_reads(content):
 
 def examples(folder):
     first, settings, signed, faulty = (folder / name for name in ["first", "settings", "signed", "faulty"])
-    recap = "web1 : ok=7 changed=3 unreachable=0 failed=0 skipped=0 rescued=0 ignored=0\n"
-    settings_recap = "web1 : ok=6 changed=4 unreachable=0 failed=0 skipped=1 rescued=0 ignored=0\n"
+    signatures = ["-s", str(signed / "signatures.json")]
     return [
         Check("example-first", words_of("check", first), exactly("accepted budget 4\n", 0)),
-        Check(
-            "example-first-run",
-            [*words_of("run", first), "--answers", str(first / "answers.json")],
-            exactly(recap, 0),
-        ),
         Check("example-settings", words_of("check", settings), exactly("accepted budget 6\n", 0)),
-        Check(
-            "example-settings-run",
-            [*words_of("run", settings), "--answers", str(settings / "answers.json")],
-            exactly(settings_recap, 0),
-        ),
-        Check("example-signed", [*words_of("check", signed), "-s", str(signed / "signatures.json")], exactly("accepted budget 2\n", 0)),
-        Check(
-            "example-signed-run",
-            [*words_of("run", signed), "-s", str(signed / "signatures.json"), "--answers", str(signed / "answers.json")],
-            exactly("web1 : ok=2 changed=1 unreachable=0 failed=0 skipped=0 rescued=0 ignored=0\n", 0),
-        ),
+        Check("example-signed", [*words_of("check", signed), *signatures], exactly("accepted budget 2\n", 0)),
         Check("example-faulty", words_of("check", faulty), exactly("refused V03 line 5 host web1\n", 1)),
+        *runs(first, FIRST_RECAP),
+        *runs(settings, SETTINGS_RECAP),
+        *runs(signed, SIGNED_RECAP, signatures),
+        *runs(folder / "site", SITE_RECAP),
+        *runs(folder / "site", BAD_DAY_RECAP, answers="answers_of_a_bad_day.json", status=2),
         *site(folder / "site"),
-        *site_runs(folder / "site"),
         *compared(folder / "compared"),
     ]
 
+
+# What the tasks of each come to by hand: all, the third, fifth and sixth changed;
+FIRST_RECAP = "web1 : ok=7 changed=3 unreachable=0 failed=0 skipped=0 rescued=0 ignored=0\n"
+# all but the page, which isn't there, and the folder, the settings, the service and the count changed;
+SETTINGS_RECAP = "web1 : ok=6 changed=4 unreachable=0 failed=0 skipped=1 rescued=0 ignored=0\n"
+# the probe, and the start, which changed something.
+SIGNED_RECAP = "web1 : ok=2 changed=1 unreachable=0 failed=0 skipped=0 rescued=0 ignored=0\n"
 
 # What each host's tasks come to where the machines of the site answer as in its answers.json, as its README counts them.
 SITE_RECAP = """\
@@ -592,12 +587,22 @@ web2 : ok=36 changed=17 unreachable=0 failed=0 skipped=9 rescued=0 ignored=0
 web3 : ok=23 changed=4 unreachable=0 failed=0 skipped=21 rescued=0 ignored=1
 """
 
+# The same where the standby isn't reached and one web server fails, which ends the run.
+BAD_DAY_RECAP = """\
+lb1 : ok=0 changed=0 unreachable=0 failed=0 skipped=0 rescued=0 ignored=0
+db1 : ok=23 changed=9 unreachable=0 failed=0 skipped=3 rescued=0 ignored=0
+db2 : ok=1 changed=0 unreachable=1 failed=0 skipped=0 rescued=0 ignored=0
+web1 : ok=26 changed=14 unreachable=0 failed=1 skipped=0 rescued=1 ignored=0
+web2 : ok=0 changed=0 unreachable=0 failed=0 skipped=0 rescued=0 ignored=0
+web3 : ok=0 changed=0 unreachable=0 failed=0 skipped=0 rescued=0 ignored=0
+"""
 
-def site_runs(folder):
-    """The run of the whole site, which comes to the same with whatever number of workers."""
-    words = [*words_of("run", folder), "--answers", str(folder / "answers.json")]
+
+def runs(folder, recap, words=(), answers="answers.json", status=0):
+    """The runs of an example, which come to the same with whatever number of workers."""
+    words = [*words_of("run", folder), *words, "--answers", str(folder / answers)]
     return [
-        Check(f"example-site-run-{forks}", [*words, "-f", str(forks)], quietly(SITE_RECAP, 0))
+        Check(f"example-{folder.name}-run-{answers}-{forks}", [*words, "-f", str(forks)], quietly(recap, status))
         for forks in [1, 5, 256]
     ]
 

@@ -1,5 +1,5 @@
-# Runs the cases of tests/cases, the refusals of refusals.jsonl, the worked rows of tests/semantics, and the checks of
-# program_checks.py: python3 tests/run_cases.py [PROGRAM]
+# Runs the cases of tests/cases, the refusals of refusals.jsonl, the books of forks.jsonl, the worked rows of
+# tests/semantics, and the checks of program_checks.py: python3 tests/run_cases.py [PROGRAM]
 import json
 import os
 import sys
@@ -16,8 +16,16 @@ PROGRAM = TESTS.parent / "crates/pb_cli/out/pb_cli"
 SHOWN = 20
 
 
+def checks_of(case):
+    """The check that a line of a case file describes, or one for each number of forks where it lists some."""
+    forks = case["forks"]
+    if not isinstance(forks, list):
+        return [check_of(case)]
+    return [check_of(case | {"id": f"{case['id']}-{number}", "forks": number}) for number in forks]
+
+
 def check_of(case):
-    """The check that a line of a case file describes: `run` where it has answers, else `check`."""
+    """One of them: `run` where it has answers, else `check`."""
     files = {"book.json": case["book"], "inventory.json": case["inventory"]}
     words = ["check", "book.json", "-i", "inventory.json"]
     if case["signatures"] is not None:
@@ -31,10 +39,11 @@ def check_of(case):
 
 
 def cases():
-    for path in [*sorted((TESTS / "cases").glob("*.jsonl")), TESTS / "refusals.jsonl", TESTS / "semantics/rows.jsonl"]:
+    others = ["refusals.jsonl", "forks.jsonl", "semantics/rows.jsonl"]
+    for path in [*sorted((TESTS / "cases").glob("*.jsonl")), *(TESTS / name for name in others)]:
         with open(path, encoding="utf-8") as lines:
             for line in lines:
-                yield check_of(json.loads(line))
+                yield from checks_of(json.loads(line))
 
 
 def failure_of(program, check):

@@ -1,6 +1,5 @@
 # A book as plays, blocks and tasks: what its nodes are, whatever file they stand in.
 from dataclasses import dataclass, field
-from typing import Optional, Union
 
 from .nodes import Mapping, Scalar, Sequence, is_nothing
 from .problems import Place
@@ -25,7 +24,7 @@ class Task:
     is_handler: bool = False
     asked: list = field(default_factory=list)  # values of words that are passed over: their templates are asked
     reason: str = ""  # why it isn't judged
-    reason_place: Optional[Place] = None
+    reason_place: "Place | None" = None
     is_still_asked: bool = False  # its templates are asked all the same
     gives: set = field(default_factory=set)  # names that it sets beside those that it shows
     notifies: list = field(default_factory=list)  # handlers that it notifies beside those that it shows
@@ -37,7 +36,7 @@ class Task:
     collections: list = field(default_factory=list)  # those in which a short name of its module is looked for
     mistakes: list = field(default_factory=list)  # what the documentation of its module forbids
     is_below_condition: bool = False  # a block round it has a condition
-    may_ignore: Optional[Scalar] = None  # a template in the place of `ignore_errors`
+    may_ignore: "Scalar | None" = None  # a template in the place of `ignore_errors`
     facts: list = field(default_factory=list)  # what sets the further facts that it gathers
     has_no_bound: bool = False  # how often it is tried isn't known, or more often than the profile has it
 
@@ -85,7 +84,7 @@ class Block:
 class Raw:
     """What isn't a task or a block: printed as it is, for the program to refuse."""
 
-    node: Union[Mapping, Sequence, Scalar]
+    node: "Mapping | Sequence | Scalar"
     name = ""
 
     @property
@@ -127,7 +126,7 @@ class Play:
 class Book:
     file: str
     plays: list
-    node: Optional[object] = None  # the book itself, where it is no list
+    node: "object | None" = None  # the book itself, where it is no list
     left_out: list = field(default_factory=list)  # tasks that a run passes by, by their tags
 
     def tasks(self):

@@ -5,7 +5,6 @@ from .books import Block, Play, Raw
 from .codes import OWN_TITLES, TITLES
 from .facts import trust_facts
 from .further_facts import further_facts
-from .hints import hint
 from .hosts import host_patterns, with_localhost
 from .inventory import read_inventories
 from .literals import run_literal_passes
@@ -140,6 +139,8 @@ def numbered(settler):
 
 
 def finding_of(answer, line, settler):
+    from .hints import hint  # read where it is wanted: an accepted book has no finding
+
     found = hint(answer, line, settler)
     source = line.source if line is not None else None
     play = line.play.name if line is not None and line.play is not None else ""

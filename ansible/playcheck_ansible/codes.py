@@ -1,13 +1,12 @@
 # The titles of the codes, as the pages have them (a test compares), and the section of a code.
+import os
 import re
-from pathlib import Path
 
-from .problems import Problem
+from .problems import TOP, Problem
 
-PAGES = Path(__file__).resolve().parent.parent.parent / "docs"
-PAGE = PAGES / "REFUSALS.md"
+PAGE = os.path.join(TOP, "docs", "REFUSALS.md")
 # The page of the codes that the front end itself tells.
-OWN_PAGE = PAGES / "FROM_ANSIBLE.md"
+OWN_PAGE = os.path.join(TOP, "docs", "FROM_ANSIBLE.md")
 TITLES = {
     "S01": "the signatures aren't JSON",
     "S02": "the signatures have another form",
@@ -56,7 +55,8 @@ def section_of(code):
     """The section of a page on a code."""
     page = OWN_PAGE if code.startswith("A-") else PAGE
     try:
-        text = page.read_text(encoding="utf-8")
+        with open(page, encoding="utf-8") as file:
+            text = file.read()
     except OSError as error:
         raise Problem(None, f"{page} can't be read: {error.strerror}") from None
     found = re.search(rf"^### {re.escape(code)}: .*?(?=^##|\Z)", text, re.M | re.S | re.I)

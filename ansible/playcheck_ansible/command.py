@@ -2,20 +2,18 @@
 import argparse
 import json
 import os
-import shutil
 import sys
 
 from .checking import Options, check_book, settled
 from .codes import section_of
-from .converting import warning_of, write_converted
 from .formats import FORMATS
-from .documented import documentation, signatures_of, without_file
 from .loading import load_book
-from .looking_up import UNKNOWN, looked_up, used_modules
-from .modules import PROFILE, read_signatures, short_name
+from .looking_up import NOT_INSTALLED, looked_up, used_modules
+from .modules import PROFILE, UNKNOWN, read_signatures, short_name
 from .nodes import Mapping, is_nothing, made
 from .positions import node_of, read_file
 from .problems import Place, Problem
+from .processes import on_path
 from .values import arguments_of
 
 BAD_WORDS = 64
@@ -33,7 +31,8 @@ class Words(argparse.ArgumentParser):
 def parser():
     words = Words(prog="playcheck-ansible", description="Judges Ansible playbooks in YAML.", epilog=EPILOG,
                   formatter_class=argparse.RawDescriptionHelpFormatter)
-    commands = words.add_subparsers(dest="command", required=True, metavar="COMMAND", parser_class=Words)
+    commands = words.add_subparsers(prog=words.prog, dest="command", required=True, metavar="COMMAND",
+                                    parser_class=Words)
     check = commands.add_parser("check", help="judges playbooks, or all of a folder")
     check.add_argument("books", nargs="+", metavar="BOOK", help="a playbook, or a folder of playbooks")
     add_inputs(check)
@@ -64,6 +63,8 @@ def add_inputs(words):
     words.add_argument("--skip-tags", action="append", default=[], metavar="TAGS",
                        help="as Ansible has it: tasks with these tags are left out")
     words.add_argument("--trust-facts", action="store_true", help="all six facts are there where facts are gathered")
+    words.add_argument("--trust-returns", action="store_true",
+                       help="all fields that a module's documentation names are there in each answer")
     words.add_argument("--no-lookup", action="store_true",
                        help="looks no modules up by ansible-doc, where ansible-core is installed")
     words.add_argument("--vars", action="append", default=[], metavar="FILE", help="a file of variables")
@@ -96,6 +97,8 @@ def explain(words):
 
 
 def convert(words):
+    from .converting import warning_of, write_converted  # read where it is wanted, as in the other commands
+
     options = options_of(words)
     settler, inventory = settled(words.book, options, *with_lookup([words.book], options, words))
     write_converted(words.output, settler, inventory)
@@ -107,6 +110,8 @@ def convert(words):
 
 def signatures(words):
     """Prints the signatures of modules, and says on standard error which of them can't be declared."""
+    from .documented import documentation, signatures_of, without_file
+
     names = []
     for name in words.names:
         names += used_modules(load_book(name)) if name.endswith(SUFFIXES) else [short_name(name)]
@@ -160,14 +165,20 @@ def variables_in(node, path):
 
 def with_lookup(paths, options, words):
     """Looks the modules of books up, and answers the book where it is one alone, since it is read by now."""
-    names, read = [], []
-    for path in paths if not words.no_lookup and shutil.which("ansible-doc") else ():
-        try:
-            read = [load_book(path)]
-        except Problem:
-            continue  # it is told when the book is checked
-        names += used_modules(read[0])
-    options.modules = looked_up(names, options.modules, told)
+    read = []
+    if words.no_lookup or not on_path("ansible-doc"):
+        options.modules.unasked = "`--no-lookup` is given" if words.no_lookup else NOT_INSTALLED
+    else:
+        names = []
+        for path in paths:
+            try:
+                read = [load_book(path)]
+            except Problem:
+                continue  # it is told when the book is checked
+            names += used_modules(read[0])
+        options.modules = looked_up(names, options.modules, told)
+    if words.trust_returns:
+        options.modules = options.modules.trusting()
     return read if len(paths) == 1 else []
 
 

@@ -1,11 +1,11 @@
 # Signatures of modules out of Ansible's own documentation, which `ansible-doc` prints where ansible-core is installed.
 import json
 import re
-import shutil
+import zlib
 
 from .modules import BOOL_FIELD, FAILURE, PROFILE, are_choices
 from .problems import Problem
-from .processes import run_within
+from .processes import on_path, run_within
 
 SECONDS = 300
 MOST_UNDOCUMENTED = 4
@@ -14,7 +14,8 @@ MOST_PARAMETERS = 64
 MOST_ITEMS = 65536
 TEXTS = ("str", "path", "sid", "bytes", "bits", "float", "json", "jsonarg")
 VARIABLE = re.compile(r"[A-Za-z_][A-Za-z0-9_]{0,127}")
-NAME = re.compile(r"[a-z][a-z0-9_.]{0,63}")
+NAME = re.compile(r"[a-z][a-z0-9_.]*")
+LONGEST = 64
 # When the documentation promises a field in each answer that isn't failed.
 ALWAYS = re.compile(r"(always|success|on success|when successful|changed or success|success or changed)\.?", re.I)
 # What the documentation calls required, and the module that is called in the end has a default for.
@@ -33,7 +34,7 @@ NOT_FIELDS = ("failed", "skipped", "skip_reason", "results", "unreachable", "cha
 
 def documentation(names, seconds=SECONDS, again=MOST_UNDOCUMENTED):
     """What ansible-doc has on these modules; those that it doesn't know or that have no documentation are left out."""
-    found = shutil.which("ansible-doc")
+    found = on_path("ansible-doc")
     if not found:
         raise Problem(None, "`ansible-doc` isn't installed; it comes with ansible-core")
     said, told, status = run_within([found, "-t", "module", "--json", *names], seconds)
@@ -78,8 +79,10 @@ def why_left(name, document):
 
 
 def declared_name(name):
-    """The name in the signatures: those that begin with `ansible.` are taken."""
-    return "ansible_" + name[len("ansible."):] if name.startswith("ansible.") else name
+    """The name in the signatures: those that begin with `ansible.` are taken, and longer ones than the format has."""
+    if name.startswith("ansible."):
+        name = "ansible_" + name[len("ansible."):]
+    return name if len(name) <= LONGEST else f"{name[:LONGEST - 9]}_{zlib.crc32(name.encode()):08x}"
 
 
 def signature_of(name, document):

@@ -4,18 +4,13 @@ import json
 import re
 import xml.etree.ElementTree as xml
 
-from .pipelines import NOT_JUDGED, left_of
+from .pipelines import NOT_JUDGED, left_of, path_of
 from .wording import message_of, verdict_of
 
 # Places in texts, which move with lines that are put in before them.
 MOVING = re.compile(r"lines? \d+(?:, \d+)*|:\d+(?::\d+)?")
 # What no file of XML 1.0 may hold, also not escaped.
 NO_XML = re.compile("[^\t\n\r\x20-\ud7ff\ue000-\ufffd\U00010000-\U0010ffff]")
-
-
-def uri_of(place):
-    path = place.file.replace("\\", "/")
-    return path[2:] if path.startswith("./") else path
 
 
 def gitlab_format(reports, has_colour):
@@ -26,11 +21,11 @@ def gitlab_format(reports, has_colour):
         severity = "major" if report.is_strict else "info"
         found += [(NOT_JUDGED, severity, not_judged_text(one), one) for one in left_of(report)]
         for code, severity, text, one in found:
-            key = (report.book, code, uri_of(one.place), MOVING.sub("", text))
+            key = (report.book, code, path_of(one.place), MOVING.sub("", text))
             seen[key] = seen.get(key, 0) + 1
             issues.append({"description": text, "check_name": code, "severity": severity,
                            "fingerprint": fingerprint((*key, seen[key])),
-                           "location": {"path": uri_of(one.place), "lines": {"begin": max(one.place.line, 1)}}})
+                           "location": {"path": path_of(one.place), "lines": {"begin": max(one.place.line, 1)}}})
     return json.dumps(issues, indent=2) + "\n"
 
 

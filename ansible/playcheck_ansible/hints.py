@@ -4,13 +4,17 @@ from dataclasses import dataclass
 
 from .books import TASK_WORDS, Block, Play, Task, is_module
 from .further_facts import FURTHER
+from .further_hints import (earlier_handler, entered_before, judged_by_others, other_host, second_handler, unknown_host,
+                            unknown_hosts)
 from .modules import PROFILE
 from .names import (CONDITIONS, FACTS, GRAMMAR, expression_names, given_names, names_of_vars, read_places,
                     without_texts)
 from .nodes import Mapping, texts_of
 from .problems import Place
+from .wording import Hint, named, nearest, shown, where
 
 GUARD = r"\s*(?:is\s+(?:not\s+)?(?:defined|undefined)|\|\s*default)"
+DEFAULTED = re.compile(r"\s*([A-Za-z_][\w.]*)\s*\|\s*default\([^()]*\)\s*")
 MOST_NAMES = 12
 # Those facts that an answer of `setup` needn't have.
 PERHAPS_FACTS = FACTS[2:]
@@ -22,41 +26,15 @@ class Culprit:
     place: Place
 
 
-@dataclass
-class Hint:
-    place: Place
-    detail: str = ""
-    help: str = ""
-
-
-def distance(one, other, most):
-    """The edit distance of two words, swapped neighbours counted as one edit; `most + 1` where it is more."""
-    if abs(len(one) - len(other)) > most:
-        return most + 1
-    before, row = [], list(range(len(other) + 1))
-    for i, letter in enumerate(one, 1):
-        new = [i]
-        for j, against in enumerate(other, 1):
-            cost = min(row[j] + 1, new[j - 1] + 1, row[j - 1] + (letter != against))
-            if i > 1 and j > 1 and letter == other[j - 2] and one[i - 2] == against:
-                cost = min(cost, before[j - 2] + 1)
-            new.append(cost)
-        before, row = row, new
-    return min(row[-1], most + 1)
-
-
-def nearest(word, names):
-    """The name that is nearest to a word, where one is near."""
-    most = 1 if len(word) < 5 else 2
-    scored = sorted((distance(word.lower(), name.lower(), most), name) for name in names if name != word)
-    return scored[0][1] if scored and scored[0][0] <= most else ""
-
-
 def culprit(task, known):
     """The first name that a task reads without a guard and that is set nowhere."""
-    for expression, node in read_places(task.words, task.asked):
+    return culprit_in(list(read_places(task.words, task.asked)), known)
+
+
+def culprit_in(places, known):
+    for expression, node in places:
         for name in ordered_names(expression):
-            if name not in known and name not in GRAMMAR and not is_guarded(name, task):
+            if name not in known and name not in GRAMMAR and not is_guarded(name, places):
                 return Culprit(name, node.place)
     return None
 
@@ -67,9 +45,9 @@ def ordered_names(expression):
     return [name for name in found if name in expression_names(expression)]
 
 
-def is_guarded(name, task):
+def is_guarded(name, places):
     guard = re.compile(rf"\b{re.escape(name)}{GUARD}")
-    return any(guard.search(expression) for expression, _ in read_places(task.words, task.asked))
+    return any(guard.search(expression) for expression, _ in places)
 
 
 def first_text(task):
@@ -103,7 +81,8 @@ def hint(answer, line, settler):
     if not isinstance(step, Task):
         return of_holder(answer, line, settler)
     maker = {"V01": unset, "V03": missing, "V04": wrong_kind, "V05": unheard, "V07": parameter, "V08": reserved,
-             "V10": chain, "V02": other_host, "P05": several}.get(answer.code)
+             "V10": chain, "V02": other_host, "P05": several, "P09": second_handler, "V06": unknown_host,
+             "V09": judged_by_others, "V12": earlier_handler}.get(answer.code)
     found = maker(step, line, settler) if maker else None
     return found or Hint(key_place(step, DEFAULT_KEYS.get(answer.code, ())) or module_place(step))
 
@@ -116,24 +95,20 @@ def of_holder(answer, line, settler):
     if answer.code == "V10":
         return chain(line.step, line, settler) or Hint(holder.place)
     if answer.code == "V06" and isinstance(holder, Play) and holder.words.get("hosts") is not None:
-        node = holder.words.get("hosts")
-        return Hint(node.place, f"hosts: {shown(node)}")
+        return unknown_hosts(holder, settler)
     if line.kind == "condition":
         return Hint(holder.words.get("when").place)
     if line.kind == "asked" and isinstance(holder, (Play, Block)) and holder.asked:
-        return Hint(holder.asked[0].place)
+        return of_words(answer, holder, settler)
     return Hint(holder.place)
 
 
-def shown(node):
-    return ", ".join(str(text.value) for text in texts_of(node))
-
-
-def where(place, beside):
-    """In brackets the line of a place, with its file where that is another one than the finding's."""
-    if place is None or not place.line:
-        return ""
-    return f" (line {place.line})" if place.file == beside.file else f" ({place.file}:{place.line})"
+def of_words(answer, holder, settler):
+    """Of the words of a play or a block that are passed over."""
+    places = list(read_places(Mapping({}, holder.place), holder.asked))
+    names = settler.names_in_scope(holder)
+    found = culprit_in(places, names) if answer.code == "V01" else None
+    return nowhere(found, names, settler) if found else Hint(places[0][1].place if places else holder.place)
 
 
 def unset(task, line, settler):
@@ -146,6 +121,11 @@ def unset(task, line, settler):
     if found.name in settler.given():
         place = where(settler.place_of_name(found.name), found.place)
         return Hint(found.place, f"'{found.name}' isn't set here: `vars` give it elsewhere{place}")
+    return nowhere(found, names, settler)
+
+
+def nowhere(found, names, settler):
+    """A name that nothing sets, and the one that may be meant."""
     near = nearest(found.name, names - GRAMMAR)
     meant = f". Did you mean '{near}'{where(settler.place_of_name(near), found.place)}?" if near else ""
     return Hint(found.place, f"'{found.name}' is set nowhere: not in this book, not in the inventory{meant}")
@@ -160,9 +140,9 @@ def reading_hint(task, line, settler):
                             f"Guard: when: {name} is defined, or {name} | default('')")
             giver = settler.giver(name)
             if giver is not None and giver is not task:
-                by = f"'{giver.name or giver.module()}'{where(giver.place, node.place)}"
-                return Hint(node.place, f"'{name}' is set by {by}, which some way to here passes by",
-                            f"Guard: when: {name} is defined")
+                told = (entered_before(name, node, task, giver, settler)
+                        or f"'{name}' is set by {named(giver, node.place)}, which some way to here passes by")
+                return Hint(node.place, told, f"Guard: when: {name} is defined")
     node = first_text(task)
     return Hint(node.place) if node is not None else None
 
@@ -179,7 +159,7 @@ def missing(task, line, settler):
 
 def missing_of(path, node, giver, settler):
     text = ".".join(path)
-    by = f"'{giver.name or giver.module()}'{where(giver.place, node.place)}"
+    by = named(giver, node.place)
     when = settler.condition(giver)
     if when is None:
         return Hint(node.place, f"'{text}' isn't always in the answer of {by}",
@@ -195,6 +175,10 @@ def wrong_kind(task, line, settler):
             name = shown(node)
             return Hint(key_place(task, (key,)) or node.place, f"{key}: '{name}' may be no truth value",
                         f"Write a comparison, as {name} == '..' or {name} | length > 0")
+    for expression, node in read_places(task.words, task.asked):
+        found = DEFAULTED.fullmatch(expression)
+        if found:
+            return Hint(node.place, f"'{found[1]}' and its default may be of two kinds")
     node = first_text(task)
     return Hint(node.place) if node is not None else None
 
@@ -219,15 +203,16 @@ def parameter(task, line, settler):
     known = set(settler.modules.parameters.get(module, {}))
     if not isinstance(node, Mapping) or not known:
         return None
-    for name in node.pairs:
-        if name not in known:
-            near = nearest(name, known)
-            meant = f" Did you mean '{near}'?" if near else ""
-            listed = " ".join(sorted(known)[:MOST_NAMES])
-            place = node.keys.get(name) or node.place
-            return Hint(place, f"{module} has no parameter '{name}'.{meant} Known: {listed}")
+    documented = settler.modules.documented.get(module)
+    called = documented.name if documented is not None else module
     listed = " ".join(sorted(known)[:MOST_NAMES])
-    return Hint(node.place, f"a parameter of {module} that has to be there is missing. Known: {listed}")
+    unknown = next((name for name in node.pairs if name not in known), None)
+    if unknown is None:
+        return Hint(node.place, f"a parameter of {called} that has to be there is missing. Known: {listed}")
+    near = nearest(unknown, known)
+    meant = f" Did you mean '{near}'?" if near else ""
+    place = node.keys.get(unknown) or node.place
+    return Hint(place, f"{called} has no parameter '{unknown}'.{meant} Known: {listed}")
 
 
 def reserved(task, line, settler):
@@ -244,15 +229,6 @@ def chain(task, line, settler):
     lines = [str(place.line) for _, place in found[:-1]]
     told = f"line{'s' if len(lines) > 1 else ''} {', '.join(lines)}"
     return Hint(found[0][1], f"vars go round: {' -> '.join(name for name, _ in found)} ({told})")
-
-
-def other_host(task, line, settler):
-    for expression, node in read_places(task.words, task.asked):
-        path = re.search(r"hostvars(?:\[[^\]]*\]|\.\w+)\.\w+", expression)
-        if path:
-            return Hint(node.place, f"'{path[0]}': that host may not have come so far, or may have left the run",
-                        f"Guard: when: {path[0]} is defined")
-    return None
 
 
 def several(task, line, settler):

@@ -2,12 +2,11 @@
 import json
 import os
 import re
-import shutil
 
 from .nodes import Mapping, Scalar, Sequence, has_template, is_nothing, is_text, plain
 from .positions import node_of, read_file, read_text
 from .problems import Place, Problem
-from .processes import run_within
+from .processes import on_path, run_within
 
 RANGE = re.compile(r"\[(\w+):(\w+)(?::(\d+))?\]")
 SUFFIXES = ("", ".yml", ".yaml", ".json")
@@ -141,7 +140,7 @@ def is_listed(node):
 
 
 def listed_by_ansible(path, what):
-    found = shutil.which("ansible-inventory")
+    found = on_path("ansible-inventory")
     if not found:
         raise Problem(Place(path), f"this inventory is {what}, which `ansible-inventory` alone reads, and that isn't "
                                    "installed; a YAML or JSON inventory is read without it")

@@ -1,6 +1,5 @@
 # Counts the lines of a book as docs/REFUSALS.md says, prints its JSON, and keeps what each line is.
 from dataclasses import dataclass, field
-from typing import Optional
 
 from .books import PARTS, SECTIONS, Block, Play, Raw, Task
 from .nodes import Mapping, Scalar, Sequence, has_template, is_text, plain, texts_of
@@ -9,8 +8,8 @@ from .nodes import Mapping, Scalar, Sequence, has_template, is_text, plain, text
 @dataclass
 class Line:
     kind: str  # play, facts, block, task, handler, asked (what a task's words ask), condition (of an include)
-    play: Optional[Play]
-    step: Optional[object] = None
+    play: "Play | None"
+    step: "object | None" = None
     nodes: tuple = ()  # what of the files is printed in it
 
     @property

@@ -80,7 +80,7 @@ def include_key(item, names):
 def imported_plays(item, key, path, open_files, count):
     named = item.get(key)
     if not is_text(named) or has_template(named.value):
-        raise Problem(named.place, "an imported playbook's name is a template or no text; it can't be read")
+        return [left_play(item, key)]
     target = os.path.join(os.path.dirname(path), named.value.strip())
     if target in open_files or len(open_files) >= MOST_INCLUDES:
         raise Problem(named.place, f"{named.value} is imported in itself")
@@ -95,6 +95,14 @@ def imported_plays(item, key, path, open_files, count):
     for play in plays:
         add_words(play, item, key)
     return plays
+
+
+def left_play(item, key):
+    """In the place of a playbook whose name isn't known: a play with a task that isn't judged."""
+    task = Task(Mapping({key: item.get(key)}, item.place, {key: item.keys[key]}), item.place)
+    words = {"hosts": made("all", item.place), "gather_facts": made(False, item.place)}
+    tasks = [left_include(task, "`import_playbook` with a name that is no literal text")]
+    return Play(Mapping(words, item.place), item.place, {"tasks": tasks})
 
 
 def add_words(play, item, key):
@@ -331,7 +339,7 @@ def included_block(task, kind, words, steps):
     """What stands in the place of a task that names a file or a role: of an include its words aren't its tasks'."""
     block = Block(words, task.place, {"block": steps}, is_include=kind.startswith("include"))
     if block.is_include:
-        words.take("ignore_errors")
+        block.asked += [words.take("ignore_errors")] if "ignore_errors" in words else []
         block.is_asked_once = is_asked_once(words, steps)
     return block
 

@@ -1,10 +1,8 @@
 # Looks up the modules of books in Ansible's documentation: one call for all that are neither built in nor declared.
 import re
-import shutil
 
 from .books import Block, Play, Task, is_module
-from .documented import documentation, signatures_of
-from .modules import INCLUDES, PREFIXES, Modules, short_name
+from .modules import INCLUDES, PREFIXES, UNKNOWN, Modules, short_name
 from .nodes import Mapping, is_text, texts_of
 from .problems import Problem
 
@@ -12,7 +10,8 @@ SECONDS = 60
 # What is no name of a module isn't asked: it might be taken for an option.
 NAME = re.compile(r"[A-Za-z_][A-Za-z0-9_]*(\.[A-Za-z_][A-Za-z0-9_]*)*")
 MOST_COLLECTIONS = 16
-UNKNOWN = "ansible-doc doesn't know it"
+NOT_INSTALLED = "ansible-doc isn't installed"
+FAILED = "ansible-doc failed"
 
 
 def note_collections(book):
@@ -62,12 +61,15 @@ def looked_up(names, modules, told):
     """The modules with those of these names that Ansible's documentation has; what fails is told."""
     wanted = sorted({name for name in names if NAME.fullmatch(name) and not modules.has(name)
                      and name not in modules.written})
-    if not wanted or not shutil.which("ansible-doc"):
+    if not wanted:
         return modules
+    from .documented import documentation, signatures_of  # read where it is wanted: many books ask nothing
+
     try:
         documents = documentation(wanted, SECONDS)
     except Problem as problem:
         told(f"modules aren't looked up: {problem}")
+        modules.unasked = FAILED
         return modules
     declared, left = signatures_of({name: documents[name] for name in wanted if name in documents})
     found = {module["ansible"]["name"] for module in declared}

@@ -1,10 +1,10 @@
 # Mistakes that Ansible's own documentation of a module shows, before the program is asked: in literal values alone.
 from dataclasses import dataclass
 
-from .hints import nearest
 from .nodes import Mapping, Scalar, Sequence, has_template, is_nothing, is_text
 from .problems import Place
 from .values import FALSE_WORDS, TRUE_WORDS, as_int, as_list
+from .wording import nearest
 
 MOST_CHOICES = 12
 BACK = {"True": TRUE_WORDS, "False": FALSE_WORDS}

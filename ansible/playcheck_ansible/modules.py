@@ -51,6 +51,14 @@ FREE_TEXTS = {"raw": "free_form", "script": "free_form", "ansible.windows.win_co
 INCLUDES = ("include", "include_tasks", "import_tasks", "include_role", "import_role", "import_playbook")
 # Modules that may set names or groups which the book doesn't show.
 SETS_UNSEEN = ("include_vars", "package_facts", "service_facts", "set_stats", "gather_facts", "add_host", "group_by")
+# Ansible's own modules that the profile lacks: one of them may be meant by a name that nothing knows.
+CORE = ("add_host", "apt", "apt_key", "apt_repository", "assemble", "async_status", "blockinfile", "cron", "debconf",
+        "dnf", "dpkg_selections", "expect", "fetch", "find", "gather_facts", "get_url", "getent", "git", "group",
+        "group_by", "hostname", "include_vars", "iptables", "known_hosts", "lineinfile", "package", "package_facts",
+        "pause", "pip", "raw", "reboot", "replace", "rpm_key", "script", "service_facts", "set_stats", "slurp",
+        "subversion", "systemd", "systemd_service", "sysvinit", "tempfile", "template", "unarchive", "uri", "user",
+        "validate_argument_spec", "wait_for", "wait_for_connection", "yum", "yum_repository")
+UNKNOWN = "ansible-doc doesn't know it"
 BOOL_FIELD = {"kind": "bool", "always": True}
 FAILURE = {"changed": BOOL_FIELD, "msg": {"kind": "text", "always": True}}
 MOST_DECLARED = 256
@@ -72,6 +80,7 @@ class Modules:
 
     declared: list = field(default_factory=list)
     unknown: dict = field(default_factory=dict)  # modules that were looked up in vain, with the reason
+    unasked: str = ""  # why the others weren't looked up
 
     def __post_init__(self):
         self.parameters = dict(PROFILE)
@@ -98,6 +107,11 @@ class Modules:
                 self.files[name] = further["file"]
             self.documented[name] = Documented(further.get("name", name), set(module.get("ok") or {}),
                                                further.get("choices") or {}, further.get("required") or [])
+
+    def trusting(self):
+        """These modules, with each field of an answer that documentation names as always there."""
+        return Modules([always_there(module) if "ansible" in module else module for module in self.declared],
+                       self.unknown, self.unasked)
 
     def has(self, name):
         return name in self.parameters
@@ -127,6 +141,10 @@ class Modules:
                     if module["name"] in used or not are_many and "ansible" not in module]
         return [*declared, {"name": self.unjudged_name(), "params": {}, "ok": {"changed": BOOL_FIELD},
                             "failure": FAILURE}]
+
+
+def always_there(module):
+    return {**module, "ok": {name: {**one, "always": True} for name, one in module["ok"].items()}}
 
 
 def kind_of(param):

@@ -1,5 +1,6 @@
 # Which names a task's texts mention, and which it gives: by their letters alone, so rather too many than too few.
 import re
+from functools import lru_cache
 
 from .nodes import Mapping, is_text, texts_of
 from .templates import template_spans
@@ -23,14 +24,21 @@ MAGIC = {"playbook_dir", "role_path", "role_name", "inventory_dir", "inventory_f
 
 def expressions_in(text):
     """The expressions of a template's text."""
-    return [text[start + 2:end - 2] for start, end in template_spans(text)]
+    return expressions_of_template(text) if "{" in text else ()
 
 
+# Each pass asks for them anew.
+@lru_cache(4096)
+def expressions_of_template(text):
+    return tuple(text[start + 2:end - 2] for start, end in template_spans(text))
+
+
+@lru_cache(4096)
 def expression_names(text):
     """The names that an expression may read; those in its texts too where it reads other hosts."""
     if "hostvars" in text or "vars" in text or "lookup" in text:
-        return set(NAME.findall(text))
-    return set(READ.findall(without_texts(text)))
+        return frozenset(NAME.findall(text))
+    return frozenset(READ.findall(without_texts(text)))
 
 
 def without_texts(text):

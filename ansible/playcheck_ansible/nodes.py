@@ -1,13 +1,12 @@
 # The values of a YAML file, each with its place.
 from dataclasses import dataclass, field
-from typing import Any
 
 from .problems import Place
 
 
 @dataclass
 class Scalar:
-    value: Any  # None, a truth value, a number or a text
+    value: object  # None, a truth value, a number or a text
     place: Place
     text: str = ""  # as it is written
     is_quoted: bool = False

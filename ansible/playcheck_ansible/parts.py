@@ -1,7 +1,6 @@
 # Parts of an expression as the profile writes them; what it can't write by a part of the same kind that reads the same.
 import re
 from dataclasses import dataclass, replace
-from typing import Optional
 
 # How tightly the profile binds: what stands in a looser part is put into parentheses.
 OR, AND, NOT, RELATION, OPERAND, PLAIN = range(6)
@@ -15,13 +14,13 @@ class Unfit(Exception):
 
 @dataclass(frozen=True)
 class Part:
-    text: Optional[str]  # None where the profile has no such value
+    text: "str | None"  # None where the profile has no such value
     kind: str = ""  # bool, int, text, float or split (a text that was divided) where it is known
     level: int = PLAIN
     reads: tuple = ()  # what is read in its place
     is_path: bool = False
-    default: Optional[tuple] = None  # of a path with a default: the path and the default
-    literal: Optional[tuple] = None  # its value in a tuple of one, where it is a literal
+    default: "tuple | None" = None  # of a path with a default: the path and the default
+    literal: "tuple | None" = None  # its value in a tuple of one, where it is a literal
 
     def at(self, level):
         """Its text where one of this level is wanted."""

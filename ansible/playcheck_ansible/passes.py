@@ -5,10 +5,11 @@ import re
 from .books import is_module
 from .loops import dict_loops, loop_variables, loops
 from .mistakes import documented_values
-from .modules import CHANGES_FLOW, FREE_FORM, FREE_TEXTS, SETS_UNSEEN, short_name
+from .modules import CHANGES_FLOW, CORE, FREE_FORM, FREE_TEXTS, SETS_UNSEEN, UNKNOWN, short_name
 from .names import mentioned
 from .nodes import Mapping, Scalar, Sequence, has_template, is_literal, is_nothing, is_text, made, plain, texts_of
 from .values import arguments_of, as_bool, as_int, converted, is_whole
+from .wording import nearest
 
 # Words that change neither the flow nor the variables.
 PASSED = ("tags", "become", "become_exe", "become_flags", "become_method", "become_user", "environment", "no_log",
@@ -24,6 +25,8 @@ EMPTY = {"text": "", "bool": False, "int": 0, "list": [], "ints": []}
 PATH = re.compile(r"[A-Za-z_][\w.'\"\[\]]*")
 ENDS = ("end_host", "end_play", "end_batch", "end_role")
 NO_FLOW = ("noop", "reset_connection")
+# A name of so few letters is near to too many.
+SHORT = 5
 
 
 def run_passes(task, modules):
@@ -185,7 +188,7 @@ def flow_words(task, modules):
             continue
         is_off = isinstance(node, Scalar) and node.value in (False, None)
         if is_off and key != "poll" or key in ONLY_BY_RESULT and not ONLY_BY_RESULT[key](task):
-            task.words.take(key)
+            pass_over(task, key)
         else:
             task.leave(f"`{key}` changes the flow", node.place)
             return
@@ -197,33 +200,41 @@ def checks_alone(task):
 
 
 def runs_for_all(task):
-    """Of a task that is run for one host, the others get the result: it hangs on that host's condition and values."""
+    """Of a task that is run for one host, the others get the result: it hangs on that host's condition and values.
+
+    A template in the place of the truth value is evaluated before the task's condition.
+    """
     loops = any(key == "loop" or key.startswith("with_") for key in task.words.pairs)
     facts = task.words.get("set_fact")
     return ("register" in task.words and (task.is_below_condition or "when" in task.words or loops)
-            or facts is not None and not is_literal(facts))
+            or facts is not None and not is_literal(facts) or not is_literal(task.words.get("run_once")))
 
 
 def is_left_running(task):
-    """A task that isn't waited for registers the number of its job."""
-    poll = task.words.get("poll")
-    return poll is not None and as_int(poll).value == 0 and "register" in task.words
+    """A task that isn't waited for registers the number of its job; a template may say so."""
+    poll = plain(as_int(task.words.get("poll") or made(None, task.place)))
+    is_waited_for = poll is None or isinstance(poll, int) and poll > 0
+    return "register" in task.words and not is_waited_for
 
 
 ONLY_BY_RESULT = {"check_mode": checks_alone, "run_once": runs_for_all, "async": is_left_running,
                   "poll": lambda task: False}
 
 
+def pass_over(task, key):
+    """Takes a word away, whose templates are asked; those of a handler can't be."""
+    node = task.words.take(key)
+    if task.is_handler and not is_literal(node):
+        task.leave(f"`{key}` of a handler holds a template", node.place)
+    else:
+        task.asked.append(node)
+
+
 def passed_words(task, modules):
     """Words that change neither the flow nor variables: their templates are asked, and they are passed over."""
     for key in PASSED:
-        node = task.words.take(key)
-        if node is None:
-            continue
-        if task.is_handler and not is_literal(node):
-            task.leave(f"`{key}` of a handler holds a template", node.place)
-            return
-        task.asked.append(node)
+        if key in task.words:
+            pass_over(task, key)
 
 
 def known_module(task, modules):
@@ -232,12 +243,20 @@ def known_module(task, modules):
     if len(keys) != 1 or modules.has(keys[0]):
         return
     module, node = keys[0], task.words.get(keys[0])
-    why = f": {modules.unknown[module]}" if module in modules.unknown else ""
-    told = f"the module `{module}` is neither built in nor declared{why}"
+    why = modules.unknown.get(module, modules.unasked)
+    told = f"the module `{module}` is neither built in nor declared{': ' * bool(why)}{why}{meant(module, modules)}"
     task.leave(told, task.words.keys.get(module) or node.place)
     if not task.is_handler and module not in SETS_UNSEEN:
         task.is_still_asked = True
         task.asked += [converted(text, "omitted") for text in texts_of(node)]
+
+
+def meant(module, modules):
+    """The module that a name may mean: one that isn't declared only where ansible-doc doesn't know the name."""
+    is_sought = modules.unknown.get(module) == UNKNOWN
+    names = {*modules.parameters, *modules.written, *(CORE if is_sought else ())}
+    near = nearest(module, names) if is_sought or len(module) > SHORT else ""
+    return f". Did you mean '{near}'?" if near else ""
 
 
 def meta_actions(task, modules):
@@ -279,16 +298,25 @@ def shown(task, node):
     verbosity = node.take("verbosity")
     if verbosity is not None and "register" in task.words:
         task.leave("`verbosity` decides what is registered", verbosity.place)
+    elif verbosity is not None:
+        task.asked.append(verbosity)
     name = node.take("var")
-    if name is None or "msg" in node:
+    if name is not None and "msg" in node:
+        task.leave("`debug` with both `msg` and `var`", name.place)
+        return node
+    if name is None:
         if "msg" not in node:
             node.put("msg", made("Hello world!", node.place))
         return node
     if is_text(name) and not has_template(name.value):
-        text = name.value.strip() + (" | default('')" if PATH.fullmatch(name.value.strip()) else "")
-        name = Scalar("{{ " + text + " }}", name.place, name.text, True)
+        name = Scalar("{{ " + read_if_there(name.value.strip()) + " }}", name.place, name.text, True)
     node.put("msg", name)
     return node
+
+
+def read_if_there(text):
+    """An expression that reads a path of any kind where it is there; any other expression as it is."""
+    return f"{text} is defined and [{text}] | length == 1" if PATH.fullmatch(text) else text
 
 
 def parameters(task, modules):

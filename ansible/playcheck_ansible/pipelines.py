@@ -28,11 +28,18 @@ def sarif_format(reports, has_colour):
 
 
 def sarif_result(code, level, text, place):
-    location = {"artifactLocation": {"uri": place.file.replace("\\", "/")}}
+    from urllib.parse import quote  # read where it is wanted: no other format writes a URI
+
+    location = {"artifactLocation": {"uri": quote(path_of(place))}}
     if place.line:
         location["region"] = {"startLine": place.line, "startColumn": place.column}
     return {"ruleId": code, "level": level, "message": {"text": text},
             "locations": [{"physicalLocation": location}]}
+
+
+def path_of(place):
+    path = place.file.replace("\\", "/")
+    return path[2:] if path.startswith("./") else path
 
 
 def github_format(reports, has_colour):

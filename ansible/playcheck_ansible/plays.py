@@ -97,6 +97,7 @@ def gathered_facts(play, extra):
     subset = play.words.get("gather_subset")
     if not isinstance(node, Scalar) or not isinstance(node.value, bool):
         play.words.put("gather_facts", made(True, node.place))
+        play.asked.append(node)
         leave_facts(play, "`gather_facts` is a template")
     elif subset is not None and "!min" in str(plain(subset)):
         leave_facts(play, "`gather_subset` leaves facts out that are else always there")
@@ -174,7 +175,9 @@ def looked_up(node, play, extra):
 
 def play_words(play, extra):
     """As of tasks: what changes the flow leaves all tasks of the play, the rest is asked and passed over."""
-    bars = [word for word in PLAY_FLOW if is_on(play.words.take(word), word, play)]
+    flow = {word: play.words.take(word) for word in PLAY_FLOW}
+    bars = [word for word, node in flow.items() if is_on(node, word, play)]
+    play.asked += [node for node in flow.values() if node is not None]
     if bars:
         play.reason = play.reason or f"`{bars[0]}` of the play changes the flow"
     for word in PLAY_PASSED:

@@ -6,6 +6,12 @@ import subprocess
 from .problems import Problem
 
 
+def on_path(name):
+    """The path of a program that is on the PATH, or nothing."""
+    paths = (os.path.join(folder, name) for folder in os.get_exec_path())
+    return next((path for path in paths if os.path.isfile(path) and os.access(path, os.X_OK)), "")
+
+
 def run_within(words, seconds, place=None):
     """What a program prints on its two outputs, and its status; where it takes too long it is ended."""
     name = os.path.basename(words[0])

@@ -3,13 +3,10 @@ import json
 import os
 import re
 import subprocess
-import tempfile
 from dataclasses import dataclass
-from pathlib import Path
 
-from .problems import Problem
+from .problems import TOP, Problem
 
-TOP = Path(__file__).resolve().parent.parent.parent
 REFUSED = re.compile(r"refused ([A-Z]\d\d) line (\d+) host (\S+)\n")
 ACCEPTED = re.compile(r"accepted budget (\d+)\n")
 NO_MEMORY = 3
@@ -24,37 +21,38 @@ class Answer:
 
 
 def program():
-    return os.environ.get("PLAYCHECK") or str(TOP / "playcheck")
+    return os.environ.get("PLAYCHECK") or os.path.join(TOP, "playcheck")
 
 
 class Asker:
-    """Asks the program about books, with one inventory and one file of signatures."""
+    """Asks the program about books, with one inventory and one file of signatures, which are files in memory alone."""
 
     def __init__(self, inventory, signatures):
-        self.folder = tempfile.TemporaryDirectory(prefix="playcheck-")
-        self.inventory = self.write("inventory.json", inventory)
-        self.signatures = self.write("signatures.json", signatures)
+        self.files = [file_in_memory("inventory", inventory), file_in_memory("signatures", signatures)]
 
     def __enter__(self):
         return self
 
     def __exit__(self, *_):
-        self.folder.cleanup()
-
-    def write(self, name, value):
-        path = os.path.join(self.folder.name, name)
-        with open(path, "w", encoding="utf-8") as file:
-            file.write(json.dumps(value))
-        return path
+        for file in self.files:
+            os.close(file)
 
     def ask(self, book):
-        path = self.write("book.json", book)
-        words = [program(), "check", path, "-i", self.inventory, "-s", self.signatures]
+        inventory, signatures = (f"/proc/self/fd/{file}" for file in self.files)
+        words = [program(), "check", "-", "-i", inventory, "-s", signatures]
         try:
-            done = subprocess.run(words, stdin=subprocess.DEVNULL, capture_output=True, text=True, check=False)
+            done = subprocess.run(words, input=json.dumps(book), capture_output=True, text=True, check=False,
+                                  pass_fds=self.files)
         except OSError as error:
             raise Problem(None, f"{words[0]} can't be run: {error.strerror}") from None
         return answer_of(done, words[0])
+
+
+def file_in_memory(name, value):
+    number = os.memfd_create(name)
+    with open(number, "w", encoding="utf-8", closefd=False) as file:
+        file.write(json.dumps(value))
+    return number
 
 
 def answer_of(done, name):

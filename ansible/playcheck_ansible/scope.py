@@ -2,7 +2,7 @@
 from collections import deque
 from graphlib import CycleError, TopologicalSorter
 
-from .books import Block, Play, Raw
+from .books import Block, Play, Raw, steps_below
 from .further_facts import FURTHER
 from .names import KNOWN, given_names, mentioned, names_of_vars
 from .nodes import Mapping
@@ -10,23 +10,29 @@ from .nodes import Mapping
 
 class Scope:
     def __init__(self, book, inventory):
-        self.book = book
+        self.book, self.inventory = book, inventory
         self.outside = inventory.names()
         self.plays = [play for play in book.plays if isinstance(play, Play)]
         self.tasks = book.tasks()
         self.given_names = None
-        self.holders = {}  # a task to the blocks round it, the innermost first, and its play
+        self.holders = {}  # a task or a block to the blocks round it, the innermost first, and its play
         for play in self.plays:
             for section in play.sections.values():
                 self.hold(section, [play])
 
     def hold(self, steps, holders):
         for step in steps:
+            self.holders[id(step)] = holders
             if isinstance(step, Block):
                 for part in step.parts.values():
                     self.hold(part, [step, *holders])
-            else:
-                self.holders[id(step)] = holders
+
+    def blocks_round(self, task):
+        return [holder for holder in self.holders.get(id(task), []) if isinstance(holder, Block)]
+
+    def is_in(self, task, block, part):
+        """Whether a task stands in a part of a block, however deep."""
+        return any(step is task for step in steps_below(block.parts.get(part, [])))
 
     def given(self):
         """All names that the book gives."""
@@ -37,7 +43,7 @@ class Scope:
         return self.given_names
 
     def names_in_scope(self, task):
-        """All names that anything gives; `item` in a loop alone."""
+        """All names that anything gives to a task, a block or a play; `item` in a loop alone."""
         names = set().union(self.outside, KNOWN, FURTHER, *(given_names(one) for one in self.tasks),
                             *(names_of_vars(holder.words) for holder in [task, *self.holders.get(id(task), [])]))
         return names if "loop" in task.words else names - {"item"}

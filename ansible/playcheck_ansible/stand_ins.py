@@ -2,7 +2,7 @@
 import re
 from functools import lru_cache
 
-from .parts import (AND, NOT, OPERAND, OR, PLAIN, RELATION, Part, Unfit, Writer, all_read, as_text, chained, denied,
+from .parts import (AND, OPERAND, OR, PLAIN, RELATION, Part, Unfit, Writer, all_read, as_text, chained, denied,
                     is_pattern, literal_part)
 
 TOKEN = re.compile(r"\s*(?:(?P<text>'(?:[^'\\]|\\.)*'|\"(?:[^\"\\]|\\.)*\")|(?P<float>\d+\.\d+)|(?P<int>\d+)"

@@ -3,7 +3,6 @@ import re
 
 from .books import Block, Play, Raw, Task, is_module, steps_below
 from .further_facts import FURTHER
-from .hints import culprit, nearest
 from .lines import Line, Printer
 from .magic import outside_names
 from .modules import CHANGES_FLOW, PROFILE, SETS_UNSEEN
@@ -12,6 +11,7 @@ from .names import (FACTS, KNOWN, given_names, mentioned, names_of_vars, outside
 from .nodes import Mapping, has_template, is_text, texts_of
 from .scope import Scope
 from .unread import leave_unread
+from .wording import nearest
 
 CUT = "refused: "
 RESULT_FIELDS = {"changed", "failed", "skipped", "skip_reason", "msg", "results"}
@@ -295,6 +295,8 @@ class Settler(Scope):
         if answer.code == "V03":
             return self.undocumented_field(task)
         if answer.code == "V01":
+            from .hints import culprit  # read where it is wanted: an accepted book has no finding
+
             known = self.names_in_scope(task)
             found = culprit(task, known)
             if found and found.name != "item" and self.has_unseen(task, line.play):

@@ -1,4 +1,5 @@
 # Values as Ansible converts them to the kind that a module declares, and `name=value` texts taken apart.
+import codecs
 import json
 import re
 
@@ -10,7 +11,10 @@ WHOLE = re.compile(r"\s*\{\{(?:(?!\}\}).)*\}\}\s*", re.S)
 OMITTED = re.compile(r"(\|\s*default\()\s*omit\s*(?:,\s*[Tt]rue\s*)?\)(\s*\}\})")
 # What stands for a parameter that `default(omit)` leaves out.
 INSTEAD = {"ints": "[]", "omitted": "''", "text": "''", "bool": "false", "list": "[]", "int": "0"}
-OPENING = {"{{": "}}", "{%": "%}", "{#": "#}"}
+BRACES = (("{{", "}}"), ("{%", "%}"), ("{#", "#}"))
+GAP_AND_TOKEN = re.compile(r"([ \n]?)([^ \n]*)")
+QUOTE = re.compile(r"""(?<!\\)["']""")
+ESCAPE = re.compile(r"""\\(?:U[a-fA-F0-9]{8}|u[a-fA-F0-9]{4}|x[a-fA-F0-9]{2}|N\{[^}]+\}|[\\'"abfnrtv])""")
 
 
 def is_whole(node):
@@ -19,31 +23,46 @@ def is_whole(node):
 
 
 def split_words(text):
-    """The words of a text as Ansible splits them: blanks in quotes and in braces divide nothing."""
-    words, current, quote, closing = [], "", "", ""
-    at = 0
-    while at < len(text):
-        pair, letter = text[at:at + 2], text[at]
-        if closing:
-            if pair == closing:
-                current, at, closing = current + letter, at + 1, ""
-                letter = text[at]
-        elif quote:
-            quote = "" if letter == quote and text[at - 1] != "\\" else quote
-        elif pair in OPENING:
-            closing = OPENING[pair]
-        elif letter in "'\"":
-            quote = letter
-        elif letter.isspace():
-            words += [current] * bool(current)
-            current = letter = ""
-        current += letter
-        at += 1
-    return words + [current] if current else words
+    """The words of a text as Ansible splits it: at blanks and ends of lines, but for those in quotes and in braces.
+
+    None where a quote or a brace isn't closed, which Ansible refuses.
+    """
+    words, quote, depths = [], "", [0] * len(BRACES)  # a word is a list of its pieces
+    for gap, token in GAP_AND_TOKEN.findall(text):
+        if token == "\\" and not quote:
+            continue
+        is_inside = quote or any(depths)
+        quote = quote_behind(token, quote)
+        depths = depths_behind(token, depths) if "{" in token or "}" in token else depths
+        if is_inside:
+            words[-1] += [gap, token]
+        elif token:
+            words.append([token])
+    return None if quote or any(depths) else ["".join(word) for word in words]
+
+
+def quote_behind(token, quote):
+    """The quote that is open behind a token, of the one that is open before it."""
+    for letter in QUOTE.findall(token):
+        quote = "" if letter == quote else quote or letter
+    return quote
+
+
+def depths_behind(token, depths):
+    """How many braces of each sort are open behind a token, of those that are open before it."""
+    return [max(depth + token.count(opening) - token.count(closing), 0)
+            for depth, (opening, closing) in zip(depths, BRACES)]
+
+
+def unescaped(text):
+    """A text with the letters that its escapes mean; a ValueError where one means none."""
+    text = ESCAPE.sub(lambda found: codecs.decode(found[0], "unicode-escape"), text)
+    text.encode()  # refuses half of a surrogate pair
+    return text
 
 
 def unquoted(text):
-    if len(text) > 1 and text[0] == text[-1] and text[0] in "'\"":
+    if len(text) > 1 and text[0] == text[-1] and text[0] in "'\"" and text[-2] != "\\":
         return text[1:-1]
     return text
 
@@ -51,12 +70,16 @@ def unquoted(text):
 def arguments_of(text):
     """The pairs of a `name=value` text, or None where a word of it is no such pair."""
     found = {}
-    for word in split_words(text):
-        name, equals, value = word.partition("=")
+    for word in split_words(text) or ():
+        try:
+            name, equals, value = unescaped(word).partition("=")
+        except ValueError:
+            return None
+        name = name.strip()
         if not equals or not re.fullmatch(r"[A-Za-z_][\w-]*", name):
             return None
-        found[name] = unquoted(value)
-    return found
+        found[name] = unquoted(value.strip())
+    return found or None
 
 
 def converted(node, kind, name=""):

@@ -1,4 +1,8 @@
-# What is said of a finding and of a book, in every format.
+# What is said of a finding and of a book, in every format; names that are near to one; lines in brackets.
+from dataclasses import dataclass
+
+from .nodes import texts_of
+from .problems import Place
 
 
 def message_of(finding):
@@ -23,3 +27,49 @@ def verdict_of(report):
         return f"{report.book}: refused by --strict, {count_of(report)}"
     budget = f", at most {report.budget} module calls" if report.is_whole and report.has_bound else ""
     return f"{report.book}: accepted, {count_of(report)}{budget}"
+
+
+@dataclass
+class Hint:
+    place: Place
+    detail: str = ""
+    help: str = ""
+
+
+def shown(node):
+    return ", ".join(str(text.value) for text in texts_of(node))
+
+
+def where(place, beside):
+    """In brackets the line of a place, with its file where that is another one than the finding's."""
+    if place is None or not place.line:
+        return ""
+    return f" (line {place.line})" if place.file == beside.file else f" ({place.file}:{place.line})"
+
+
+def named(task, beside):
+    """A task by its name, or else by its module, with its line."""
+    return f"'{task.name or task.module()}'{where(task.place, beside)}"
+
+
+def distance(one, other, most):
+    """The edit distance of two words, swapped neighbours counted as one edit; `most + 1` where it is more."""
+    if abs(len(one) - len(other)) > most:
+        return most + 1
+    before, row = [], list(range(len(other) + 1))
+    for i, letter in enumerate(one, 1):
+        new = [i]
+        for j, against in enumerate(other, 1):
+            cost = min(row[j] + 1, new[j - 1] + 1, row[j - 1] + (letter != against))
+            if i > 1 and j > 1 and letter == other[j - 2] and one[i - 2] == against:
+                cost = min(cost, before[j - 2] + 1)
+            new.append(cost)
+        before, row = row, new
+    return min(row[-1], most + 1)
+
+
+def nearest(word, names):
+    """The name that is nearest to a word, where one is near."""
+    most = 1 if len(word) < 5 else 2
+    scored = sorted((distance(word.lower(), name.lower(), most), name) for name in names if name != word)
+    return scored[0][1] if scored and scored[0][0] <= most else ""

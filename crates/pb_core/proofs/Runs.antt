@@ -73,19 +73,19 @@ module _ {P : Type 0} (core : RunCore P) where
   start_stopped k e reading s i = sym (ap (λ q. not q && is_possible s s.batches (start k)) (i.stopped ∙ e))
 
   pub start_not : (k : ℕ) → IsDisabled (start k) core → CanStart k core false
-  start_not k no reading s i = sym (no reading s i)
+  start_not k off reading s i = sym (off reading s i)
 
   pub start_ended : (k : ℕ) → play_of core core.current ≡ None → CanStart k core false
   start_ended k e = start_not k (cannot_start core k (ended_ready core k e))
 
   pub start_at : (k p : ℕ) (play : RunPlay) (q : Bool) → core.is_stopped ≡ false → play_of core core.current ≡ Some play → IsReadyAt core k (Some p)
       → ((xs : List Activity) → IsIndexOf core.index xs → q ≡ can_start_in core.forks play.is_linear xs p) → CanStart k core q
-  start_at k p play q going e at can reading s i =
+  start_at k p play q going e waits can reading s i =
       let found = play_is reading.name (scheduled_plays core) (scheduled_batches core) core.current play s.batches i.batches e in
       can (activities_of s) i.index
       ∙ ap₂ (λ n l. can_start_in n l (activities_of s) p) (sym i.forks) found.6.linear
       ∙ ap (λ bs. can_start_in s.forks found.0.play.is_linear (activities (current_steps bs) s.hosts) p) found.3
-      ∙ start_ready s found.0 found.1 found.3 (i.stopped ∙ going) k p (ap (λ bs. ready_place (slice_get (activities (current_steps bs) s.hosts) k)) (sym found.3) ∙ sym (at reading s i))
+      ∙ start_ready s found.0 found.1 found.3 (i.stopped ∙ going) k p (ap (λ bs. ready_place (slice_get (activities (current_steps bs) s.hosts) k)) (sym found.3) ∙ sym (waits reading s i))
 
   -- whether a Turn may happen
   and_none : (q : Bool) → q && false ≡ false

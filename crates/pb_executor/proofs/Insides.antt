@@ -1,5 +1,5 @@
 -- What the calls of a run do, by what its recorded machine does.
-use Rattle.std.proofs.Common.{◌≡◌, ◌++◌, Result, Ok, Err, IfOk, IfErr, OnErr, ℕ, Vec, true, refl, ap, subst}
+use Rattle.std.proofs.Common.{◌≡◌, ◌++◌, Result, Ok, Err, IfOk, IfErr, OnErr, OnOk, ℕ, Vec, true, refl, ap, subst}
 use Rattle.std.specs.declared.alloc.AllocError.{AllocError}
 use Rattle.std.specs.declared.alloc.Global.{Global}
 use Rattle.pb_finish.specs.declared.answer.Answer.{Answer}
@@ -62,7 +62,7 @@ module _ (a : Inside) (is : IsRun a) where
         waits_out (run_state b) is.accepted is.forks (subst (HasJob o a.recorded.history.items m.history.items _) idle x.taken.job).1
 
     -- an event happens again, where it can
-    pub follow_keeps : {E : Type 0} (v : EventView) (r : Result Unit₀ E) → OnOk r (Follows v a.recorded m) → OnErr r (StaysRecorded a.recorded m) → IsRun b
+    pub follow_keeps : {X E : Type 0} (v : EventView) (r : Result X E) → OnOk r (Follows v a.recorded m) → OnErr r (StaysRecorded a.recorded m) → IsRun b
     follow_keeps v (Ok t) follows stays = keeps (follows o never is.recorded).recorded
     follow_keeps v (Err e) follows stays = keeps (stays.recorded o is.recorded)
 
@@ -92,3 +92,11 @@ ok_run (Err e) P Q f p = p
 pub err_run : {X E : Type 0} (r : Result X E) (P Q : E → Type 0) → ((e : E) → P e → Q e) → IfErr r P → IfErr r Q
 err_run (Ok x) P Q f p = p
 err_run (Err e) P Q f p = f e p
+
+pub on_ok_run : {X E : Type 0} (r : Result X E) (P Q : Type 0) → (P → Q) → OnOk r P → OnOk r Q
+on_ok_run (Ok x) P Q f p = f p
+on_ok_run (Err e) P Q f p = p
+
+pub on_err_run : {X E : Type 0} (r : Result X E) (P Q : Type 0) → (P → Q) → OnErr r P → OnErr r Q
+on_err_run (Ok x) P Q f p = p
+on_err_run (Err e) P Q f p = f p

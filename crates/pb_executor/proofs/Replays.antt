@@ -3,13 +3,14 @@ use Rattle.std.proofs.Common.{◌≡◌, List, [], ◌∷◌, ◌++◌, map, app
 use Rattle.std.proofs.lemmas.List.{append-nil}
 use Rattle.pb_language.specs.Machine as machine
 use Rattle.pb_language.specs.Machine.{State, enabled, step}
-use Rattle.pb_run.specs.Follows.{EventView, enabled_of, event_view, if_enabled}
-use Rattle.pb_run.specs.Openings.{Opening, state_after}
+use Rattle.pb_run.specs.Follows.{EventView, enabled_of, event_view}
+use Rattle.pb_run.specs.Openings.{state_after}
 use Rattle.pb_run.specs.Recorded.{data_of, event_data}
 use Rattle.pb_run.specs.declared.event.Event.{Event}
 use Rattle.pb_executor.specs.Replays.{FollowsRun, with_enabled}
 use Rattle.pb_executor.specs.States.{RunState, opening_of, state_of}
 use Rattle.pb_executor.proofs.Driven.{moved}
+use Rattle.pb_executor.proofs.Turns.{run_more}
 
 abbrev events_in : List EventView → List machine.Event
 events_in vs = map (λ v. v.0) vs
@@ -21,10 +22,6 @@ data_is (e ∷ es) = ap (λ xs. event_data e ∷ xs) (data_is es)
 events_more : (vs : List EventView) (v : EventView) → events_in (vs ++ v ∷ []) ≡ events_in vs ++ v.0 ∷ []
 events_more [] v = refl
 events_more (w ∷ vs) v = ap (λ xs. w.0 ∷ xs) (events_more vs v)
-
-run_more : (s : State) (es : List machine.Event) (e : machine.Event) → machine.run_from s (es ++ e ∷ []) ≡ step (machine.run_from s es) e
-run_more s [] e = refl
-run_more s (x ∷ es) e = run_more (step s x) es e
 
 -- the history with an event behind it, where that can happen
 module _ (v : EventView) (old new : RunState) (f : FollowsRun v old new) where

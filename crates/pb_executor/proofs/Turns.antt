@@ -26,7 +26,7 @@ use Rattle.pb_executor.proofs.Driven.{moved}
 pub same_twice : (a b c : RunState) → IsSameRun a b → IsSameRun b c → IsSameRun a c
 same_twice a b c first then = then ∙ ap (λ (r : RunState). record r { history = c.history }) first
 
-run_more : (s : State) (es : List machine.Event) (e : machine.Event) → run_from s (es ++ e ∷ []) ≡ step (run_from s es) e
+pub run_more : (s : State) (es : List machine.Event) (e : machine.Event) → run_from s (es ++ e ∷ []) ≡ step (run_from s es) e
 run_more s [] e = refl
 run_more s (x ∷ es) e = run_more (step s x) es e
 

@@ -11,7 +11,6 @@ use Rattle.pb_language.specs.Start.{call_count, is_call, planned}
 use Rattle.pb_machine.specs.Hosts.{works}
 use Rattle.pb_machine.specs.Run.{FlatState, is_on_stage, put_host, step}
 use Rattle.pb_inventory.specs.Inventory.{inventory_view}
-use Rattle.pb_inventory.specs.declared.inventory.Inventory.{Inventory}
 use Rattle.pb_history.specs.Happens.{MayStart, Starts, task_of_start}
 use Rattle.pb_history.specs.Jobs.{CallData, entry_calls, pass_calls}
 use Rattle.pb_history.proofs.Actives.{still_put}

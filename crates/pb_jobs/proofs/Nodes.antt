@@ -1,5 +1,5 @@
 -- The task where a host stands.
-use Rattle.std.proofs.Common.{◌≡◌, ◌<◌, ◌≤◌, ℕ, zero, suc, ◌+◌, ◌-◌, List, [], ◌∷◌, length, map, Vec, true, false, nat_lt, cond, Some, slice_get, get_or, sym, ap, subst, ◌∙◌, arith}
+use Rattle.std.proofs.Common.{◌≡◌, ◌<◌, ◌≤◌, ℕ, zero, suc, ◌+◌, List, [], ◌∷◌, length, map, Vec, true, false, nat_lt, cond, Some, slice_get, get_or, sym, ap, subst, ◌∙◌, arith}
 use Rattle.std.proofs.lemmas.Bool.{le-ltb, lt-ltb}
 use Rattle.std.specs.declared.alloc.Global.{Global}
 use Rattle.pb_language.specs.Notify.{HandlerNames, all_notified, handlers_are}

@@ -3,8 +3,6 @@ use Rattle.std.proofs.Common.{◌≡◌, ℕ, List, [], Bool, true, cond, Option
 use Rattle.std.specs.declared.alloc.Global.{Global}
 use Rattle.std.specs.declared.sync.Arc.{Arc}
 use denote.Ref.{Bor}
-use Rattle.pb_semantics.specs.Data.{Fields, no_fields, field, put_all, put_field}
-use Rattle.pb_language.specs.plain.Gives as plain
 use Rattle.pb_position.specs.Texts.{text_of}
 use Rattle.pb_value.specs.View.{view}
 use Rattle.pb_value.specs.declared.value.Value.{Value}
@@ -23,7 +21,3 @@ text_bytes (Some t) = refl
 
 pub text_told : (o : Option (Arc (String Global) Global)) (b : Bool) (s : List ℕ) → option_map (λ t. string_bytes t.value) o ≡ cond b (Some s) None → b ≡ true → text_of o ≡ s
 text_told o b s e h = text_bytes o ∙ ap bytes_or (e ∙ ap (λ q. cond q (Some s) None) h)
-
-pub same_puts : (fs vars : Fields) → put_all fs vars ≡ plain.put_all fs vars
-same_puts no_fields vars = refl
-same_puts (field n d fs) vars = same_puts fs (put_field n d vars)

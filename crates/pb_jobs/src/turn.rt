@@ -2,7 +2,8 @@
 ghost use Rattle.std.specs.Prelude.{◌≡◌, IfErr, IfOk, OnErr, OnOk, Some, length, slice_set};
 ghost use Rattle.pb_language.specs.Machine.{turn};
 ghost use Rattle.pb_core.specs.Words.{IsDisabled, TurnsTo, tickets_of};
-ghost use Rattle.pb_jobs.specs.Machines.{BeginsAfter, CountsMore, GoesOnTo, StopsAs, TurnsAs};
+ghost use Rattle.pb_jobs.specs.Machines.{BeginsAfter, CountsMore, GoesOnTo, IsSameBut};
+ghost use Rattle.pb_jobs.specs.Machines.{StopsAs, TurnsAs};
 
 use crate::active::ActiveBatch;
 use crate::begin::know;
@@ -23,7 +24,7 @@ impl Machine<'_> {
         ensures turns { OnOk result (TurnsAs self.old self.new) }
         ensures tickets { OnOk result (tickets_of self.new.core ≡ tickets_of self.old.core) }
         ensures calls { OnOk result (self.new.calls ≡ self.old.calls) }
-        ensures err { OnErr result (self.new ≡ self.old) }
+        ensures err { OnErr result (IsSameBut self.old self.new) }
         ensures there { IfErr result (λ e. e ≡ CoreFault.NotThere
             → IsDisabled turn self.old.core) }
         ensures full { IfErr result (λ e. e ≡ CoreFault.Full → ⊥) }

@@ -1,5 +1,5 @@
 -- Events that happen again, where they can; and when memory is wanted.
-use Rattle.std.proofs.Common.{◌≡◌, ◌<◌, ℕ, zero, suc, List, [], ◌∷◌, ◌++◌, Vec, length, map, get_or, Bool, true, false, not, ◌&&◌, ◌||◌, nat_lt, cond, Option, Some, None, is_some, refl, sym, ap, ap₂, subst, ◌∙◌, arith}
+use Rattle.std.proofs.Common.{◌≡◌, ◌<◌, ℕ, zero, suc, List, [], ◌∷◌, ◌++◌, Vec, length, map, get_or, Bool, true, false, not, ◌&&◌, ◌||◌, cond, Option, Some, None, is_some, refl, sym, ap, subst, ◌∙◌, arith}
 use Rattle.std.specs.declared.alloc.Global.{Global}
 use Rattle.std.proofs.lemmas.Bool.{lt-ltb}
 use Rattle.std.proofs.lemmas.List.{append-nil, map-append}
@@ -20,19 +20,19 @@ use Rattle.pb_finish.specs.Answers.{answer_data}
 use Rattle.pb_finish.specs.declared.answer.Answer.{Answer}
 use Rattle.pb_core.specs.Activities.{number_of}
 use Rattle.pb_core.specs.Cores.{tickets_of}
-use Rattle.pb_core.specs.Events.{CanStart, CanTurn, IsDisabled, IsNext}
+use Rattle.pb_core.specs.Events.{CanStart, CanTurn, IsNext}
 use Rattle.pb_jobs.specs.Machines.{TurnsAs}
 use Rattle.pb_jobs.specs.declared.job.Job.{Job}
 use Rattle.pb_run.specs.Calls.{Gives, StaysRecorded, TakesSome, records_some}
-use Rattle.pb_run.specs.Follows.{EventView, Follows, HasFollowed, event_view, if_enabled, why_of}
+use Rattle.pb_run.specs.Follows.{EventView, Follows, HasFollowed, event_view}
 use Rattle.pb_run.specs.Openings.{Opening, flat_after, state_after}
-use Rattle.pb_run.specs.Recorded.{IsRecorded, Stops, data_of, is_none, is_over, stop_events}
+use Rattle.pb_run.specs.Recorded.{IsRecorded, Stops, data_of, is_none, stop_events}
 use Rattle.pb_run.specs.Starts.{MayTurn, StartsJob}
 use Rattle.pb_run.specs.declared.event.Event.{Event}
 use Rattle.pb_run.specs.declared.event.Event.TheVariants.{Start, Give, Turn, Stop}
 use Rattle.pb_run.specs.declared.event.Given.{Given}
 use Rattle.pb_run.specs.declared.recorded.RecordedMachine.{RecordedMachine}
-use Rattle.pb_run.proofs.Jobs.{due_is, may_give, next_starts}
+use Rattle.pb_run.proofs.Jobs.{may_give, next_starts}
 use Rattle.pb_run.proofs.Outs.{works_out}
 use Rattle.pb_run.proofs.Records.{goes_on_at}
 use Rattle.pb_run.proofs.Stories.{out_at}
@@ -59,7 +59,7 @@ module _ (o : Opening) (m : RecordedMachine) where
   enabled_now e = ap (λ s. machine.enabled s e) same_now ∙ same_enabled flat_now e
 
   stopped_off : (e : machine.Event) → IsRecorded o m → m.is_stopped ≡ true → enabled flat_now e ≡ false
-  stopped_off e recorded stopped = ap (λ q. not q && is_possible flat_now flat_now.batches e) (recorded.is_stopped ∙ stopped)
+  stopped_off e recorded still = ap (λ q. not q && is_possible flat_now flat_now.batches e) (recorded.is_stopped ∙ still)
 
 module _ (old new : RecordedMachine) (v : EventView) where
   -- nothing happens where the event can't
@@ -80,7 +80,7 @@ module _ (old new : RecordedMachine) (v : EventView) where
 
 -- a run that was stopped
 pub follows_stopped : (m : RecordedMachine) (v : EventView) → m.is_stopped ≡ true → Follows v m m
-follows_stopped m v stopped = λ o never recorded. follows_off m m v o recorded (stopped_off o m v.0 recorded stopped) (stays_same m)
+follows_stopped m v still = λ o never recorded. follows_off m m v o recorded (stopped_off o m v.0 recorded still) (stays_same m)
 
 -- a Start
 pub follows_no_start : (m : RecordedMachine) (k : ℕ) (q : Bool) → CanStart k m.machine.core q → q ≡ false → Follows (start k, []) m m
@@ -117,19 +117,15 @@ pub follows_no_turn : (m : RecordedMachine) (q : Bool) → CanTurn m.machine.cor
 follows_no_turn m q can off = λ o never recorded.
     follows_off m m (turn, []) o recorded (sym (can recorded.reading (flat_now o m) recorded.machine.kept.core) ∙ off) (stays_same m)
 
-pub follows_disabled : (old new : RecordedMachine) → IsDisabled turn old.machine.core → StaysRecorded old new → Follows (turn, []) old new
-follows_disabled old new off stays = λ o never recorded.
-    follows_off old new (turn, []) o recorded (off recorded.reading (flat_now o old) recorded.machine.kept.core) stays
-
 one_turn : (s : FlatState) → enabled s turn ≡ true → MayTurn 1 s
 one_turn s on zero l = on
 one_turn s on (suc i) l = absurd (omega (arith, l))
 
 pub follows_turn : (old new : RecordedMachine) (q : Bool) → CanTurn old.machine.core q → q ≡ true → new.is_stopped ≡ old.is_stopped → new.history.items ≡ old.history.items ++ Turn ∷ [] → TurnsAs old.machine new.machine
     → tickets_of new.machine.core ≡ tickets_of old.machine.core → new.machine.calls ≡ old.machine.calls → Follows (turn, []) old new
-follows_turn old new q can yes still history turns tickets calls = λ o never recorded.
+follows_turn old new q can may still history turns tickets calls = λ o never recorded.
     let s = flat_now o old in
-    let on : enabled s turn ≡ true = sym (can recorded.reading s recorded.machine.kept.core) ∙ yes in
+    let on : enabled s turn ≡ true = sym (can recorded.reading s recorded.machine.kept.core) ∙ may in
     follows_on old new (turn, []) o Turn on history refl (goes_on_at old new 1 still history o recorded (one_turn s on) (turns recorded.reading s recorded.machine on) tickets calls)
 
 -- a Stop
@@ -162,9 +158,9 @@ records_due None [] n l = lt-ltb 0 n l
 records_due None (b ∷ bs) n l = lt-ltb 0 n l
 
 pub wants_turn : (m : RecordedMachine) (q : Bool) → m.is_stopped ≡ false → CanTurn m.machine.core q → q ≡ true → TakesSome m
-wants_turn m q going can yes = λ o recorded.
+wants_turn m q going can may = λ o recorded.
     let s = now o m in
-    let on : machine.enabled s turn ≡ true = enabled_now o m turn ∙ sym (can recorded.reading (flat_now o m) recorded.machine.kept.core) ∙ yes in
+    let on : machine.enabled s turn ≡ true = enabled_now o m turn ∙ sym (can recorded.reading (flat_now o m) recorded.machine.kept.core) ∙ may in
     let some : 0 < turns_due s = due_some s on (length s.batches) (batch_there s s.batches (and-right (not s.is_stopped) (machine.is_possible s s.batches turn) on)) in
     let still : s.is_stopped ≡ false = ap (λ (x : State). x.is_stopped) (same_now o m) ∙ recorded.is_stopped ∙ going in
     let after = tree.turned s in

@@ -1,17 +1,17 @@
 -- The jobs that a Start or a Give hands out.
-use Rattle.std.proofs.Common.{◌≡◌, ◌<◌, ℕ, zero, suc, ◌+◌, List, [], ◌∷◌, length, Bool, true, false, not, ◌&&◌, cond, Option, Some, None, option_map, refl, sym, ap, ap₂, ◌∙◌, arith}
+use Rattle.std.proofs.Common.{◌≡◌, ◌<◌, ℕ, zero, suc, ◌+◌, List, [], ◌∷◌, length, true, false, not, ◌&&◌, cond, Option, Some, None, option_map, refl, ap, ap₂, ◌∙◌, arith}
 use Rattle.pb_semantics.proofs.Bools.{and-right}
 use Rattle.pb_language.specs.Cases.{action_name}
 use Rattle.pb_language.specs.Drive as drive
 use Rattle.pb_language.specs.Drive.{Starting}
 use Rattle.pb_language.specs.Expression.{Name}
 use Rattle.pb_language.specs.Program.{Batch}
-use Rattle.pb_language.specs.Give.{Answer, Ended, asks_again}
+use Rattle.pb_language.specs.Give.{Answer}
 use Rattle.pb_language.specs.Machine as machine
 use Rattle.pb_language.specs.Machine.{Host, State, give, start, turn}
 use Rattle.pb_language.specs.Start.{Entry, Pass, acts, call_count, calls, is_call, skips}
 use Rattle.pb_machine.specs.Hosts.{FlatHost, FlatStage, stands, works, at, at_end, left_play}
-use Rattle.pb_machine.specs.Run.{FlatState, can_start, current_steps, enabled, host_at, is_out, is_possible, next_start, of_host, plan_steps, put_host, step}
+use Rattle.pb_machine.specs.Run.{FlatState, can_start, current_steps, enabled, host_at, is_out, is_possible, next_start, of_host, plan_steps, put_host}
 use Rattle.pb_machine.specs.Simulation.{hosts_of, state_of}
 use Rattle.pb_machine.specs.Steps.{Step}
 use Rattle.pb_machine.specs.Ways.{host_of, step_at}

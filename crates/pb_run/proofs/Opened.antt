@@ -1,8 +1,7 @@
 -- A machine that was opened is recorded: nothing has happened yet.
-use Rattle.std.proofs.Common.{◌≡◌, ◌<◌, ℕ, zero, suc, List, [], ◌∷◌, Vec, length, map, replicate, get_or, true, false, Option, Some, None, is_some, refl, sym, ap, ap₂, subst, ◌∙◌, arith}
+use Rattle.std.proofs.Common.{◌≡◌, ℕ, zero, suc, List, [], ◌∷◌, Vec, length, map, replicate, get_or, true, false, Some, None, is_some, refl, sym, ap, subst, ◌∙◌, arith}
 use Rattle.std.specs.declared.alloc.Global.{Global}
 use Rattle.std.proofs.lemmas.List.{length-map}
-use Rattle.pb_language.specs.Expression.{Name}
 use Rattle.pb_language.specs.Program as program
 use Rattle.pb_language.specs.Program.{all_batches}
 use Rattle.pb_language.specs.Theorem.{are_distinct, host_names}

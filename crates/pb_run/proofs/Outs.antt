@@ -1,11 +1,11 @@
 -- The jobs that are out, by the tickets of the core's hosts.
-use Rattle.std.proofs.Common.{◌≡◌, ◌<◌, ◌≤◌, ℕ, zero, suc, List, [], ◌∷◌, Vec, length, map, get_or, Bool, true, false, Option, Some, None, is_some, option_map, slice_get, refl, sym, ap, ap₂, subst, ◌∙◌, arith}
+use Rattle.std.proofs.Common.{◌≡◌, ◌<◌, ◌≤◌, ℕ, zero, suc, List, [], ◌∷◌, Vec, length, map, get_or, Bool, false, Option, Some, None, is_some, option_map, slice_get, refl, sym, ap, subst, ◌∙◌, arith}
 use Rattle.std.specs.declared.alloc.Global.{Global}
 use Rattle.std.proofs.lemmas.Option.{slice_get_within}
 use Rattle.pb_language.specs.Machine as machine
 use Rattle.pb_language.specs.Machine.{Host, Recap, State, empty_recap, of_host}
 use Rattle.pb_language.specs.Program.{Batch}
-use Rattle.pb_machine.specs.Hosts.{FlatHost, FlatStage, Location, stands, works}
+use Rattle.pb_machine.specs.Hosts.{FlatHost, FlatStage, stands, works}
 use Rattle.pb_machine.specs.Run.{FlatState, current_steps, host_at}
 use Rattle.pb_machine.specs.Simulation.{hosts_of, state_of}
 use Rattle.pb_machine.specs.Steps.{Step}

@@ -1,20 +1,17 @@
 -- What the calls of a recorded machine do, by what they do to the machine.
-use Rattle.std.proofs.Common.{◌≡◌, ◌<◌, ◌≤◌, ◌||◌, Result, Ok, Err, OnErr, ℕ, zero, suc, ◌+◌, List, [], ◌∷◌, ◌++◌, Vec, length, map, replicate, get_or, set, Bool, true, false, not, ◌&&◌, ◌==◌, cond, Option, Some, None, is_some, slice_get, refl, sym, ap, ap₂, subst, ◌∙◌, arith}
+use Rattle.std.proofs.Common.{◌≡◌, ◌<◌, ◌||◌, Result, Ok, Err, OnErr, ℕ, zero, suc, ◌+◌, List, [], ◌∷◌, ◌++◌, Vec, length, map, replicate, get_or, set, Bool, true, false, not, ◌&&◌, cond, Option, Some, None, slice_get, refl, sym, ap, ap₂, subst, ◌∙◌, arith}
 use Rattle.std.specs.declared.alloc.Global.{Global}
 use Rattle.std.proofs.lemmas.Bool.{eqb-true, eq-eqb}
 use Rattle.std.proofs.lemmas.List.{append-nil, length-map}
-use Rattle.pb_language.specs.Machine as machine
 use Rattle.pb_language.specs.Machine.{State, empty_recap, give, start, stop, turn}
 use Rattle.pb_language.specs.Program.{Batch, Inventory}
-use Rattle.pb_machine.specs.Run.{FlatState, current_steps, enabled, is_possible, next_start}
+use Rattle.pb_machine.specs.Run.{FlatState, current_steps, enabled, is_possible}
 use Rattle.pb_machine.specs.Simulation.{state_of}
 use Rattle.pb_machine.proofs.Machines.{same_run}
 use Rattle.pb_history.specs.Happens.{turned}
-use Rattle.pb_history.specs.Jobs.{handed_to, is_out_at, job_calls, ticket_out}
-use Rattle.pb_history.specs.Turns.{Next, next_of, turns_due}
+use Rattle.pb_history.specs.Jobs.{handed_to, is_out_at, job_calls}
 use Rattle.pb_finish.specs.Answers.{answer_data}
 use Rattle.pb_finish.specs.declared.answer.Answer.{Answer}
-use Rattle.pb_core.specs.Activities.{number_of}
 use Rattle.pb_start.specs.declared.passes.Pass.{Pass}
 use Rattle.pb_core.specs.Cores.{tickets_of}
 use Rattle.pb_core.specs.Events as ends
@@ -33,13 +30,11 @@ use Rattle.pb_jobs.specs.declared.machine.Answered.{Answered}
 use Rattle.pb_jobs.specs.declared.machine.Answered.TheVariants as answered
 use Rattle.pb_jobs.specs.declared.machine.Machine.{Machine}
 use Rattle.pb_run.specs.Calls.{AreOut, Gives, HandsOut, IsRefused, IsTold, StaysRecorded, but_host, given_as, is_ticket, refusal_at, refusal_in, same_hosts}
-use Rattle.pb_run.specs.Openings.{AreCounted, ArePlaces, IsNeverStuck, Opening, flat_after, state_after}
+use Rattle.pb_run.specs.Openings.{AreCounted, ArePlaces, Opening, flat_after, state_after}
 use Rattle.pb_run.specs.Recorded.{IsRecorded, IsStopped, Stands, Stops, data_of, event_data, is_none, is_over, recaps_in}
-use Rattle.pb_run.specs.Starts.{GoesOn, HasTurned, IsStarted, MayTurn, StartsJob, start_behind}
+use Rattle.pb_run.specs.Starts.{GoesOn, MayTurn, StartsJob, start_behind}
 use Rattle.pb_run.specs.declared.event.Event.{Event}
 use Rattle.pb_run.specs.declared.event.Event.TheVariants.{Start, Give, Turn, Stop}
-use Rattle.pb_run.specs.declared.event.Given.{Given}
-use Rattle.pb_run.specs.declared.event.GiveError.{GiveError}
 use Rattle.pb_run.specs.declared.event.GiveError.TheVariants as refusal
 use Rattle.pb_run.specs.declared.recorded.RecordedMachine.{RecordedMachine}
 use Rattle.pb_run.proofs.Events.{after_turns, behind, handed_turned}

@@ -1,26 +1,22 @@
 -- A machine that is recorded goes on by Turns, a Start, a Give or a Stop, and is recorded still.
-use Rattle.std.proofs.Common.{◌≡◌, ◌≢◌, ◌<◌, ℕ, zero, suc, ◌+◌, List, [], ◌∷◌, ◌++◌, Vec, length, map, replicate, get_or, set, Bool, true, false, not, ◌&&◌, ◌||◌, nat_eq, cond, Option, Some, None, is_some, option_map, inl, inr, refl, sym, ap, ap₂, subst, ◌∙◌, arith}
+use Rattle.std.proofs.Common.{◌≡◌, ◌≢◌, ◌<◌, ℕ, suc, ◌+◌, List, [], ◌∷◌, ◌++◌, Vec, length, map, replicate, get_or, set, Bool, true, false, not, ◌&&◌, ◌||◌, cond, Option, Some, None, is_some, inl, inr, refl, sym, ap, ap₂, subst, ◌∙◌, arith}
 use Rattle.std.specs.declared.alloc.Global.{Global}
 use Rattle.std.proofs.lemmas.Bool.Decides.{eqb_tells}
 use Rattle.std.proofs.lemmas.List.{length-map, get_or-set_same, get_or-set_other}
 use Rattle.pb_semantics.proofs.Bools.{and-right}
 use Rattle.pb_language.specs.Cases.{action_name}
 use Rattle.pb_language.specs.Give.{Answer}
-use Rattle.pb_language.specs.Machine as machine
 use Rattle.pb_language.specs.Machine.{Event, State, give, start, stop, turn}
 use Rattle.pb_language.specs.Program.{Batch}
 use Rattle.pb_language.specs.Start.{call_count}
-use Rattle.pb_machine.specs.Hosts.{FlatHost, works}
-use Rattle.pb_machine.specs.Run.{FlatState, enabled, happened, host_at, is_possible, put_host, step, plan_steps}
+use Rattle.pb_machine.specs.Hosts.{works}
+use Rattle.pb_machine.specs.Run.{FlatState, enabled, happened, host_at, is_possible, put_host, step}
 use Rattle.pb_machine.specs.Simulation.{state_of}
-use Rattle.pb_machine.specs.Ways.{step_at}
 use Rattle.pb_machine.proofs.Machines.{same_run}
-use Rattle.pb_history.specs.Happens.{MayStart, Starts, Works, step_in, task_of_start, turned}
-use Rattle.pb_history.specs.Jobs.{handed_to, is_out_at, job_calls, pass_calls, ticket_out, last_place}
+use Rattle.pb_history.specs.Happens.{MayStart, Starts, Works, task_of_start, turned}
+use Rattle.pb_history.specs.Jobs.{handed_to, is_out_at, job_calls, ticket_out, last_place}
 use Rattle.pb_history.proofs.Histories.{handed_join, last_more}
-use Rattle.pb_start.specs.declared.passes.Pass.{Pass}
 use Rattle.pb_core.specs.Cores.{tickets_of}
-use Rattle.pb_core.specs.Readings.{Reading}
 use Rattle.pb_core.proofs.Steps.{steps_again, steps_start}
 use Rattle.pb_core.proofs.Tickets.{hosts_stay}
 use Rattle.pb_jobs.specs.Calls.{call_data}
@@ -29,7 +25,7 @@ use Rattle.pb_jobs.specs.declared.job.Call.{Call}
 use Rattle.pb_jobs.specs.declared.machine.Answered.{Answered}
 use Rattle.pb_jobs.specs.declared.machine.Answered.TheVariants as answered
 use Rattle.pb_jobs.specs.declared.machine.Machine.{Machine}
-use Rattle.pb_run.specs.Openings.{AllEnabled, AreCounted, ArePlaces, IsNeverStuck, Opening, flat_after, state_after}
+use Rattle.pb_run.specs.Openings.{AreCounted, ArePlaces, IsNeverStuck, Opening, flat_after, state_after}
 use Rattle.pb_run.specs.Calls.{and_host, but_host}
 use Rattle.pb_run.specs.Recorded.{Stands}
 use Rattle.pb_run.specs.Starts.{MayTurn}

@@ -1,5 +1,5 @@
 -- What there is to do in a run, by what its core answers.
-use Rattle.std.proofs.Common.{◌≡◌, ◌<◌, ℕ, zero, suc, ◌+◌, List, [], ◌∷◌, ◌++◌, Vec, length, replicate, Bool, true, false, not, ◌&&◌, cond, Option, Some, None, option_map, refl, sym, ap, ap₂, subst, ◌∙◌, arith}
+use Rattle.std.proofs.Common.{◌≡◌, ℕ, ◌+◌, List, [], ◌∷◌, Vec, replicate, Bool, true, false, cond, Option, Some, None, option_map, refl, sym, ap, ◌∙◌, arith}
 use Rattle.std.proofs.lemmas.List.{append-nil}
 use Rattle.std.specs.declared.alloc.Global.{Global}
 use Rattle.pb_language.specs.Drive.{Starting}
@@ -17,16 +17,16 @@ use Rattle.pb_core.specs.Cores.{IsCore}
 use Rattle.pb_core.specs.Events.{CanTurn, IsNext, TellsEnd, TurnsTo, is_over}
 use Rattle.pb_core.specs.declared.run.RunCore.{RunCore}
 use Rattle.pb_jobs.specs.declared.job.Job.{Job}
-use Rattle.pb_run.specs.Calls.{HandsOutNone, HasJob, IsTakenFrom, IsWaiting, Takes, taken_events, taken_next}
-use Rattle.pb_run.specs.Openings.{IsNeverStuck, Opening, flat_after, state_after}
+use Rattle.pb_run.specs.Calls.{HandsOutNone, HasJob, IsWaiting, Takes, taken_events, taken_next}
+use Rattle.pb_run.specs.Openings.{Opening, flat_after, state_after}
 use Rattle.pb_run.specs.Recorded.{IsRecorded, data_of, is_none}
-use Rattle.pb_run.specs.Starts.{GoesOn, HasTurned, IsStarted, MayTurn, StartsJob}
+use Rattle.pb_run.specs.Starts.{GoesOn, MayTurn, StartsJob}
 use Rattle.pb_run.specs.declared.event.Event.{Event}
 use Rattle.pb_run.specs.declared.event.Event.TheVariants.{Turn}
 use Rattle.pb_run.specs.declared.event.Taken.TheVariants as taken
 use Rattle.pb_run.specs.declared.recorded.RecordedMachine.{RecordedMachine}
 use Rattle.pb_run.proofs.Events.{turned_going}
-use Rattle.pb_run.proofs.Jobs.{due_is, never_due, next_rests, next_starts, next_stopped}
+use Rattle.pb_run.proofs.Jobs.{due_is, next_rests, next_starts, next_stopped}
 
 abbrev Core : Type 0
 Core = RunCore (Vec Pass Global)

@@ -1,5 +1,5 @@
 -- Events of a run that happen again, where they can.
-use Rattle.std.specs.Prelude.{◌≡◌, ◌++◌, ◌×◌, List, [], ◌∷◌, cond, map, Option, Some, None}
+use Rattle.std.specs.Prelude.{◌≡◌, ◌++◌, List, [], ◌∷◌, cond, map, Option, Some, None}
 use Rattle.pb_language.specs.Machine as machine
 use Rattle.pb_language.specs.Machine.{State, enabled, step}
 use Rattle.pb_finish.specs.declared.answer.Answer.{Answer}

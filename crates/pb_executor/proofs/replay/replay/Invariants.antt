@@ -8,7 +8,7 @@ use Rattle.pb_executor.proofs.replay.replay.Given as goal
 -- what can happen of the events that are left comes behind what has happened
 abbrev pub invariant-loop-event : goal.invariant-loop-event
 invariant-loop-event l = record {
-  same : IsSameRun (opened l.checked.now l.forks) l.run;
+  same : IsSameRun (opened l.checked l.forks) l.run;
   left : with_enabled l.run (map event_view (drop l.event-index l.events))
-      ≡ enabled_of (state_of (opened l.checked.now l.forks)) (map event_view l.events);
+      ≡ enabled_of (state_of (opened l.checked l.forks)) (map event_view l.events);
 }

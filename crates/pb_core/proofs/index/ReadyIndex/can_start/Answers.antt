@@ -1,4 +1,3 @@
-use Rattle.std.proofs.Common.{◌<◌}
 use Rattle.pb_core.proofs.Indexes.{start_free, start_full, start_linear}
 use Rattle.pb_core.proofs.index.ReadyIndex.can_start.Goals as goal
 

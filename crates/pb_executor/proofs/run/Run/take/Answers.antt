@@ -1,11 +1,12 @@
-use Rattle.std.proofs.Common.{◌≡◌, IfOk, ℕ, true, subst}
+use Rattle.std.proofs.Common.{◌≡◌, IfOk, OnErr, ℕ, true, subst}
 use Rattle.pb_run.specs.Calls.{Takes}
 use Rattle.pb_run.specs.declared.event.Taken.TheVariants as taken
 use Rattle.pb_history.specs.Jobs.{is_out_at}
 use Rattle.pb_executor.specs.Drives.{TakesRun}
 use Rattle.pb_executor.specs.Inside.{run_state}
+use Rattle.pb_executor.specs.Refusals.{TakesSomeRun}
 use Rattle.pb_executor.specs.States.{RunState, state_of}
-use Rattle.pb_executor.proofs.Insides.{idle_run, ok_run, sound_run, take_keeps, takes_run}
+use Rattle.pb_executor.proofs.Insides.{idle_run, ok_run, on_err_run, sound_run, take_keeps, takes_run, takes_some}
 use Rattle.pb_executor.proofs.run.Run.take.Goals as goal
 
 pub invariant_of-self : goal.invariant_of-self
@@ -27,3 +28,9 @@ returns-clause-idle c =
 pub returns-clause-sound : goal.returns-clause-sound
 returns-clause-sound c =
     sound_run (record c.self.inside { recorded = c.take.new.self }) (take_keeps c.self.inside c.self.invariant c.take.new.self c.take.result c.take.ensures.takes c.take.ensures.err)
+
+pub returns-clause-memory : goal.returns-clause-memory
+returns-clause-memory c =
+    let a = c.self.inside in
+    subst (λ (r : RunState). OnErr c.take.result (TakesSomeRun r)) c.self.view_is
+    (on_err_run c.take.result _ (TakesSomeRun (run_state a)) (takes_some a c.self.invariant) c.take.ensures.memory)

@@ -4,9 +4,8 @@ use Rattle.pb_language.specs.Give.{last_attempts, message_of}
 use Rattle.pb_language.specs.Machine.{notified_by}
 use Rattle.pb_language.specs.Notify.{handlers_are}
 use Rattle.pb_finish.specs.Endings.{fails}
-use Rattle.pb_value.specs.View.{fields_view}
 use Rattle.pb_jobs.proofs.Nodes.{at_work}
-use Rattle.pb_jobs.proofs.Outcomes.{same_puts, text_told}
+use Rattle.pb_jobs.proofs.Outcomes.{text_told}
 use Rattle.pb_jobs.proofs.scene.RunScene.ended.Goals as goal
 
 pub returns : goal.returns
@@ -30,5 +29,5 @@ returns c = λ reading s scene w xs es comes last ms told out.
         is_rescued = sym prepares.rescued;
         text = λ q. text_told o.failure (fails t ended) (message_of t.loop ended) out.failure q;
       };
-      writes = λ vars. same_puts (fields_view o.writes.items) vars ∙ out.writes vars;
+      writes = out.writes;
     }

@@ -1,3 +1,5 @@
+use Rattle.pb_run.proofs.Follows.{wants_start, wants_turn}
+use Rattle.pb_run.proofs.Records.{on_err}
 use Rattle.pb_run.proofs.Takes.{stay, stays, takes_rested, takes_started, takes_stopped}
 use Rattle.pb_run.proofs.recorded.RecordedMachine.take.Goals as goal
 
@@ -13,3 +15,11 @@ pub returns-in-None-clause-takes : goal.returns-in-None-clause-takes
 returns-in-None-clause-takes c =
     let m = c.args.self.now in
     rw c.resting.ensures (takes_rested m m 0 m.machine.core c.if-self.false (stay m.machine.core) c.if-can_turn.ensures.turn _ c.in-None.ensures c.has_ended.ensures.ended (stays m))
+
+pub returns-then-can_turn-clause-memory : goal.returns-then-can_turn-clause-memory
+returns-then-can_turn-clause-memory c =
+    on_err c.take_turned.result _ (wants_turn c.args.self.now c.can_turn.result c.if-self.false c.can_turn.ensures.turn c.if-can_turn.true)
+
+pub returns-in_err-job-in-Some-clause-memory : goal.returns-in_err-job-in-Some-clause-memory
+returns-in_err-job-in-Some-clause-memory c =
+    on_err c.from_residual.result _ (wants_start c.args.self.now c.in-Some.host c.can_turn.result c.if-self.false c.can_turn.ensures.turn c.if-can_turn.false c.in-Some.ensures)

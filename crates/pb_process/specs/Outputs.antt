@@ -1,5 +1,5 @@
 -- What the output of a program is as an answer (this project's own).
-use Rattle.std.specs.Prelude.{◌≡◌, ◌⊎◌, List, ℕ, Bool, true, false, cond, is_some, Option, Some}
+use Rattle.std.specs.Prelude.{◌≡◌, ◌⊎◌, Bool, true, false, cond, is_some, Option, Some}
 use Rattle.std.specs.Prelude.{None, codes}
 use Rattle.pb_semantics.specs.Data.{Data, Fields, boolean, field_value, put_field, rec}
 use Rattle.pb_language.specs.Give.{object}

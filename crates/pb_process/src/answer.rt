@@ -1,13 +1,15 @@
 // The answer that a program gives by what it writes and how it ends.
-ghost use Rattle.std.specs.Prelude.{◌≡◌, ◌⊎◌, IfOk, codes};
+ghost use Rattle.std.specs.Prelude.{◌≡◌, IfOk, false};
 ghost use Rattle.pb_semantics.specs.Words.{rec};
 ghost use Rattle.pb_value.specs.Words.{fields_view, json_data, view};
-ghost use Rattle.pb_process.specs.Outputs.{IsOutput, IsOutputOf, ended_fields};
+ghost use Rattle.pb_runner.specs.Scripts.{says_unreachable};
+ghost use Rattle.pb_process.specs.Outputs.{IsOutput, IsOutputOf, IsRecord, ended_fields};
 
 use pb_finish::{Answer, Why};
 use pb_runner::script::is_unreachable;
-use pb_value::{Fields, JsonFault, Value, field_of, own_fields, put_field, read_json};
+use pb_value::{Fields, JsonFault, Value, Weighed, field_of, own_fields, put_field, read_json};
 use std::alloc::{AllocError, Global};
+use std::sync::Arc;
 
 /// What the output of a program is as an answer: an object with `unreachable` true says that the
 /// host can't be reached, and of a program that didn't end well an object without `failed` has it
@@ -28,16 +30,38 @@ fn read_answer(alloc: Global, value: Value, ended_well: bool) -> Answer
     if is_unreachable(&value) {
         return Answer::Unreachable;
     }
-    let Value::Rec(fields) = value else {
-        return Answer::Broken(Why::NotJson);
-    };
-    let Ok(own) = own_fields(fields) else {
-        return Answer::Broken(Why::NoAnswer);
-    };
-    match ended_value(alloc, own, ended_well) {
+    reached_answer(alloc, value, ended_well)
+}
+
+fn reached_answer(alloc: Global, value: Value, ended_well: bool) -> Answer
+    requires { says_unreachable (view value) ≡ false }
+    ensures { IsOutput ended_well (view value) result }
+{
+    match value {
+        Value::Rec(fields) => record_answer(alloc, fields, ended_well),
+        _ => Answer::Broken(Why::NotJson),
+    }
+}
+
+fn record_answer(alloc: Global, fields: Arc<Weighed<Fields>>, ended_well: bool) -> Answer
+    ensures { IsRecord ended_well (fields_view fields.value.parts.entries) result }
+{
+    match ended_record(alloc, fields, ended_well) {
         Ok(ended) => Answer::Object(ended),
         Err(_) => Answer::Broken(Why::NoAnswer),
     }
+}
+
+fn ended_record(
+    alloc: Global,
+    fields: Arc<Weighed<Fields>>,
+    ended_well: bool,
+) -> Result<Value, AllocError>
+    ensures { IfOk result (λ v. view v
+        ≡ rec (ended_fields ended_well (fields_view fields.value.parts.entries))) }
+{
+    let own = own_fields(fields)?;
+    ended_value(alloc, own, ended_well)
 }
 
 // The record, with `failed` true where the program didn't end well and says nothing of it.

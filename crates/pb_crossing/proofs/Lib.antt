@@ -1,0 +1,2 @@
+pub mod KindsCross
+pub mod ValuesCross

@@ -1,2 +1,3 @@
+pub mod ExpressionsCross
 pub mod KindsCross
 pub mod ValuesCross

@@ -2,6 +2,7 @@
 ghost use Rattle.std.specs.Thread.{IsSend, IsSync};
 ghost use Rattle.pb_value.specs.contracts.value.Value as value;
 ghost use Rattle.pb_kind.specs.contracts.kind.Kind as kind;
+ghost use Rattle.pb_syntax.specs.contracts.expr.Expr as expression;
 
 /// A value may go to another thread, and be shared with one.
 #[tactic(auto, using(crate::proofs::ValuesCross::crosses))]
@@ -15,4 +16,11 @@ pub fn values_cross()
 pub fn kinds_cross()
     ensures goes { IsSend kind.the_row }
     ensures shared { IsSync kind.the_row }
+{}
+
+/// An expression may go to another thread, and be shared with one.
+#[tactic(auto, using(crate::proofs::ExpressionsCross::crosses))]
+pub fn expressions_cross()
+    ensures goes { IsSend expression.the_row }
+    ensures shared { IsSync expression.the_row }
 {}

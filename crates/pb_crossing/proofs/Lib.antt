@@ -1,3 +1,4 @@
+pub mod EntriesCross
 pub mod ExpressionsCross
 pub mod KindsCross
 pub mod ValuesCross

@@ -1,4 +1,9 @@
+pub mod BooksCross
 pub mod EntriesCross
 pub mod ExpressionsCross
+pub mod InventoriesCross
 pub mod KindsCross
+pub mod ModulesCross
+pub mod PlaysCross
+pub mod TasksCross
 pub mod ValuesCross

@@ -5,6 +5,11 @@ ghost use Rattle.std.specs.Thread.{IsSend, IsSync};
 ghost use Rattle.pb_value.specs.contracts.value.Value as value;
 ghost use Rattle.pb_kind.specs.contracts.kind.Kind as kind;
 ghost use Rattle.pb_syntax.specs.contracts.expr.Expr as expression;
+ghost use Rattle.pb_sig.specs.contracts.registry.Registry as registry;
+ghost use Rattle.pb_task.specs.contracts.task.Task as task;
+ghost use Rattle.pb_play.specs.contracts.play.Play as play;
+ghost use Rattle.pb_book.specs.contracts.book.Book as book;
+ghost use Rattle.pb_inventory.specs.contracts.inventory.Inventory as inventory;
 
 /// A value may go to another thread, and be shared with one.
 #[tactic(auto, using(crate::proofs::ValuesCross::crosses))]
@@ -25,4 +30,39 @@ pub fn kinds_cross()
 pub fn expressions_cross()
     ensures goes { IsSend expression.the_row }
     ensures shared { IsSync expression.the_row }
+{}
+
+/// The modules of a run may go to another thread, and be shared with one.
+#[tactic(auto, using(crate::proofs::ModulesCross::crosses))]
+pub fn registries_cross()
+    ensures goes { IsSend registry.the_row }
+    ensures shared { IsSync registry.the_row }
+{}
+
+/// A task may go to another thread, and be shared with one.
+#[tactic(auto, using(crate::proofs::TasksCross::crosses))]
+pub fn tasks_cross()
+    ensures goes { IsSend task.the_row }
+    ensures shared { IsSync task.the_row }
+{}
+
+/// A play may go to another thread, and be shared with one.
+#[tactic(auto, using(crate::proofs::PlaysCross::crosses))]
+pub fn plays_cross()
+    ensures goes { IsSend play.the_row }
+    ensures shared { IsSync play.the_row }
+{}
+
+/// A book may go to another thread, and be shared with one.
+#[tactic(auto, using(crate::proofs::BooksCross::crosses))]
+pub fn books_cross()
+    ensures goes { IsSend book.the_row }
+    ensures shared { IsSync book.the_row }
+{}
+
+/// An inventory may go to another thread, and be shared with one.
+#[tactic(auto, using(crate::proofs::InventoriesCross::crosses))]
+pub fn inventories_cross()
+    ensures goes { IsSend inventory.the_row }
+    ensures shared { IsSync inventory.the_row }
 {}

@@ -2,6 +2,7 @@
 #![tactic(auto)]
 
 ghost use Rattle.std.specs.Thread.{IsSend, IsSync};
+ghost use denote.Ref.{NamedLft};
 ghost use Rattle.pb_value.specs.contracts.value.Value as value;
 ghost use Rattle.pb_kind.specs.contracts.kind.Kind as kind;
 ghost use Rattle.pb_syntax.specs.contracts.expr.Expr as expression;
@@ -10,6 +11,13 @@ ghost use Rattle.pb_task.specs.contracts.task.Task as task;
 ghost use Rattle.pb_play.specs.contracts.play.Play as play;
 ghost use Rattle.pb_book.specs.contracts.book.Book as book;
 ghost use Rattle.pb_inventory.specs.contracts.inventory.Inventory as inventory;
+ghost use Rattle.pb_verify.specs.contracts.checked.Checked as checked;
+ghost use Rattle.pb_facts.specs.contracts.facts.Facts as facts;
+ghost use Rattle.pb_finish.specs.contracts.answer.Answer as answer;
+ghost use Rattle.pb_jobs.specs.contracts.job.Job as job;
+ghost use Rattle.pb_core.specs.contracts.batch.Schedule as schedule;
+ghost use Rattle.pb_jobs.specs.contracts.machine.Machine as machine;
+ghost use Rattle.pb_executor.specs.contracts.run.Run as run;
 
 /// A value may go to another thread, and be shared with one.
 #[tactic(auto, using(crate::proofs::ValuesCross::crosses))]
@@ -65,4 +73,53 @@ pub fn books_cross()
 pub fn inventories_cross()
     ensures goes { IsSend inventory.the_row }
     ensures shared { IsSync inventory.the_row }
+{}
+
+/// A book that was accepted may go to another thread, and be shared with one.
+#[tactic(auto, using(crate::proofs::CheckedCross::crosses))]
+pub fn accepted_cross()
+    ensures goes { IsSend checked.the_row }
+    ensures shared { IsSync checked.the_row }
+{}
+
+/// What the hosts of a run hold may go to another thread, and be shared with one.
+#[tactic(auto, using(crate::proofs::FactsCross::crosses))]
+pub fn facts_cross()
+    ensures goes { IsSend facts.the_row }
+    ensures shared { IsSync facts.the_row }
+{}
+
+/// An answer of a module may go to another thread, and be shared with one.
+#[tactic(auto, using(crate::proofs::AnswersCross::crosses))]
+pub fn answers_cross()
+    ensures goes { IsSend answer.the_row }
+    ensures shared { IsSync answer.the_row }
+{}
+
+/// A job may go to another thread, and be shared with one.
+#[tactic(auto, using(crate::proofs::AnswersCross::crosses))]
+pub fn jobs_cross()
+    ensures goes { IsSend job.the_row }
+    ensures shared { IsSync job.the_row }
+{}
+
+/// What a run goes through may go to another thread, and be shared with one.
+#[tactic(auto, using(crate::proofs::SchedulesCross::crosses))]
+pub fn schedules_cross()
+    ensures goes { IsSend schedule.the_row }
+    ensures shared { IsSync schedule.the_row }
+{}
+
+/// The machine of a run may go to another thread, and be shared with one.
+#[tactic(auto, using(crate::proofs::MachinesCross::crosses))]
+pub fn machines_cross()
+    ensures goes { (life : NamedLft) → IsSend (machine.the_row life) }
+    ensures shared { (life : NamedLft) → IsSync (machine.the_row life) }
+{}
+
+/// A run may go to another thread, and be shared with one.
+#[tactic(auto, using(crate::proofs::RunsCross::crosses))]
+pub fn runs_cross()
+    ensures goes { (life : NamedLft) → IsSend (run.the_row life) }
+    ensures shared { (life : NamedLft) → IsSync (run.the_row life) }
 {}

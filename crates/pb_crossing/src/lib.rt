@@ -118,7 +118,6 @@ pub fn machines_cross()
 {}
 
 /// A run may go to another thread, and be shared with one.
-#[tactic(auto, using(crate::proofs::RunsCross::crosses))]
 pub fn runs_cross()
     ensures goes { (life : NamedLft) → IsSend (run.the_row life) }
     ensures shared { (life : NamedLft) → IsSync (run.the_row life) }

@@ -185,8 +185,8 @@ fn item_in(items: &[Value], number: u64) -> Option<&Value>
     items.get(number as usize)
 }
 
-// Whether the object has `unreachable` true.
-fn is_unreachable(entry: &Value) -> bool
+/// Whether the object has `unreachable` true.
+pub fn is_unreachable(entry: &Value) -> bool
     ensures { result ≡ says_unreachable (view entry.now) }
 {
     match entry {

@@ -3,6 +3,7 @@ use crate::runs::{ONE_PING, PONG, accepted, answer_of, checked_for, error_of, jo
 use pb_executor::Run;
 use pb_jobs::Job;
 use pb_run::{Event, GiveError, Given, Taken};
+use pb_verify::Checked;
 use std::alloc::Global;
 use std::test::Fail;
 
@@ -131,4 +132,17 @@ fn asked_twice(alloc: Global, run: &mut Run<'_>) -> Result<(usize, Option<u64>, 
     let number = number_of(&again);
     let is_done = matches!(given(alloc, run, again, NOW)?, Given::Done);
     Ok((ticket, number, is_done))
+}
+
+fn asked_anew(alloc: Global, checked: &Checked) -> Result<(usize, Option<u64>, bool), Fail> {
+    let mut run = Run::open(alloc, checked, 1)?;
+    asked_twice(alloc, &mut run)
+}
+
+#[test]
+fn calls_are_made_again(rt: HostRuntime) -> Result<(), Fail> {
+    let checked = accepted(rt.alloc(), ASKED_AGAIN).ok_or("refused")?;
+    let found = asked_anew(rt.alloc(), &checked)?;
+    assert_eq!(rt; found, (1, Some(1), true));
+    Ok(())
 }

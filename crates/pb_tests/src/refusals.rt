@@ -90,6 +90,19 @@ fn both_done(alloc: Global, run: &mut Run<'_>) -> Result<(usize, u64, u64), Fail
     }
 }
 
+fn done_anew(alloc: Global, checked: &Checked) -> Result<(usize, u64, u64), Fail> {
+    let mut run = opened(alloc, checked)?;
+    both_done(alloc, &mut run)
+}
+
+#[test]
+fn a_command_and_a_debug(rt: HostRuntime) -> Result<(), Fail> {
+    let checked = judged(rt.alloc(), COMMAND_AND_DEBUG).ok_or("refused")?;
+    let found = done_anew(rt.alloc(), &checked)?;
+    assert_eq!(rt; found, (5, 2, 1));
+    Ok(())
+}
+
 // What a refused give hands back is the first job with its answer, and the run is unchanged;
 // stopped then, it takes and hands out no more.
 fn stops_unchanged(run: &mut Run<'_>, job: Job, answers: Vec<Answer>) -> Result<bool, Fail> {

@@ -1,0 +1,17 @@
+pub mod AnswersCross
+pub mod BooksCross
+pub mod CheckedCross
+pub mod EntriesCross
+pub mod ExpressionsCross
+pub mod FactsCross
+pub mod InventoriesCross
+pub mod KindsCross
+pub mod MachinesCross
+pub mod ModulesCross
+pub mod PassesCross
+pub mod PlaysCross
+pub mod RunsCross
+pub mod SchedulesCross
+pub mod StatesCross
+pub mod TasksCross
+pub mod ValuesCross

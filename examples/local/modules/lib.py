@@ -54,8 +54,8 @@ def arguments_of(module, text):
 def check(kind, name, value):
     if kind is None:
         raise Fault(f"{name if is_text(name) else 'an argument'} is no argument of this module")
-    fits = is_list(value) if kind == TEXTS else is_text(value)
-    if not fits or (kind == MODE and not re.fullmatch("[0-7]{3,4}", value)):
+    is_kind = is_list(value) if kind == TEXTS else is_text(value)
+    if not is_kind or (kind == MODE and not re.fullmatch("[0-7]{3,4}", value)):
         raise Fault(f"{name} is not {kind}")
 
 
@@ -162,10 +162,12 @@ def ended(rc, stdout, stderr):
     answer = program_answer(True, rc, stdout.decode(errors="replace"), stderr.decode(errors="replace"))
     if rc != 0:
         answer.update(failed=True, msg="non-zero return code")
-    return answer if is_short(answer) else {**program_answer(True, rc), "failed": True, "msg": "it wrote too much"}
+    if max(len(stdout), len(stderr)) > MOST_BYTES or not fits(answer):
+        return {**program_answer(True, rc), "failed": True, "msg": "it wrote too much"}
+    return answer
 
 
-def is_short(answer):
+def fits(answer):
     lines = max(len(answer["stdout_lines"]), len(answer["stderr_lines"]))
     return lines <= MOST_LINES and len(json_of(answer).encode()) < MOST_BYTES
 
@@ -187,7 +189,7 @@ def outputs_of(child):
 
     def take(name):
         with getattr(child, name) as pipe:
-            written[name] = pipe.read(MOST_BYTES)
+            written[name] = pipe.read(MOST_BYTES + 1)
 
     with child:
         beside = threading.Thread(target=take, args=("stderr",))

@@ -1,7 +1,7 @@
 # Checks of examples/local and examples/ssh: python3 tests/local_checks.py [PROGRAM]. Each row calls one module, as
 # docs/LANGUAGE.md has its arguments and results, in a folder in which this stands beside what is outside:
 #   plain ("old\n"), folder/inner ("in"), folder/tool,
-#   link -> plain, out -> ../outside, out_file -> ../outside/kept, lost -> nowhere
+#   link -> plain, out -> ../outside, out_file -> ../outside/kept, lost -> nowhere, ../outside/back -> ../root/plain
 # and compares the answer, and all that stands in both folders. With PROGRAM the example is run too (`run --modules`), whose
 # recaps examples/local/README.md works out.
 import json
@@ -120,7 +120,7 @@ ROWS = [
     ("no UTF-8", "command", {"cmd": "printf 'a\\377'"}, ran(["a\ufffd"]), {}),
     ("too much output", "shell", {"cmd": "head -c 600000 /dev/zero | tr '\\0' a"}, wrote_too_much(), {}),
     ("too much of errors", "shell", {"cmd": "head -c 600000 /dev/zero | tr '\\0' a >&2"}, wrote_too_much(), {}),
-    ("too many ends of line", "shell", {"cmd": "yes '' | head -c 1048576; echo a"}, wrote_too_much(), {}),
+    ("too many ends of line", "shell", {"cmd": "yes '' | head -c 1048577; echo a"}, wrote_too_much(), {}),
     ("ends of line alone", "shell", {"cmd": "yes '' | head -c 1048576"}, ran(), {}),
     ("the most lines", "shell", {"cmd": "yes '' | head -n 65535; echo a"}, ran([""] * 65535 + ["a"]), {}),
     ("too many lines", "shell", {"cmd": "yes '' | head -n 65536; echo a"}, wrote_too_much(), {}),
@@ -195,6 +195,8 @@ ROWS = [
     ("a folder away", "file", {"path": "folder/", "state": "absent"}, filed("folder/", "absent", True),
      {"folder": None, "folder/inner": None, "folder/tool": None}),
     ("a link away", "file", {"path": "link", "state": "absent"}, filed("link", "absent", True), {"link": None}),
+    ("a link away, with a / behind it", "file", {"path": "link/", "state": "absent"}, filed("link/", "absent", True),
+     {"link": None}),
     ("nothing away", "file", {"path": "new", "state": "absent"}, filed("new", "absent", False), {}),
     ("the folder itself away", "file", {"path": "/", "state": "absent"}, failed("/ is the folder itself"), {}),
     ("the folder itself away, by ..", "file", {"path": "folder/..", "state": "absent"},
@@ -202,6 +204,11 @@ ROWS = [
     ("an empty path away", "file", {"path": "", "state": "absent"}, failed(" is the folder itself"), {}),
     ("a file outside away", "file", {"path": "../outside/kept", "state": "absent"}, failed(leads_out("../outside/kept")), {}),
     ("what leads out away", "file", {"path": "out", "state": "absent"}, failed(leads_out("out")), {}),
+    ("a link outside that leads in away", "file", {"path": "../outside/back", "state": "absent"},
+     failed(leads_out("../outside/back")), {}),
+    ("stat of a link outside that leads in", "stat", {"path": "../outside/back"}, failed(leads_out("../outside/back")), {}),
+    ("a folder whose name begins as the folder's", "file", {"path": "../root2", "state": "directory"},
+     failed(leads_out("../root2")), {}),
     ("a folder outside", "file", {"path": "out/new", "state": "directory"}, failed(leads_out("out/new")), {}),
     ("another state", "file", {"path": "plain", "state": "link"}, failed(NO_STATE), {}),
     ("an empty state", "file", {"path": "plain", "state": ""}, failed(NO_STATE), {}),
@@ -213,6 +220,15 @@ ROWS = [
     ("an owner with a group", "file", {"path": "plain", "owner": "root:root"},
      failed("the owner or group has other characters than letters, digits, ., _ and -"), {}),
 ]
+
+
+LINKS = {
+    "link": "plain",
+    "out": "../outside",
+    "out_file": "../outside/kept",
+    "lost": "nowhere",
+    "../outside/back": "../root/plain",
+}
 
 
 class Room:
@@ -227,7 +243,7 @@ class Room:
         self.write("root/plain", "old\n")
         self.write("root/folder/inner", "in")
         self.write("root/folder/tool", '#!/bin/sh\necho "tool $1"\n', 0o755)
-        for name, target in (("link", "plain"), ("out", "../outside"), ("out_file", "../outside/kept"), ("lost", "nowhere")):
+        for name, target in LINKS.items():
             (self.root / name).symlink_to(target)
 
     def make(self, name):
@@ -239,8 +255,9 @@ class Room:
         (self.folder / name).chmod(mode)
 
     def run(self, words, cwd=None):
+        """Runs a program, with an input that nothing is to read."""
         return subprocess.run(
-            words, cwd=cwd, env=self.environment, stdin=subprocess.DEVNULL, capture_output=True, timeout=SECONDS, check=False
+            words, cwd=cwd, env=self.environment, input=b"input\n", capture_output=True, timeout=SECONDS, check=False
         )
 
     def call(self, program, host, arguments):

@@ -120,7 +120,6 @@ ROWS = [
     ("no UTF-8", "command", {"cmd": "printf 'a\\377'"}, ran(["a\ufffd"]), {}),
     ("too much output", "shell", {"cmd": "head -c 600000 /dev/zero | tr '\\0' a"}, wrote_too_much(), {}),
     ("too much of errors", "shell", {"cmd": "head -c 600000 /dev/zero | tr '\\0' a >&2"}, wrote_too_much(), {}),
-    ("too many ends of line", "shell", {"cmd": "yes '' | head -c 1048577; echo a"}, wrote_too_much(), {}),
     ("ends of line alone", "shell", {"cmd": "yes '' | head -c 1048576"}, ran(), {}),
     ("the most lines", "shell", {"cmd": "yes '' | head -n 65535; echo a"}, ran([""] * 65535 + ["a"]), {}),
     ("too many lines", "shell", {"cmd": "yes '' | head -n 65536; echo a"}, wrote_too_much(), {}),
@@ -326,10 +325,14 @@ def facts(room):
     return differs(names, certain) or differs([], wrong) or differs({"changed", "ansible_facts"}, set(answer))
 
 
-def writes_for_ever(room):
-    """Its status is that of a program whose pipe was closed, and a shell's word for it."""
-    answer, _ = answer_of(room.call(LOCAL / "modules/shell", "h1", {"cmd": "yes"}))
-    return differs({**wrote_too_much(), "rc": answer.get("rc")}, answer)
+def writes_too_much(line):
+    """What is answered of a program whose pipe is closed: its status is what it makes of that."""
+
+    def check(room):
+        answer, _ = answer_of(room.call(LOCAL / "modules/shell", "h1", {"cmd": line}))
+        return differs({**wrote_too_much(), "rc": answer.get("rc")}, answer)
+
+    return check
 
 
 def no_folder(room):
@@ -440,7 +443,9 @@ UNREACHABLE = '{"unreachable": true}\n', 0
 CHECKS = [
     ("stat of a folder", stat_of_a_folder),
     ("the facts", facts),
-    ("a program that writes for ever", writes_for_ever),
+    ("a program that writes for ever", writes_too_much("yes")),
+    ("a program that writes errors for ever", writes_too_much("yes >&2")),
+    ("a program that writes too many ends of line", writes_too_much("yes '' | head -c 1048577; echo a")),
     ("PLAYCHECK_ROOT is no folder", no_folder),
     ("PLAYCHECK_ROOT is a link", folder_by_a_link),
     ("a folder with the bit of its group", set_group_bit),

@@ -337,7 +337,7 @@ def writes_too_much(line):
 
 def no_folder(room):
     """Each module that has paths fails; `ping` has none."""
-    for named in ("", "root", str(room.root / "plain"), str(room.root / "none")):
+    for named in ("", ".", str(room.root / "plain"), str(room.root / "none")):
         room.environment["PLAYCHECK_ROOT"] = named
         found = (
             of_row(room, "stat", {"path": "plain"}, failed(NO_ROOT), {})

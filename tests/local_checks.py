@@ -4,8 +4,10 @@
 #   link -> plain, out -> ../outside, out_file -> ../outside/kept, lost -> nowhere, ../outside/back -> ../root/plain
 # and compares the answer, and all that stands in both folders. With PROGRAM the example is run too (`run --modules`), whose
 # recaps examples/local/README.md works out.
+import grp
 import json
 import os
+import pwd
 import subprocess
 import sys
 import tempfile
@@ -377,13 +379,53 @@ def environment(room):
     )
 
 
+def fake(room, name, text):
+    """Puts a program of that name before all others."""
+    room.make("bin")
+    room.write(f"bin/{name}", f"#!/bin/sh\n{text}\n", 0o755)
+    room.environment["PATH"] = f"{room.folder}/bin:{room.environment['PATH']}"
+
+
+def named_machine(name):
+    """The answer on a machine that is named so, but for the facts that no machine has to give."""
+
+    def check(room):
+        fake(room, "uname", f"[ \"$1\" = -s ] && echo Linux || echo '{name}'")
+        answer, _ = answer_of(room.call(LOCAL / "modules/setup", "h1", {}))
+        given = answer.get("ansible_facts", answer)
+        wanted = ODD_MACHINE if '"' in name else {"ansible_hostname": "web1", "ansible_system": "Linux"}
+        return differs(wanted, {fact: given.get(fact) for fact in wanted})
+
+    return check
+
+
+ODD_MACHINE = failed("this machine is named with other characters than letters, digits, _, -")
+
+
+def own_names(room):
+    """Its owner and its group are known by their names too."""
+    arguments = {"path": "plain", "owner": name_of(pwd.getpwuid, os.getuid()), "group": name_of(grp.getgrgid, os.getgid())}
+    return of_row(room, "file", arguments, filed("plain", "file", False), {})
+
+
+def name_of(entry, number):
+    try:
+        return entry(number)[0]
+    except KeyError:
+        return str(number)
+
+
+def unreadable(room):
+    (room.root / "plain").chmod(0)
+    found = answer_of(room.call(LOCAL / "modules/copy", "h1", {"src": "plain", "dest": "new"}))
+    return differs((failed("plain is no file that can be read"), 0), found)
+
+
 # Over ssh.
 
 
 def fake_ssh(room, text):
-    room.make("bin")
-    room.write("bin/ssh", f"#!/bin/sh\n{text}\n", 0o755)
-    room.environment["PATH"] = f"{room.folder}/bin:{room.environment['PATH']}"
+    fake(room, "ssh", text)
     room.environment[ASKED] = str(room.folder / ASKED)
 
 
@@ -443,6 +485,9 @@ UNREACHABLE = '{"unreachable": true}\n', 0
 CHECKS = [
     ("stat of a folder", stat_of_a_folder),
     ("the facts", facts),
+    ("the facts of a machine with dots in its name", named_machine("web1.example.org")),
+    ("the facts of a machine with quotes in its name", named_machine('"web1"')),
+    ("the names of owners", own_names),
     ("a program that writes for ever", writes_too_much("yes")),
     ("a program that writes errors for ever", writes_too_much("yes >&2")),
     ("a program that writes too many ends of line", writes_too_much("yes '' | head -c 1048577; echo a")),
@@ -561,6 +606,8 @@ def checks(program):
     for name, *row in ROWS:
         yield f"{row[0]}: {name}", lambda room, row=row: of_row(room, *row)
     yield from CHECKS
+    if os.geteuid() != 0:
+        yield "copy of what may not be read", unreadable
     yield "the page", page_shows
     for name, check in RUNS_OF_EXAMPLES if program else []:
         yield name, lambda room, check=check: check(program, room)

@@ -282,6 +282,7 @@ fn ended_run<'c>(
 {
     let run = whole_run(alloc, checked, forks, runner)?;
     if runner.is_short() {
+        leave(run);
         return Err(AllocError);
     }
     Ok(run)

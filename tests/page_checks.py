@@ -104,7 +104,7 @@ def prints(text):
 
 def consoles(path, program):
     """The check of each line that begins with `$`, run from the top of the tree."""
-    begin = f"cd {shlex.quote(str(TOP))} && export PLAYCHECK={shlex.quote(program)} && "
+    begin = f'export TMPDIR="$PWD" && cd {shlex.quote(str(TOP))} && export PLAYCHECK={shlex.quote(program)} && '
     for _, content in FENCE.findall(path.read_text(encoding="utf-8")):
         for command, printed in COMMAND.findall(content):
             if FRONT_END in command and not importlib.util.find_spec("yaml"):

@@ -5,6 +5,7 @@ use pb_jobs::Job;
 use pb_run::{Event, GiveError, Given, Taken};
 use pb_verify::Checked;
 use std::alloc::Global;
+use std::mem;
 use std::test::Fail;
 
 const TWO_HOSTS: &[u8] = b"{\"all\":{\"hosts\":[\"h1\",\"h2\"]}}";
@@ -136,7 +137,9 @@ fn asked_twice(alloc: Global, run: &mut Run<'_>) -> Result<(usize, Option<u64>, 
 
 fn asked_anew(alloc: Global, checked: &Checked) -> Result<(usize, Option<u64>, bool), Fail> {
     let mut run = Run::open(alloc, checked, 1)?;
-    asked_twice(alloc, &mut run)
+    let found = asked_twice(alloc, &mut run);
+    mem::forget(run);
+    found
 }
 
 #[test]

@@ -9,6 +9,7 @@ use pb_run::{Event, GiveError, Taken};
 use pb_value::read_json;
 use pb_verify::Checked;
 use std::alloc::Global;
+use std::mem;
 use std::test::Fail;
 
 // A command whose result is registered, and a debug of its output.
@@ -92,7 +93,9 @@ fn both_done(alloc: Global, run: &mut Run<'_>) -> Result<(usize, u64, u64), Fail
 
 fn done_anew(alloc: Global, checked: &Checked) -> Result<(usize, u64, u64), Fail> {
     let mut run = opened(alloc, checked)?;
-    both_done(alloc, &mut run)
+    let found = both_done(alloc, &mut run);
+    mem::forget(run);
+    found
 }
 
 #[test]

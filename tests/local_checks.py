@@ -474,11 +474,11 @@ def ssh_too_long(room):
     return differs((b"", 1, False), found)
 
 
-def ssh_links(_):
-    """Each program of examples/local can be called over ssh."""
+def ssh_modules(_):
+    """Each program of examples/local can be called over ssh, by a program that is the same for all of them."""
     programs = {path.name for path in (LOCAL / "modules").iterdir() if os.access(path, os.X_OK)}
-    links = {path.name for path in SSH.iterdir() if path.is_symlink() and os.readlink(path) == "over_ssh"}
-    return differs(programs, links)
+    modules = {path.name: path.read_bytes() for path in SSH.iterdir() if os.access(path, os.X_OK) and path.name != "over_ssh"}
+    return differs((programs, 1), (set(modules), len(set(modules.values()))))
 
 
 UNREACHABLE = '{"unreachable": true}\n', 0
@@ -502,7 +502,7 @@ CHECKS = [
     ("no right to run it on the host", ssh_says("exit 126", UNREACHABLE)),
     ("another status on the host", ssh_says("echo '{\"a\": 1}'; exit 3", ('{"a": 1}\n', 3))),
     ("a line that is too long for ssh", ssh_too_long),
-    ("the links of ssh", ssh_links),
+    ("the links of ssh", ssh_modules),
 ]
 
 # The example's runs.

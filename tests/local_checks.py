@@ -502,7 +502,7 @@ CHECKS = [
     ("no right to run it on the host", ssh_says("exit 126", UNREACHABLE)),
     ("another status on the host", ssh_says("echo '{\"a\": 1}'; exit 3", ('{"a": 1}\n', 3))),
     ("a line that is too long for ssh", ssh_too_long),
-    ("the links of ssh", ssh_modules),
+    ("the modules over ssh", ssh_modules),
 ]
 
 # The example's runs.

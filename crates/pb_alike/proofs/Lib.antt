@@ -1,0 +1,9 @@
+pub mod ReadsNeither
+pub mod AlikeKinds
+pub mod AlikeFaults
+pub mod AlikeTasks
+pub mod AlikeVisits
+pub mod AlikePlays
+pub mod AlikeCalls
+pub mod AlikeVerdicts
+pub mod NamedBooks

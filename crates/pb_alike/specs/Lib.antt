@@ -1,0 +1,4 @@
+pub mod Alike
+pub mod Laws
+pub mod Named
+pub mod Words

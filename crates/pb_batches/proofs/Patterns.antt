@@ -1,5 +1,5 @@
 -- The hosts that a play's pattern finds.
-use Rattle.std.proofs.Common.{◌≡◌, List, [], ◌∷◌, ◌++◌, Bool, true, false, cond, Some, None, String, Global, string_bytes, refl, ap, ◌∙◌}
+use Rattle.std.proofs.Common.{◌≡◌, List, [], ◌∷◌, ◌++◌, Bool, true, false, cond, Some, None, String, Global, string_bytes, refl, sym, ap, ◌∙◌}
 use Rattle.std.specs.declared.sync.Arc.{Arc}
 use Rattle.pb_language.specs.BookForm.{words_from}
 use Rattle.pb_language.specs.Expression.{Name}
@@ -23,3 +23,12 @@ pub pattern-found : (v : Inventory) (ps qs : List (Arc (String Global) Global)) 
 pattern-found v ps qs hs e h =
     let words = patterns_words (inventory.names_view qs) in
     those-found (words_known v words) (pattern_hosts v [] words) hs h ∙ ap (λ xs. pattern_hosts v [] (patterns_words (inventory.names_view xs))) e ∙ ap (pattern_hosts v []) (same-words ps)
+
+none-found : (known : Bool) (hs : List Name) → cond known (Some hs) None ≡ None → known ≡ false
+none-found true hs h = absurd (cc)
+none-found false hs h = refl
+
+pub pattern-unknown : (v : Inventory) (ps qs : List (Arc (String Global) Global)) → qs ≡ ps → hosts_found v [] (patterns_words (inventory.names_view qs)) ≡ None → words_known v (words_in (names_view ps)) ≡ false
+pattern-unknown v ps qs e h =
+    let words = patterns_words (inventory.names_view qs) in
+    ap (words_known v) (sym (ap (λ xs. patterns_words (inventory.names_view xs)) e ∙ same-words ps)) ∙ none-found (words_known v words) (pattern_hosts v [] words) h

@@ -1,9 +1,10 @@
 -- Which batches of a book's plays these are.
-use Rattle.std.specs.Prelude.{◌≡◌, ℕ, List, [], ◌∷◌, Some, drop, map, slice_get, take}
-use Rattle.std.specs.List.{AllZip}
+use Rattle.std.specs.Prelude.{◌≡◌, ℕ, List, [], ◌∷◌, Bool, Some, drop, map, slice_get, take}
+use Rattle.std.specs.List.{AllZip, list_all}
 use Rattle.pb_language.specs.Book.{Registry}
 use Rattle.pb_language.specs.Plays.{pattern_hosts, play_with}
 use Rattle.pb_language.specs.Program.{Batch, Inventory}
+use Rattle.pb_language.specs.Rules.{words_known}
 use Rattle.pb_inventory.specs.Words.{names_at}
 use Rattle.pb_play.specs.Words.{play_view}
 use Rattle.pb_play.specs.declared.play.Play.{Play}
@@ -30,3 +31,10 @@ batch_view b = (b.play, b.members.items)
 abbrev pub cut_by : {A : Type 0} → List ℕ → List A → List (List A)
 cut_by [] xs = []
 cut_by (n ∷ ns) xs = take n xs ∷ cut_by ns (drop n xs)
+
+-- each word of the play's pattern names a group or a host
+abbrev pub is_known : Inventory → Play → Bool
+is_known i p = words_known i (play_view p).pattern
+
+abbrev pub are_known : Inventory → List Play → Bool
+are_known i ps = list_all (is_known i) ps

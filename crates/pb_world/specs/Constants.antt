@@ -1,5 +1,5 @@
 -- What the values mean that stay the same in a whole run.
-use Rattle.std.specs.Prelude.{◌≡◌, ℕ, List, map}
+use Rattle.std.specs.Prelude.{◌≡◌, ℕ, List, map, Option, Some, None}
 use Rattle.pb_semantics.specs.Data.{Data, text, list, rec}
 use Rattle.pb_language.specs.Program.{Inventory, memberships_of}
 use Rattle.pb_language.specs.Setting.{group_fields, names_list}
@@ -11,6 +11,11 @@ use Rattle.pb_world.specs.declared.constants.HostConstants.{HostConstants}
 
 abbrev pub host_names : List HostConstants → List Data
 host_names hs = map (λ h. view h.name) hs
+
+-- the text that a value is, where it is one
+abbrev pub text_in : Data → Option (List ℕ)
+text_in (text s) = Some s
+text_in d = None
 
 abbrev pub host_groups : List HostConstants → List Data
 host_groups hs = map (λ h. view h.group_names) hs

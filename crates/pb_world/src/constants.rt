@@ -1,5 +1,5 @@
 // The values that stay the same in a whole run.
-ghost use Rattle.std.specs.Prelude.{◌<◌, ◌≡◌, All, IfOk, IfSome, List, OnOk, Some, length, map};
+ghost use Rattle.std.specs.Prelude.{◌<◌, ◌≡◌, All, IfOk, List, OnOk, Some, length, map};
 ghost use Rattle.std.specs.Prelude.{option_map, slice_get, string_bytes};
 ghost use Rattle.pb_inventory.specs.Numbered.{named};
 ghost use Rattle.pb_inventory.specs.Words.{inventory_view};
@@ -10,6 +10,7 @@ ghost use Rattle.pb_language.specs.World.{HostVariables};
 ghost use Rattle.pb_semantics.specs.Words.{list, put_field, rec, text};
 ghost use Rattle.pb_value.specs.Words.{fields_view, view};
 ghost use Rattle.pb_world.specs.Constants.{AreConstants, host_groups, host_names, names_data};
+ghost use Rattle.pb_world.specs.Constants.{text_in};
 ghost use Rattle.pb_world.specs.Hosts.{names_of_hosts};
 
 use pb_inventory::Inventory;
@@ -55,15 +56,22 @@ impl Constants {
     pub fn host_name(&self, host: usize) -> Option<&Arc<String>>
         ensures { (i : InventoryData) (h : HostVariables) → AreConstants i self.now
             → slice_get i.hosts host ≡ Some h
-            → IfSome result (λ t. string_bytes t.now.value ≡ h.name) }
+            → option_map (λ t. string_bytes t.now.value) result ≡ Some h.name }
     {
         if host >= self.hosts.len() {
             return None;
         }
-        match &self.hosts[host].name {
-            Value::Text(name) => Some(name),
-            _ => None,
-        }
+        text_of(&self.hosts[host].name)
+    }
+}
+
+// The text that the value is, where it is one.
+fn text_of(value: &Value) -> Option<&Arc<String>>
+    ensures { option_map (λ t. string_bytes t.now.value) result ≡ text_in (view value.now) }
+{
+    match value {
+        Value::Text(text) => Some(text),
+        _ => None,
     }
 }
 

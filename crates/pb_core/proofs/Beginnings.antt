@@ -11,10 +11,10 @@ use Rattle.pb_language.specs.Expression.{Name}
 use Rattle.pb_language.specs.Program as program
 use Rattle.pb_language.specs.Machine.{any_names}
 use Rattle.pb_machine.specs.Steps as flat
-use Rattle.pb_machine.specs.Steps.{play_begin, play_steps}
+use Rattle.pb_machine.specs.Steps.{play_begin}
 use Rattle.pb_machine.specs.Hosts as machine
 use Rattle.pb_machine.specs.Hosts.{FlatHost, FlatStage, stands, works, at, at_end, left_play, arrived}
-use Rattle.pb_machine.specs.Run.{FlatState, plan_steps, current_steps, is_on_stage, is_on, is_active_host, still_active, host_at, begun, all_begun, with_batches, all_idle, is_idle}
+use Rattle.pb_machine.specs.Run.{FlatState, plan_steps, is_on_stage, is_on, is_active_host, still_active, host_at, begun, all_begun, with_batches, all_idle, is_idle}
 use Rattle.pb_position.specs.declared.position.Location.{Location}
 use Rattle.pb_position.specs.declared.position.Location.TheVariants.{End, Left, Node}
 use Rattle.std.proofs.Math.Nat.{ℕ_set}
@@ -351,11 +351,15 @@ idle_is ss (stands left_play) e = refl
 idle_is ss (stands (at m)) e = untrue e
 idle_is ss (works m i ps) e = untrue e
 
-pub idle_activities : (ss ts : List flat.Step) (hs : List FlatHost) → all_idle hs ≡ true → activities ss hs ≡ activities ts hs
-idle_activities ss ts [] e = refl
-idle_activities ss ts (h ∷ hs) e =
-    let one = and-left (is_idle h.stage) (all_idle hs) e in
-    ap₂ (λ a b. a ∷ b) (idle_is ss h.stage one ∙ sym (idle_is ts h.stage one)) (idle_activities ss ts hs (and-right (is_idle h.stage) (all_idle hs) e))
+idle_running : (ss : List flat.Step) (hs : List FlatHost) → all_idle hs ≡ true → running_in (activities ss hs) ≡ 0
+idle_running ss [] e = refl
+idle_running ss (h ∷ hs) e =
+    ap (λ a. count_running a (running_in (activities ss hs))) (idle_is ss h.stage (and-left (is_idle h.stage) (all_idle hs) e)) ∙ idle_running ss hs (and-right (is_idle h.stage) (all_idle hs) e)
+
+idle_ready : (ss : List flat.Step) (hs : List FlatHost) (p k : ℕ) → all_idle hs ≡ true → false ≡ is_ready p (slice_get (activities ss hs) k)
+idle_ready ss [] p k e = refl
+idle_ready ss (h ∷ hs) p zero e = sym (ap (λ a. is_ready p (Some a)) (idle_is ss h.stage (and-left (is_idle h.stage) (all_idle hs) e)))
+idle_ready ss (h ∷ hs) p (suc k) e = idle_ready ss hs p k (and-right (is_idle h.stage) (all_idle hs) e)
 
 idle_one : (ss : List flat.Step) (g : FlatStage) → is_idle g ≡ is_idle_one (activity_in ss g)
 idle_one ss (stands at_end) = refl
@@ -510,18 +514,19 @@ module _ {P : Type 0} (old : RunCore P) where
       recap = j.recap;
     }
 
-  ended : (reading : Reading P) (s : FlatState) (n : ℕ) (bs : List program.Batch) → IsCore reading old s → all_idle s.hosts ≡ true → drop n (scheduled_batches old) ≡ [] → bs ≡ [] → IsCore reading (record old { current = n }) (with_batches s bs)
-  ended reading s n bs i q e f = subst (λ xs. IsCore reading (record old { current = n }) (with_batches s xs)) (sym f) (record {
+  ended : (reading : Reading P) (s : FlatState) (n : ℕ) (index : ReadyIndex) (bs : List program.Batch) → IsCore reading old s → all_idle s.hosts ≡ true → drop n (scheduled_batches old) ≡ [] → HoldsOnly (λ place host. false) index → bs ≡ []
+      → IsCore reading (record old { current = n; index = index }) (with_batches s bs)
+  ended reading s n index bs i q e holds f = subst (λ xs. IsCore reading (record old { current = n; index = index }) (with_batches s xs)) (sym f) (record {
     hosts = idle_rebound reading (size_of s.batches) (size_of []) old.hosts.items s.hosts i.hosts q;
     batches = subst (λ cs. AreBatches reading.name (scheduled_plays old) cs []) (sym e) tt;
-    index = subst (IsIndexOf old.index) (idle_activities (current_steps s.batches) [] s.hosts q) i.index;
+    index = holds_only (λ place host. false) index (activities [] s.hosts) holds (idle_running [] s.hosts q) (λ p k. idle_ready [] s.hosts p k q);
     forks = i.forks;
     handed = i.handed;
     stopped = i.stopped;
   })
 
-  pub runs_none : (n : ℕ) → drop n (scheduled_batches old) ≡ [] → RunsBatch n old (record old { current = n })
-  runs_none n e reading s bs i q are = ended reading s n bs i q e (no_batches reading.name (scheduled_plays old) (drop n (scheduled_batches old)) bs e are)
+  pub runs_none : (n : ℕ) (index : ReadyIndex) → drop n (scheduled_batches old) ≡ [] → HoldsOnly (λ place host. false) index → RunsBatch n old (record old { current = n; index = index })
+  runs_none n index e holds reading s bs i q are = ended reading s n index bs i q e holds (no_batches reading.name (scheduled_plays old) (drop n (scheduled_batches old)) bs e are)
 
   pub runs_on : (hosts : Vec (HostState P)) (index : ReadyIndex) (es : List Entry) (d : Batch) (play : RunPlay) (n : ℕ)
       → slice_get (scheduled_batches old) n ≡ Some d → play_of old n ≡ Some play → AreEntries play d.members.items old.hosts.items es → HoldsOnly (λ place host. waits_in place host es) index

@@ -7,6 +7,7 @@ pub mod Places
 pub mod Cores
 pub mod Beginnings
 pub mod Runs
-pub mod Copies
+pub mod Turnings
+pub mod Formers
 pub mod Readings
 pub mod Tickets

@@ -1,6 +1,6 @@
 -- The core of a run, as a state of pb_machine's machine.
 use Rattle.std.specs.Prelude.{◌≡◌, ℕ, ◌-◌, List, [], ◌∷◌, Option, Some, None, drop, length}
-use Rattle.std.specs.Prelude.{cond, map, slice_get, true}
+use Rattle.std.specs.Prelude.{cond, map, slice_get}
 use Rattle.pb_language.specs.Expression.{Name}
 use Rattle.pb_language.specs.Notify.{HandlerNames, all_notified, handlers_are}
 use Rattle.pb_language.specs.Task.{Row, Task}
@@ -9,7 +9,7 @@ use Rattle.pb_language.specs.Machine.{any_names}
 use Rattle.pb_language.specs.Program as program
 use Rattle.pb_language.specs.Program.{Play}
 use Rattle.pb_machine.specs.Steps.{play_steps, play_begin}
-use Rattle.pb_machine.specs.Run.{FlatState, all_idle, current_steps, plan_steps, still_active}
+use Rattle.pb_machine.specs.Run.{FlatState, current_steps, plan_steps, still_active}
 use Rattle.pb_steps.specs.Words.{ArePrepared, PlayPlan, outline, plan_view}
 use Rattle.pb_steps.specs.declared.step.Step.{Step}
 use Rattle.pb_position.specs.declared.position.TaskEnd.{TaskEnd}
@@ -173,13 +173,3 @@ module _ {P : Type 0} where
       → (b : program.Batch) (later : List program.Batch) → s.batches ≡ b ∷ later
       → AreBatches reading.name (scheduled_plays c) (drop n (scheduled_batches c))
       (cond (any_names (still_active s.hosts b.members)) later [])
-
-  -- another core of the same states, as long as no host is at a task
-  abbrev pub IsIdleCopy : RunCore P → RunCore P → Type 0
-  IsIdleCopy old new = (reading : Reading P) (s : FlatState) → IsCore reading old s
-      → all_idle s.hosts ≡ true → IsCore reading new s
-
-  -- in no state that the core is all hosts are idle
-  abbrev pub IsBusy : RunCore P → Type 0
-  IsBusy c = (reading : Reading P) (s : FlatState) → IsCore reading c s
-      → all_idle s.hosts ≡ true → ⊥

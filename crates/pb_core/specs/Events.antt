@@ -107,6 +107,12 @@ module _ {P : Type 0} where
     pub enabled : (reading : Reading P) (s : FlatState) → IsCore reading old s
         → (i : ℕ) → i < n → flat.enabled (turned i s) turn ≡ true
 
+  -- all Turns that may happen, one or more
+  pub record TurnsAll (n : ℕ) (old new : RunCore P) : Type 0 where
+    pub turns : TurnsTo n old new
+    pub some : 0 < n
+    pub over : CanTurn new false
+
   -- the members of the batch that runs that haven't left, and none where none runs
   abbrev pub AreActive : RunCore P → List ℕ → Type 0
   AreActive c ms = (reading : Reading P) (s : FlatState) → IsCore reading c s

@@ -1,6 +1,6 @@
 -- Where the code's hosts are, as the hosts of pb_machine's machine.
 use Rattle.std.specs.Prelude.{◌≡◌, ◌<◌, ◌≤◌, ℕ, suc, List, [], ◌∷◌, Bool, true, not, ◌&&◌, false}
-use Rattle.std.specs.Prelude.{nat_lt, Option, Some, None, length, slice_get}
+use Rattle.std.specs.Prelude.{nat_lt, Option, Some, None, length}
 use Rattle.pb_language.specs.Start.{call_count}
 use Rattle.pb_language.specs.Machine as machine
 use Rattle.pb_language.specs.Machine.{ended_recap, empty_recap}
@@ -121,23 +121,6 @@ module _ {P : Type 0} where
     pub position : (h : FlatHost) → IsAt x.position (before_plays h)
     pub stage : x.stage ≡ Waits
     pub recap : recap_view x.recap ≡ empty_recap
-
-  -- the same once more, where no job is out
-  pub record IsCopy (old new : HostState P) : Type 0 where
-    pub position : (h : FlatHost) → IsAt old.position h → IsAt new.position h
-    pub handlers : new.handlers ≡ old.handlers
-    pub waits : old.stage ≡ Waits
-    pub stage : new.stage ≡ Waits
-    pub recap : new.recap ≡ old.recap
-
-  abbrev pub AreCopies : List (HostState P) → List (HostState P) → Type 0
-  AreCopies [] [] = Unit {0}
-  AreCopies (x ∷ xs) (y ∷ ys) = IsCopy x y × AreCopies xs ys
-  AreCopies xs ys = ⊥
-
-  -- not all of them wait
-  abbrev pub HasJob : List (HostState P) → Type 0
-  HasJob xs = ((k : ℕ) (x : HostState P) → slice_get xs k ≡ Some x → x.stage ≡ Waits) → ⊥
 
 -- what a task ended with
 pub record IsOutcome (o : TaskOutcome) (t : Task) (es : List Ended) : Type 0 where

@@ -4,5 +4,6 @@ pub mod Indexes
 pub mod Hosts
 pub mod Entries
 pub mod Cores
+pub mod Formers
 pub mod Events
 pub mod Words

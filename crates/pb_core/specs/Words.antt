@@ -8,4 +8,5 @@ pub use Rattle.pb_core.specs.Cores.{scheduled_batches, scheduled_plays, size_of,
 pub use Rattle.pb_core.specs.Events.{AreActive, Begins, CanStart, CanTurn, HasNoJob, IsDisabled}
 pub use Rattle.pb_core.specs.Events.{IsNext}
 pub use Rattle.pb_core.specs.Events.{Leaves, Opens, Repeats, Settles, Stops, TellsEnd, TellsStop}
-pub use Rattle.pb_core.specs.Events.{Turns, TurnsTo, active_in, is_over}
+pub use Rattle.pb_core.specs.Events.{Turns, TurnsAll, TurnsTo, active_in, is_over}
+pub use Rattle.pb_core.specs.Formers.{before_turns}

@@ -1,17 +1,20 @@
-// How the hosts of a batch begin their play.
-ghost use Rattle.std.specs.Prelude.{◌≡◌, ℕ, IfOk, IfSome, OnOk, slice_get};
+// How the hosts of a batch begin their play, and how they stand again where they stood.
+ghost use Rattle.std.specs.Prelude.{◌+◌, ◌<◌, ◌≡◌, ◌≤◌, ℕ, IfOk, IfSome, OnOk, length, slice_get};
+ghost use Rattle.std.specs.Prelude.{vec_capacity};
 ghost use Rattle.pb_core.specs.Entries.{AddsEntry, AreEntries, IsEntry};
 ghost use Rattle.pb_core.specs.Entries.{entered, found};
 ghost use Rattle.pb_core.specs.Entries.{found_one, waits_in, with_entry};
+ghost use Rattle.pb_core.specs.Formers.{before_all, before_one};
 ghost use Rattle.pb_core.specs.Indexes.{HoldsOnly};
 
 use crate::active::is_here;
 use crate::batch::RunPlay;
-use crate::entry::Entry;
+use crate::entry::{Entry, Former};
 use crate::host::HostState;
 use crate::index::ReadyIndex;
 use crate::place::place_at;
 use std::alloc::{AllocError, Global};
+use std::mem;
 
 // Where the host begins the play, or nothing where it left.
 fn entry_of<P>(
@@ -101,10 +104,14 @@ fn add_waiting(index: &mut ReadyIndex, entry: &Entry) -> Result<(), AllocError>
     }
 }
 
-// The host begins; no job of it is out.
-fn enter_one<P: Drop>(hosts: &mut Vec<HostState<P>>, entry: Entry)
-    ensures { (k : ℕ) → slice_get hosts.new.items k
+// The host begins, no job of which is out; where it stood is kept behind the others.
+fn enter_one<P: Drop>(hosts: &mut Vec<HostState<P>>, entry: Entry, formers: &mut Vec<Former>)
+    requires room { length formers.old.items < vec_capacity formers.old }
+    ensures entered { (k : ℕ) → slice_get hosts.new.items k
         ≡ entered (found_one k entry) (slice_get hosts.old.items k) }
+    ensures back { before_all formers.new.items hosts.new ≡ before_all formers.old.items hosts.old }
+    ensures more { length formers.new.items ≤ length formers.old.items + 1 }
+    ensures capacity { vec_capacity formers.new ≡ vec_capacity formers.old }
 {
     let Entry {
         host,
@@ -116,17 +123,49 @@ fn enter_one<P: Drop>(hosts: &mut Vec<HostState<P>>, entry: Entry)
         return;
     }
     let state = &mut hosts[host];
+    let former = Former {
+        host,
+        position: mem::replace(&mut state.position, position),
+        handlers: mem::replace(&mut state.handlers, handlers),
+    };
+    formers.push_reserved(former);
+}
+
+/// The hosts begin, each where its first entry says; where they stood is kept behind the others.
+pub fn enter<P: Drop>(hosts: &mut Vec<HostState<P>>, entries: Vec<Entry>, formers: &mut Vec<Former>)
+    requires room { length formers.old.items + length entries.items ≤ vec_capacity formers.old }
+    ensures entered { (k : ℕ) → slice_get hosts.new.items k
+        ≡ entered (found k entries.items) (slice_get hosts.old.items k) }
+    ensures back { before_all formers.new.items hosts.new ≡ before_all formers.old.items hosts.old }
+{
+    let mut entries = entries;
+    while let Some(entry) = entries.pop() {
+        enter_one(hosts, entry, formers);
+    }
+}
+
+fn restore_one<P: Drop>(hosts: &mut Vec<HostState<P>>, former: Former)
+    ensures { hosts.new ≡ before_one former hosts.old }
+{
+    let Former {
+        host,
+        position,
+        handlers,
+    } = former;
+    if host >= hosts.len() {
+        return;
+    }
+    let state = &mut hosts[host];
     state.position = position;
     state.handlers = handlers;
 }
 
-/// The hosts begin, each where its first entry says.
-pub fn enter<P: Drop>(hosts: &mut Vec<HostState<P>>, entries: Vec<Entry>)
-    ensures { (k : ℕ) → slice_get hosts.new.items k
-        ≡ entered (found k entries.items) (slice_get hosts.old.items k) }
+/// The hosts stand where they stood, the last that began first.
+pub fn restore<P: Drop>(hosts: &mut Vec<HostState<P>>, formers: Vec<Former>)
+    ensures { hosts.new ≡ before_all formers.items hosts.old }
 {
-    let mut entries = entries;
-    while let Some(entry) = entries.pop() {
-        enter_one(hosts, entry);
+    let mut formers = formers;
+    while let Some(former) = formers.pop() {
+        restore_one(hosts, former);
     }
 }

@@ -78,9 +78,7 @@ impl<P> Stage<P> {
 }
 
 impl<P: Drop> HostState<P> {
-    ghost use Rattle.std.specs.Prelude.{◌≢◌};
-    ghost use Rattle.pb_core.specs.declared.host.Stage.TheVariants.{Waits};
-    ghost use Rattle.pb_core.specs.Hosts.{IsCopy, IsFresh};
+    ghost use Rattle.pb_core.specs.Hosts.{IsFresh};
 
     /// A host before its first play.
     ///
@@ -97,26 +95,6 @@ impl<P: Drop> HostState<P> {
             stage: Stage::Waits,
             recap: Recap::empty(),
         })
-    }
-
-    // Another host that is the same, where no job is out.
-    pub(crate) fn copy(&self) -> Result<HostState<P>, CoreFault>
-        ensures same { IfOk result (IsCopy self.now) }
-        ensures there { IfErr result (λ e. e ≡ CoreFault.NotThere → self.now.stage ≢ Waits) }
-        ensures full { IfErr result (λ e. e ≡ CoreFault.Full → ⊥) }
-    {
-        match self.stage {
-            Stage::Runs { .. } => Err(CoreFault::NotThere),
-            Stage::Waits => {
-                let position = self.position.copy()?;
-                Ok(HostState {
-                    position,
-                    handlers: self.handlers,
-                    stage: Stage::Waits,
-                    recap: self.recap,
-                })
-            }
-        }
     }
 }
 

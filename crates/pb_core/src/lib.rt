@@ -5,7 +5,7 @@
 //         core.begin(host, passes, ticket, calls)?; // its task's, as they were evaluated
 //         core.settle(host, outcome)?; // once its calls were answered; or `again`, or `leave`
 //         if core.can_turn() {
-//             core = core.turned()?.core;
+//             core.turn_all()?;
 //         }
 //     }
 #![tactic(auto)]

@@ -1,28 +1,36 @@
 // The batches of a run, one after the other: its opening, and its Turns.
-ghost use Rattle.std.specs.Prelude.{◌-◌, ◌<◌, ◌≡◌, [], ◌∷◌, ◌++◌, All, IfErr, IfOk, None, OnErr};
-ghost use Rattle.std.specs.Prelude.{OnOk, false, length, replicate};
+ghost use Rattle.std.specs.Prelude.{◌-◌, ◌<◌, ◌≡◌, [], ◌∷◌, ◌++◌, ℕ, All, IfErr, IfOk, None};
+ghost use Rattle.std.specs.Prelude.{OnErr, OnOk, length, replicate};
 ghost use Rattle.pb_language.specs.Machine.{turn};
-ghost use Rattle.pb_core.specs.Hosts.{AreCopies, HasJob, IsFresh};
-ghost use Rattle.pb_core.specs.Cores.{AreEntriesAt, AreOfNoProgram, HasNoPlay, IsBusy, IsIdleCopy};
-ghost use Rattle.pb_core.specs.Cores.{LeadsTo, batches_left, scheduled_batches, tickets_of};
-ghost use Rattle.pb_core.specs.Events.{CanTurn, IsDisabled, Opens, RunsBatch, Turns, TurnsTo};
+ghost use Rattle.pb_core.specs.Hosts.{IsFresh};
+ghost use Rattle.pb_core.specs.Cores.{AreEntriesAt, AreOfNoProgram, HasNoPlay, LeadsTo};
+ghost use Rattle.pb_core.specs.Cores.{batches_left, scheduled_batches, tickets_of};
+ghost use Rattle.pb_core.specs.Events.{IsDisabled, Opens, RunsBatch, Turns, TurnsAll};
+ghost use Rattle.pb_core.specs.Formers.{before, before_turns};
+ghost use Rattle.pb_core.specs.declared.index.ReadyIndex.{ReadyIndex};
 
 use crate::active::is_any_here;
 use crate::batch::{Batch, RunPlay, Schedule};
-use crate::entries::{enter, entries_of, index_of};
-use crate::entry::Entry;
+use crate::entries::{enter, entries_of, index_of, restore};
+use crate::entry::{Entry, Former};
 use crate::fault::CoreFault;
 use crate::host::HostState;
 use crate::index::ReadyIndex;
 use crate::run::RunCore;
 use std::alloc::{AllocError, Global};
+use std::mem;
 use std::sync::Arc;
 
-/// A core after so many Turns.
+/// Turns that happened one after the other, with what it takes to take them back.
 #[derive(Drop)]
-pub struct Turned<P> {
-    pub core: RunCore<P>,
+pub struct Turned {
+    /// How many they are.
     pub turns: usize,
+    // the batch that ran before them, and its index
+    current: usize,
+    index: ReadyIndex,
+    // where hosts stood, in the order in which they began
+    formers: Vec<Former>,
 }
 
 impl<P> RunCore<P> {
@@ -72,84 +80,123 @@ impl<P: Drop> RunCore<P> {
         ensures there { IfErr result (λ e. e ≡ CoreFault.NotThere → IsDisabled turn self.old) }
         ensures full { IfErr result (λ e. e ≡ CoreFault.Full → ⊥) }
     {
+        let mut formers = Vec::new(*self.hosts.allocator());
+        self.turn_from(&mut formers)?;
+        Ok(())
+    }
+
+    /// All Turns that can happen now, one after the other.
+    ///
+    /// # Errors
+    ///
+    /// Want of memory; `NotThere` where the batch isn't over. Nothing has changed then.
+    pub fn turn_all(&mut self) -> Result<Turned, CoreFault>
+        ensures turns { IfOk result (λ t. TurnsAll t.turns self.old self.new) }
+        ensures back { IfOk result (λ t. before_turns t self.new ≡ self.old) }
+        ensures tickets { OnOk result (tickets_of self.new ≡ tickets_of self.old) }
+        ensures err { OnErr result (self.new ≡ self.old) }
+        ensures there { IfErr result (λ e. e ≡ CoreFault.NotThere → IsDisabled turn self.old) }
+        ensures full { IfErr result (λ e. e ≡ CoreFault.Full → ⊥) }
+    {
+        if !self.can_turn() {
+            return Err(CoreFault::NotThere);
+        }
+        let current = self.current;
+        let mut formers = Vec::new(*self.hosts.allocator());
+        let index = self.turn_from(&mut formers)?;
+        let mut turns = 1;
+        while self.can_turn() {
+            match self.turn_from(&mut formers) {
+                Ok(_) => turns += 1,
+                Err(fault) => {
+                    self.stand_back(current, index, formers);
+                    return Err(fault);
+                }
+            }
+        }
+        Ok(Turned {
+            turns,
+            current,
+            index,
+            formers,
+        })
+    }
+
+    /// Those Turns, the last that happened, are taken back.
+    pub fn turn_back(&mut self, turned: Turned)
+        ensures back { self.new ≡ before_turns turned self.old }
+        ensures tickets { tickets_of self.new ≡ tickets_of self.old }
+    {
+        let Turned {
+            current,
+            index,
+            formers,
+            ..
+        } = turned;
+        self.stand_back(current, index, formers);
+    }
+
+    // The batch of that number runs again, with that index, and the hosts stand as they did.
+    fn stand_back(&mut self, current: usize, index: ReadyIndex, formers: Vec<Former>)
+        ensures { self.new ≡ before current index formers.items self.old }
+    {
+        self.current = current;
+        self.index = index;
+        restore(&mut self.hosts, formers);
+    }
+
+    // One Turn happens, and where its hosts stood is kept behind the others. What comes back is the
+    // index of the batch that is over.
+    fn turn_from(&mut self, formers: &mut Vec<Former>) -> Result<ReadyIndex, CoreFault>
+        ensures turns { OnOk result (Turns self.old self.new) }
+        ensures fewer { OnOk result (batches_left self.new < batches_left self.old) }
+        ensures tickets { OnOk result (tickets_of self.new ≡ tickets_of self.old) }
+        ensures back { (number : ℕ) (index : ReadyIndex)
+            → before number index formers.new.items self.new
+            ≡ before number index formers.old.items self.old }
+        ensures index { IfOk result (λ x. x ≡ self.old.index) }
+        ensures err { OnErr result (self.new ≡ self.old) }
+        ensures there { IfErr result (λ e. e ≡ CoreFault.NotThere → IsDisabled turn self.old) }
+        ensures full { IfErr result (λ e. e ≡ CoreFault.Full → ⊥) }
+    {
         if !self.can_turn() {
             return Err(CoreFault::NotThere);
         }
         let next = self.next_batch();
-        self.begin_batch(next)?;
-        Ok(())
+        let index = self.begin_batch(next, formers)?;
+        Ok(index)
     }
 
-    /// The core after all Turns that can happen now, one after the other. This one stays as it
-    /// was.
-    ///
-    /// # Errors
-    ///
-    /// Want of memory; `NotThere` where the batch isn't over.
-    pub fn turned(&self) -> Result<Turned<P>, CoreFault>
-        ensures turns { IfOk result (λ t. TurnsTo t.turns self.now t.core) }
-        ensures over { IfOk result (λ t. CanTurn t.core false) }
-        ensures some { IfOk result (λ t. 0 < t.turns) }
-        ensures tickets { IfOk result (λ t. tickets_of t.core ≡ tickets_of self.now) }
-        ensures there { IfErr result (λ e. e ≡ CoreFault.NotThere → IsDisabled turn self.now) }
-        ensures full { IfErr result (λ e. e ≡ CoreFault.Full → ⊥) }
-    {
-        if !self.can_turn() {
-            return Err(CoreFault::NotThere);
-        }
-        let mut core = self.copy_idle()?;
-        core.turn()?;
-        let mut turns = 1;
-        while core.can_turn() {
-            core.turn()?;
-            turns += 1;
-        }
-        Ok(Turned { core, turns })
-    }
-
-    // Another core that is the same, where all hosts are idle.
-    fn copy_idle(&self) -> Result<RunCore<P>, CoreFault>
-        ensures same { IfOk result (IsIdleCopy self.now) }
-        ensures left { IfOk result (λ c. batches_left c ≡ batches_left self.now) }
-        ensures tickets { IfOk result (λ c. tickets_of c ≡ tickets_of self.now) }
-        ensures there { IfErr result (λ e. e ≡ CoreFault.NotThere → IsBusy self.now) }
-        ensures full { IfErr result (λ e. e ≡ CoreFault.Full → ⊥) }
-    {
-        let alloc = *self.hosts.allocator();
-        let schedule = self.schedule.clone()?;
-        let hosts = copies_of(alloc, &self.hosts)?;
-        Ok(RunCore {
-            schedule,
-            current: self.current,
-            hosts,
-            index: ReadyIndex::new(alloc),
-            forks: self.forks,
-            handed: self.handed,
-            is_stopped: self.is_stopped,
-        })
-    }
-
-    // The batch of that number begins, or the run ends past the last one.
-    fn begin_batch(&mut self, number: usize) -> Result<(), CoreFault>
+    // The batch of that number begins, or the run ends past the last one; where its hosts stood is
+    // kept behind the others. What comes back is the index that was.
+    fn begin_batch(
+        &mut self,
+        number: usize,
+        formers: &mut Vec<Former>,
+    ) -> Result<ReadyIndex, CoreFault>
         ensures runs { OnOk result (RunsBatch number self.old self.new) }
         ensures left { OnOk result
             (batches_left self.new ≡ length (scheduled_batches self.old) - number) }
         ensures tickets { OnOk result (tickets_of self.new ≡ tickets_of self.old) }
+        ensures back { (number : ℕ) (index : ReadyIndex)
+            → before number index formers.new.items self.new
+            ≡ before number index formers.old.items self.old }
+        ensures index { IfOk result (λ x. x ≡ self.old.index) }
         ensures err { OnErr result (self.new ≡ self.old) }
         ensures there { IfErr result (λ e. e ≡ CoreFault.NotThere → HasNoPlay number self.old) }
         ensures full { IfErr result (λ e. e ≡ CoreFault.Full → ⊥) }
     {
+        let alloc = *self.hosts.allocator();
         if number >= self.schedule().batches.len() {
             self.current = number;
-            return Ok(());
+            return Ok(mem::replace(&mut self.index, ReadyIndex::new(alloc)));
         }
         let entries = self.entries_at(number)?;
-        let alloc = *self.hosts.allocator();
         let index = index_of(alloc, &entries)?;
+        formers.reserve(entries.len())?;
         self.current = number;
-        self.index = index;
-        enter(&mut self.hosts, entries);
-        Ok(())
+        enter(&mut self.hosts, entries, formers);
+        Ok(mem::replace(&mut self.index, index))
     }
 
     /// A run of so many hosts in which nothing has happened yet.
@@ -182,7 +229,7 @@ impl<P: Drop> RunCore<P> {
             handed: 0,
             is_stopped: false,
         };
-        core.begin_batch(0)?;
+        core.begin_batch(0, &mut Vec::new(alloc))?;
         Ok(core)
     }
 }
@@ -205,20 +252,6 @@ fn hosts_of<P: Drop>(alloc: Global, count: usize) -> Result<Vec<HostState<P>>, A
         add_host(&mut hosts, host)?;
     }
     Ok(hosts)
-}
-
-// The same hosts once more, where no job is out.
-fn copies_of<P: Drop>(alloc: Global, hosts: &[HostState<P>]) -> Result<Vec<HostState<P>>, CoreFault>
-    ensures copies { IfOk result (λ xs. AreCopies hosts.now xs.items) }
-    ensures there { IfErr result (λ e. e ≡ CoreFault.NotThere → HasJob hosts.now) }
-    ensures full { IfErr result (λ e. e ≡ CoreFault.Full → ⊥) }
-{
-    let mut copies = Vec::with_capacity(alloc, hosts.len())?;
-    for host in hosts {
-        let copy = host.copy()?;
-        add_host(&mut copies, copy)?;
-    }
-    Ok(copies)
 }
 
 fn add_host<P: Drop>(hosts: &mut Vec<HostState<P>>, host: HostState<P>) -> Result<(), AllocError>

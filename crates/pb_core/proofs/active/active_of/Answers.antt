@@ -2,7 +2,7 @@ use Rattle.std.proofs.Common.{◌<◌, ◌+◌, ◌∷◌, ◌∙◌, [], All, g
 use Rattle.std.proofs.lemmas.List.Elements.{All-append}
 use Rattle.pb_core.specs.Entries.{AreHere, IsHere}
 use Rattle.pb_core.proofs.Runs.{all_one}
-use Rattle.pb_core.proofs.Copies.{here_more, here_less}
+use Rattle.pb_core.proofs.Turnings.{here_more, here_less}
 use Rattle.pb_core.proofs.active.active_of.Goals.{then-is_here+in_ok-push, else-is_here}
 use Rattle.pb_core.proofs.active.active_of.Goals as goal
 

@@ -1,7 +1,7 @@
 use Rattle.std.proofs.Common.{sym, subst, subst₂}
 use Rattle.pb_core.specs.Events.{AreActive}
 use Rattle.pb_core.specs.Entries.{AreHere}
-use Rattle.pb_core.proofs.Copies.{active_none, active_by}
+use Rattle.pb_core.proofs.Turnings.{active_none, active_by}
 use Rattle.pb_core.proofs.run.RunCore.active.Goals as goal
 
 pub returns-in_default-clause-active : goal.returns-in_default-clause-active

@@ -1,5 +1,5 @@
 -- What a task comes to, beside the definitions' functions of its answers.
-use Rattle.std.specs.Prelude.{◌≡◌, ℕ, List, map, drop, Bool, true, false, not, ◌&&◌, cond, Option}
+use Rattle.std.specs.Prelude.{◌≡◌, ℕ, List, map, Bool, true, false, not, ◌&&◌, cond, Option}
 use Rattle.std.specs.Prelude.{Some, None, option_map, string_bytes}
 use Rattle.pb_semantics.specs.Data.{Data, Fields, boolean, put_all, text, rec}
 use Rattle.pb_language.specs.Evaluation.{Outcome as Evaluated, value}
@@ -9,12 +9,13 @@ use Rattle.pb_language.specs.Give.{admitted, breached, unreached, Results, resul
 use Rattle.pb_language.specs.Give.{with_ended, any_changed, any_failed, all_skipped, asks_again}
 use Rattle.pb_language.specs.Give.{last_attempts, message_of, register_field, registered_fields}
 use Rattle.pb_language.specs.Give.{with_all_sets, written_variables}
-use Rattle.pb_language.specs.Task.{Task}
+use Rattle.pb_language.specs.Start as started
+use Rattle.pb_language.specs.Task.{Action, Task}
 use Rattle.pb_language.specs.World.{World}
 use Rattle.pb_kind.specs.KindView.{shape_view}
 use Rattle.pb_value.specs.View.{fields_view}
 use Rattle.pb_start.specs.Blocks.{block_fields}
-use Rattle.pb_finish.specs.Answers.{IsFaultOf, first_of}
+use Rattle.pb_finish.specs.Breaches.{IsFirstBreach}
 use Rattle.pb_finish.specs.Results.{assignments_view}
 use Rattle.pb_finish.specs.declared.answer.Answer.{Answer}
 use Rattle.pb_finish.specs.declared.ending.Ending.{Ending}
@@ -94,7 +95,7 @@ EndsAs e w t n (admitted os) =
 EndsAs e w t n breached = IsBreach e
 EndsAs e w t n unreached = e ≡ endings.Unreached
 
--- a breach tells what is wrong with the answer at its call's place
-abbrev pub TellsBreach : Ending → List Answer → Type 0
-TellsBreach (endings.Breached b) xs = IsFaultOf b.fault (first_of (drop b.call xs))
-TellsBreach e xs = Unit {0}
+-- a breach is the first
+abbrev pub TellsBreach : Ending → Action → List started.Pass → List Answer → Type 0
+TellsBreach (endings.Breached b) a ps xs = IsFirstBreach a ps xs b
+TellsBreach e a ps xs = Unit {0}

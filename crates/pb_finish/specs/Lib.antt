@@ -1,4 +1,5 @@
 pub mod Answers
+pub mod Breaches
 pub mod Results
 pub mod Facts
 pub mod Endings

@@ -1,5 +1,5 @@
 -- What the admitted results of a task's items stand for.
-use Rattle.std.specs.Prelude.{◌≡◌, List, [], ◌∷◌, map, drop, Bool, true, false, Option, Some, None}
+use Rattle.std.specs.Prelude.{◌≡◌, List, [], ◌∷◌, map, Bool, true, false, Option, Some, None}
 use Rattle.std.specs.Prelude.{option_map, string_bytes, codes}
 use Rattle.pb_semantics.specs.Data.{Data, Fields, boolean, put_field}
 use Rattle.pb_semantics.specs.Kind.{Shape}
@@ -13,6 +13,7 @@ use Rattle.pb_kind.specs.KindView.{shape_view}
 use Rattle.pb_value.specs.View.{view}
 use Rattle.pb_start.specs.Blocks.{block_fields}
 use Rattle.pb_finish.specs.Answers.{IsFaultOf, first_of, other_answers}
+use Rattle.pb_finish.specs.Breaches.{IsFirstBreach}
 use Rattle.pb_finish.specs.declared.answer.Answer.{Answer}
 use Rattle.pb_finish.specs.declared.assignments.Assignment.{Assignment}
 use Rattle.pb_finish.specs.declared.assignments.Assignments.{Assignments}
@@ -86,7 +87,7 @@ abbrev pub Explains : AdmittedItem → Option Answer → Type 0
 Explains (items.Breached q) o = IsFaultOf q o
 Explains k o = Unit {0}
 
--- a breach tells what is wrong with the answer at the call's place
-abbrev pub AllExplained : Admitted → List Answer → Type 0
-AllExplained (admission.Breached b) xs = IsFaultOf b.fault (first_of (drop b.call xs))
-AllExplained a xs = Unit {0}
+-- a breach is the first
+abbrev pub AllExplained : Admitted → Action → List started.Pass → List Answer → Type 0
+AllExplained (admission.Breached b) a ps xs = IsFirstBreach a ps xs b
+AllExplained k a ps xs = Unit {0}

@@ -65,7 +65,8 @@ pub(crate) fn admit_answers(
 ) -> Result<Admitted, AllocError>
     ensures admits { IfOk result (λ a. (f : Trees) → admitted_view a ≡ admit_passes
         (action_view f action.now) (map pass_view passes.now) (map answer_data answers.now)) }
-    ensures explains { IfOk result (λ a. AllExplained a answers.now) }
+    ensures explains { IfOk result (λ a. (f : Trees) → AllExplained a
+        (action_view f action.now) (map pass_view passes.now) answers.now) }
 {
     let mut results = Vec::with_capacity(alloc, passes.len())?;
     let mut next = 0;

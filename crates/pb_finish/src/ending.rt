@@ -2,9 +2,11 @@
 ghost use Rattle.std.specs.Prelude.{◌≡◌, IfOk, List, map, option_map};
 ghost use Rattle.pb_language.specs.Give.{admit_passes, admitted, last_attempt, last_attempts};
 ghost use Rattle.pb_language.specs.Give.{retries_of};
-ghost use Rattle.pb_language.specs.Task.{Task};
+ghost use Rattle.pb_language.specs.Start.{Pass as Passed};
+ghost use Rattle.pb_language.specs.Task.{Action, Task};
+ghost use Rattle.pb_syntax.specs.Words.{Trees};
 ghost use Rattle.pb_task.specs.Words.{attempts_view};
-ghost use Rattle.pb_start.specs.Words.{Prepares, pass_view};
+ghost use Rattle.pb_start.specs.Words.{Prepares, action_view, pass_view};
 ghost use Rattle.pb_finish.specs.Answers.{answer_data};
 ghost use Rattle.pb_finish.specs.Endings.{EndsAs, TellsBreach, final_view};
 ghost use Rattle.pb_finish.specs.Results.{result_view};
@@ -42,10 +44,10 @@ pub enum Ending {
 }
 
 /// What the answers to the calls of a task make of it, in the world of its Start. They are
-/// admitted in the order of the calls, and the first breach or unreachable answer decides. Then
-/// `changed_when`, `failed_when` and `until` are asked of each item that wasn't skipped (Ansible's
-/// pages on error handling and on loops), and the calls are made again where `until` doesn't hold
-/// and some are left. Where the definitions have no results, anything.
+/// admitted in the order of the calls, and the first breach or unreachable answer decides; a breach
+/// tells its place. Then `changed_when`, `failed_when` and `until` are asked of each item that
+/// wasn't skipped (Ansible's pages on error handling and on loops), and the calls are made again
+/// where `until` doesn't hold and some are left. Where the definitions have no results, anything.
 ///
 /// # Errors
 ///
@@ -60,7 +62,9 @@ pub fn finish<V: Vars>(
     ensures ends { IfOk result (λ e. (t : Task) → Prepares prepared.now t
         → EndsAs e (V.world vars.now) t given.now.tried (admit_passes t.action
         (map pass_view given.now.passes.now) (map answer_data given.now.answers.now))) }
-    ensures breach { IfOk result (λ e. TellsBreach e given.now.answers.now) }
+    ensures breach { IfOk result (λ e. (f : Trees) → TellsBreach e
+        (action_view f prepared.now.action) (map pass_view given.now.passes.now)
+        given.now.answers.now) }
 {
     let admitted = admit_answers(alloc, &prepared.action, given.passes, given.answers, fixed)?;
     match admitted {
@@ -80,7 +84,8 @@ fn end_task<V: Vars>(
 ) -> Result<Ending, AllocError>
     ensures ends { IfOk result (λ e. (t : Task) → Prepares prepared.now t
         → EndsAs e (V.world vars.now) t tried (admitted (map result_view results.items))) }
-    ensures breach { IfOk result (λ e. (xs : List Answer) → TellsBreach e xs) }
+    ensures breach { IfOk result (λ e. (a : Action) (ps : List Passed) (xs : List Answer)
+        → TellsBreach e a ps xs) }
 {
     let all = end_results(alloc, prepared, results, vars)?;
     if until_holds(&all) {

@@ -1,6 +1,7 @@
 mod Passes
 pub mod Worlds
 mod Nodes
+mod HostTasks
 pub mod Endings
 mod Outcomes
 mod Seen
@@ -9,3 +10,4 @@ mod Turns
 mod Openings
 mod Gives
 mod Finishes
+mod Faults

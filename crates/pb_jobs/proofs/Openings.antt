@@ -12,6 +12,11 @@ use Rattle.pb_start.specs.declared.passes.Pass.{Pass}
 use Rattle.pb_world.specs.Variables.{given_variables, host_variables}
 use Rattle.pb_core.specs.Readings.{AreGiven, Reading}
 use Rattle.pb_jobs.specs.Scenes.{IsReading, Kept, hosts_of}
+use Rattle.pb_core.specs.Cores.{AreOfNoProgram}
+use Rattle.pb_core.specs.declared.batch.Schedule.{Schedule}
+use Rattle.pb_core.specs.declared.fault.CoreFault.{CoreFault}
+use Rattle.pb_core.specs.declared.fault.CoreFault.TheVariants.{Full, Memory, NotThere}
+use Rattle.pb_jobs.specs.Faults.{OpensNot}
 use Rattle.pb_jobs.proofs.Worlds.{name_there}
 
 unset : (base : Fields) (names : List Name) (n : ℕ) → variables_over base names (map (option_map view) (replicate n None)) ≡ base
@@ -38,3 +43,9 @@ are_given k reading hosts slots reads facts count = record {
         sym (reads.variables i ∙ ap (λ held. host_variables (hosts_of k) (names_of_slots k.slots) held i) facts
             ∙ unset_row (given_variables (hosts_of k) i) (names_of_slots k.slots) hosts slots i ∙ ap (λ o. unwrap_or (option_map (λ (x : HostVariables). x.variables) o) no_fields) e),
       )
+
+-- what a fault says as the machine is opened
+pub opens_not : (schedule : Schedule) (e : CoreFault) → (e ≡ NotThere → AreOfNoProgram schedule.plays.items schedule.batches.items) → (e ≡ Full → ⊥) → OpensNot schedule e
+opens_not schedule (Memory m) none full = tt
+opens_not schedule NotThere none full = none refl
+opens_not schedule Full none full = full refl

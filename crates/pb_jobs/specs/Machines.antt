@@ -20,11 +20,14 @@ use Rattle.pb_inventory.specs.Inventory.{inventory_view}
 use Rattle.pb_value.specs.View.{fields_view}
 use Rattle.pb_value.specs.declared.value.Value.{Value}
 use Rattle.pb_start.specs.declared.passes.Pass.{Pass}
-use Rattle.pb_core.specs.Cores.{AreBatches}
+use Rattle.pb_core.specs.Cores.{AreBatches, tickets_of}
+use Rattle.pb_core.specs.Events.{TurnsAll}
+use Rattle.pb_core.specs.Formers.{before_turns}
 use Rattle.pb_core.specs.Readings.{Reading}
 use Rattle.pb_core.specs.declared.batch.Schedule.{Schedule}
 use Rattle.pb_core.specs.declared.outcome.TaskOutcome.{TaskOutcome}
 use Rattle.pb_core.specs.declared.run.RunCore.{RunCore}
+use Rattle.pb_core.specs.declared.turns.Turned.{Turned}
 use Rattle.pb_jobs.specs.Active.{IsActiveBatch}
 use Rattle.pb_jobs.specs.Calls.{call_data}
 use Rattle.pb_jobs.specs.Scenes.{IsKept, IsReading, Kept}
@@ -103,6 +106,22 @@ BeginsAfter n k cs old new = (reading : Reading (Vec Pass Global)) (s : FlatStat
 abbrev pub GoesOnTo : ℕ → Machine → Machine → Type 0
 GoesOnTo n old new = (reading : Reading (Vec Pass Global)) (s : FlatState)
     → IsMachine old reading s → IsMachine new reading (turned n s)
+
+-- so many Turns happened, which are all that may
+pub record TurnsAllAs (n : ℕ) (old new : Machine) : Type 0 where
+  pub core : TurnsAll n old.core new.core
+  pub machine : GoesOnTo n old new
+  pub tickets : tickets_of new.core ≡ tickets_of old.core
+  pub calls : new.calls ≡ old.calls
+
+-- the machine before those Turns, but for whether the active hosts are known
+pub record IsBefore (t : Turned) (new old : Machine) : Type 0 where
+  pub inventory : old.inventory ≡ new.inventory
+  pub slots : old.slots ≡ new.slots
+  pub constants : old.constants ≡ new.constants
+  pub facts : old.facts ≡ new.facts
+  pub core : old.core ≡ before_turns t new.core
+  pub calls : old.calls ≡ new.calls
 
 -- it is the state after one Turn that may happen
 abbrev pub TurnsAs : Machine → Machine → Type 0

@@ -1,5 +1,6 @@
 -- What a host's task does as it starts, and what the answers to its job make of it.
-use Rattle.std.specs.Prelude.{◌≡◌, ℕ, List, Vec, Bool, true, false, not, ◌&&◌, map, get_or}
+use Rattle.std.specs.Prelude.{◌≡◌, ◌≤◌, ◌+◌, ◌^◌, ℕ, List, Vec, Bool, true, false, not, ◌&&◌, map}
+use Rattle.std.specs.Prelude.{get_or}
 use Rattle.std.specs.declared.alloc.Global.{Global}
 use Rattle.pb_semantics.specs.Data.{Fields, put_all}
 use Rattle.pb_language.specs.Cases.{action_name}
@@ -8,7 +9,7 @@ use Rattle.pb_language.specs.Give.{last_attempts, written_variables}
 use Rattle.pb_language.specs.Machine.{give, notified_by}
 use Rattle.pb_language.specs.Notify.{handlers_are}
 use Rattle.pb_language.specs.Start as started
-use Rattle.pb_language.specs.Start.{plan_of, planned}
+use Rattle.pb_language.specs.Start.{call_count, plan_of, planned}
 use Rattle.pb_machine.specs.Run as flat
 use Rattle.pb_machine.specs.Run.{FlatState, plan_steps, world_of}
 use Rattle.pb_machine.specs.Ways.{step_at}
@@ -51,11 +52,23 @@ StartsAs c k b = (reading : Reading (Vec Pass Global)) (s : FlatState) → IsSce
     → (m : MayStart s k) (ps : List started.Pass) → (let t = task_of_start m in
     plan_of (world_of s m.batch m.host t) t t.loop ≡ planned ps → IsBegun c m b ps)
 
+-- where it has a plan more calls are handed out to the host than a count has room for
+abbrev pub StartsPast : RunScene → ℕ → Type 0
+StartsPast c k = (reading : Reading (Vec Pass Global)) (s : FlatState) → IsScene c reading s
+    → (m : MayStart s k) (ps : List started.Pass) → (let t = task_of_start m in
+    plan_of (world_of s m.batch m.host t) t t.loop ≡ planned ps
+    → 2 ^ 64 ≤ handed_at c k + call_count ps)
+
 -- the calls of the job that is out
 abbrev pub RepeatsAs : RunScene → ℕ → List Call → Type 0
 RepeatsAs c k cs = (reading : Reading (Vec Pass Global)) (s : FlatState) → IsScene c reading s
     → (w : Works s k) → map call_data cs
     ≡ pass_calls k w.host.name (action_name (step_in w).task.action) w.passes (handed_at c k)
+
+-- more calls would be handed out to the host than a count has room for
+abbrev pub RepeatsPast : RunScene → ℕ → Type 0
+RepeatsPast c k = (reading : Reading (Vec Pass Global)) (s : FlatState) → IsScene c reading s
+    → (w : Works s k) → 2 ^ 64 ≤ handed_at c k + call_count w.passes
 
 -- the task ended so: it notifies these handlers, and the host has these variables
 pub record EndsSo {s : FlatState} {k : ℕ} (w : Works s k) (xs : List Answer) (o : TaskOutcome)

@@ -1,8 +1,9 @@
 // How the machine of a run begins a host's task.
-ghost use Rattle.std.specs.Prelude.{◌+◌, ◌<◌, ◌≡◌, IfOk, IfSome, OnErr, OnOk, Some, get_or, length};
-ghost use Rattle.std.specs.Prelude.{slice_set};
+ghost use Rattle.std.specs.Prelude.{◌+◌, ◌<◌, ◌≡◌, ◌≤◌, ◌^◌, IfErr, IfOk, IfSome, None, OnErr};
+ghost use Rattle.std.specs.Prelude.{OnOk, Some, get_or, length, slice_set};
 ghost use Rattle.pb_core.specs.Words.{tickets_of};
 ghost use Rattle.pb_inventory.specs.Words.{inventory_view};
+ghost use Rattle.pb_jobs.specs.Faults.{BeginsPast, CannotBegin};
 ghost use Rattle.pb_jobs.specs.Machines.{BeginsAs, CountsMore, IsSameBut, IsSceneOf, Looks};
 
 use crate::active::ActiveBatch;
@@ -10,7 +11,7 @@ use crate::job::Call;
 use crate::machine::Machine;
 use crate::scene::RunScene;
 use crate::start::Begun;
-use pb_core::RunCore;
+use pb_core::{CoreFault, RunCore};
 use pb_start::Pass;
 use pb_world::{RunWorld, Variables};
 use std::alloc::{AllocError, Global};
@@ -34,7 +35,10 @@ impl Machine<'_> {
         core: &'r RunCore<Vec<Pass>>,
         batch: &'r ActiveBatch,
     ) -> RunScene<'r>
-        requires { batch.now.hosts.hosts ≡ length (inventory_view self.now.inventory.now).hosts }
+        requires active { batch.now.hosts.hosts
+            ≡ length (inventory_view self.now.inventory.now).hosts }
+        requires hosts { length core.now.hosts.items
+            ≡ length (inventory_view self.now.inventory.now).hosts }
         ensures { IsSceneOf self.now core.now batch.now result }
     {
         let variables = Variables {
@@ -58,12 +62,10 @@ impl Machine<'_> {
 
     // How many calls were handed out to the host, with so many more.
     pub(crate) fn total(&self, host: usize, more: usize) -> Option<u64>
+        requires { host < length self.now.calls.items }
         ensures sum { IfSome result (λ n. n ≡ get_or self.now.calls.items host 0 + more) }
-        ensures within { IfSome result (λ n. host < length self.now.calls.items) }
+        ensures full { result ≡ None → 2 ^ 64 ≤ get_or self.now.calls.items host 0 + more }
     {
-        if host >= self.calls.len() {
-            return None;
-        }
         self.calls[host].checked_add(more as u64)
     }
 
@@ -71,31 +73,31 @@ impl Machine<'_> {
     ///
     /// # Errors
     ///
-    /// Want of memory: nothing has happened then.
+    /// Want of memory; `NotThere` where the host can't start; `Full` where more calls would be
+    /// handed out than a count has room for. Nothing has happened then.
     pub fn begin(
         &mut self,
         alloc: Global,
         host: usize,
         ticket: usize,
-    ) -> Result<Vec<Call>, AllocError>
+    ) -> Result<Vec<Call>, CoreFault>
         ensures begins { IfOk result (λ cs. BeginsAs host cs.items self.old self.new) }
         ensures tickets { OnOk result (tickets_of self.new.core
             ≡ slice_set (tickets_of self.old.core) host (Some ticket)) }
         ensures counts { IfOk result (λ cs. CountsMore host (length cs.items) self.old self.new) }
         ensures err { OnErr result (IsSameBut self.old self.new) }
+        ensures there { IfErr result (λ e. e ≡ CoreFault.NotThere → CannotBegin host self.old) }
+        ensures full { IfErr result (λ e. e ≡ CoreFault.Full → BeginsPast host self.old) }
     {
         self.look(alloc)?;
         let Some(batch) = &self.batch else {
-            return Err(AllocError);
+            unreachable!()
         };
         let Begun { passes, calls } = self.scene(&self.core, batch).start(alloc, host)?;
         let Some(total) = self.total(host, calls.len()) else {
-            return Err(AllocError);
+            return Err(CoreFault::Full);
         };
-        match self.core.begin(host, passes, ticket, calls.len() as u64) {
-            Ok(()) => {}
-            Err(_) => return Err(AllocError),
-        }
+        self.core.begin(host, passes, ticket, calls.len() as u64)?;
         self.calls[host] = total;
         Ok(calls)
     }

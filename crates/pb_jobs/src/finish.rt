@@ -1,12 +1,12 @@
 // What the answers to a host's job make of it.
-ghost use Rattle.std.specs.Prelude.{◌&&◌, ◌≡◌, IfOk, not};
-ghost use Rattle.pb_jobs.specs.Scenes.{IsTaskOf};
+ghost use Rattle.std.specs.Prelude.{◌&&◌, ◌≡◌, IfErr, IfOk, not};
+ghost use Rattle.pb_jobs.specs.HostTasks.{IsHostTask, IsNotOut};
 ghost use Rattle.pb_jobs.specs.Tasks.{ComesAs, FinishesAs, IsEndedOf, NotifiesAs};
 
+use crate::host_task::HostTask;
 use crate::scene::RunScene;
-use pb_core::{Stage, TaskOutcome, TaskStatus};
+use pb_core::{CoreFault, Stage, TaskOutcome, TaskStatus};
 use pb_finish::{Answer, Ending, Given, Outcome, finish};
-use pb_start::Prepared;
 use pb_value::Value;
 use std::alloc::{AllocError, Global};
 
@@ -31,24 +31,29 @@ impl RunScene<'_> {
     ///
     /// # Errors
     ///
-    /// Want of memory.
+    /// Want of memory; `NotThere` where no job of the host is out.
     pub fn finish(
         &self,
         alloc: Global,
         host: usize,
         answers: &[Answer],
-    ) -> Result<Finished, AllocError>
-        ensures { IfOk result (λ f. FinishesAs self.now host answers.now f) }
+    ) -> Result<Finished, CoreFault>
+        ensures finishes { IfOk result (λ f. FinishesAs self.now host answers.now f) }
+        ensures there { IfErr result (λ e. e ≡ CoreFault.NotThere → IsNotOut self.now host) }
+        ensures full { IfErr result (λ e. e ≡ CoreFault.Full → ⊥) }
     {
-        let Some(task) = self.task_of(host) else {
-            return Err(AllocError);
+        let Some(task) = self.task_at(host) else {
+            return Err(CoreFault::NotThere);
         };
-        let ending = self.ending(alloc, host, task, answers)?;
+        let ending = self.ending(alloc, host, &task, answers)?;
         match ending {
             Ending::Unreached => Ok(Finished::Left { is_reached: false }),
             Ending::Breached(_) => Ok(Finished::Left { is_reached: true }),
             Ending::Again => Ok(Finished::Again),
-            Ending::Ended(outcome) => self.ended(alloc, host, task, outcome),
+            Ending::Ended(outcome) => {
+                let finished = self.ended(alloc, host, &task, outcome)?;
+                Ok(finished)
+            }
         }
     }
 
@@ -57,34 +62,31 @@ impl RunScene<'_> {
         &self,
         alloc: Global,
         host: usize,
-        task: &Prepared,
+        task: &HostTask<'_>,
         answers: &[Answer],
-    ) -> Result<Ending, AllocError>
-        requires task { IsTaskOf self.now host task.now }
-        ensures { IfOk result (λ e. ComesAs self.now host answers.now e) }
+    ) -> Result<Ending, CoreFault>
+        requires task { IsHostTask self.now host task.now }
+        ensures comes { IfOk result (λ e. ComesAs self.now host answers.now e) }
+        ensures there { IfErr result (λ e. e ≡ CoreFault.NotThere → IsNotOut self.now host) }
+        ensures full { IfErr result (λ e. e ≡ CoreFault.Full → ⊥) }
     {
-        let Some(state) = self.state_of(host) else {
-            return Err(AllocError);
-        };
         let Stage::Runs {
             attempts,
             passes,
             ..
-        } = &state.stage
+        } = &task.state.stage
         else {
-            return Err(AllocError);
+            return Err(CoreFault::NotThere);
         };
         let failure = self.failure_at(alloc, host, task)?;
-        if host >= self.world.variables.inventory.hosts() {
-            return Err(AllocError);
-        }
         let world = self.world.of_host(host, failure.as_ref());
         let given = Given {
             passes,
             answers,
             tried: *attempts,
         };
-        finish(alloc, task, self.fixed, &given, &world)
+        let ending = finish(alloc, task.task, self.fixed, &given, &world)?;
+        Ok(ending)
     }
 
     // What a task that ended so is for the core, and the variables that it sets.
@@ -92,20 +94,20 @@ impl RunScene<'_> {
         &self,
         alloc: Global,
         host: usize,
-        task: &Prepared,
+        task: &HostTask<'_>,
         outcome: Outcome,
     ) -> Result<Finished, AllocError>
-        requires task { IsTaskOf self.now host task.now }
+        requires task { IsHostTask self.now host task.now }
         ensures { IfOk result (λ f. IsEndedOf self.now host outcome f) }
     {
         let status = TaskStatus {
             is_skipped: outcome.skipped,
             is_changed: outcome.changed,
             has_failed: outcome.failed,
-            is_ignored: task.ignores,
-            is_rescued: task.rescued,
+            is_ignored: task.task.ignores,
+            is_rescued: task.task.rescued,
         };
-        let notified = self.notified(alloc, host, notifies(&outcome))?;
+        let notified = self.notified(alloc, host, task, notifies(&outcome))?;
         let Outcome {
             writes,
             failure,
@@ -120,23 +122,21 @@ impl RunScene<'_> {
     }
 
     // The handlers that the host's task notifies, where it does.
-    fn notified(&self, alloc: Global, host: usize, notifies: bool) -> Result<Vec<usize>, AllocError>
+    fn notified(
+        &self,
+        alloc: Global,
+        host: usize,
+        task: &HostTask<'_>,
+        notifies: bool,
+    ) -> Result<Vec<usize>, AllocError>
+        requires task { IsHostTask self.now host task.now }
         ensures { IfOk result (λ ms. NotifiesAs self.now host notifies ms.items) }
     {
         let mut handlers = Vec::new(alloc);
         if !notifies {
             return Ok(handlers);
         }
-        let Some(index) = self.node_of(host) else {
-            return Err(AllocError);
-        };
-        let Some(play) = self.core.play() else {
-            return Err(AllocError);
-        };
-        if index >= play.plan.steps.len() {
-            return Err(AllocError);
-        }
-        handlers.extend_from_slice(&play.plan.steps[index].notifies)?;
+        handlers.extend_from_slice(&task.step.notifies)?;
         Ok(handlers)
     }
 }

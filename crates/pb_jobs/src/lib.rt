@@ -11,6 +11,7 @@ mod begin;
 mod calls;
 pub mod finish;
 mod give;
+mod host_task;
 pub mod job;
 pub mod machine;
 mod open;

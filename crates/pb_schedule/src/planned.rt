@@ -1,10 +1,16 @@
 // What a run of a book that was accepted goes through: its plays with their plans, and its batches.
-ghost use Rattle.std.specs.Prelude.{ℕ, ◌≡◌, IfOk, length, map};
+ghost use Rattle.std.specs.Prelude.{ℕ, ◌<◌, ◌≡◌, All, IfOk, length, map};
+ghost use Rattle.pb_language.specs.Book.{Registry};
+ghost use Rattle.pb_language.specs.Plays.{program_of};
+ghost use Rattle.pb_language.specs.Program.{all_batches};
+ghost use Rattle.pb_inventory.specs.Words.{inventory_view};
+ghost use Rattle.pb_book.specs.Books.{book_view, plays_of};
 ghost use Rattle.pb_play.specs.Words.{is_linear};
-ghost use Rattle.pb_batches.specs.Batches.{batch_view};
+ghost use Rattle.pb_batches.specs.Batches.{AreBatchesOf, batch_view};
 
 use pb_batches::{PlayBatch, batches_of};
 use pb_core::{Batch, RunPlay, Schedule};
+use pb_inventory::PatternFault;
 use pb_plan::Plan;
 use pb_play::{Play, Strategy};
 use pb_slots::Slots;
@@ -23,10 +29,7 @@ pub struct Planned {
 
 impl Planned {
     ghost use Rattle.pb_language.specs.Expression.{Name};
-    ghost use Rattle.pb_language.specs.Program.{all_batches};
     ghost use Rattle.pb_sig.specs.Modules.{modules_of};
-    ghost use Rattle.pb_inventory.specs.Words.{inventory_view};
-    ghost use Rattle.pb_book.specs.Books.{book_view};
     ghost use Rattle.pb_slots.specs.Words.{names_of_slots};
     ghost use Rattle.pb_steps.specs.Uses.{Among};
     ghost use Rattle.pb_plan.specs.Words.{SomePlayUses};
@@ -52,7 +55,7 @@ impl Planned {
             → SomePlayUses (modules_of checked.now.registry) (book_view checked.now.book) n) }
     {
         let plays = checked.book().plays();
-        let batches = run_batches(alloc, batches_of(alloc, checked.inventory(), plays)?)?;
+        let batches = run_batches(alloc, batches_in(alloc, checked)?)?;
         let plan = Plan::of(alloc, checked)?;
         let plays = run_plays(alloc, plays, plan.plays, plan.tasks)?;
         let schedule = Schedule { plays, batches };
@@ -60,6 +63,26 @@ impl Planned {
             slots: plan.slots,
             schedule,
         })
+    }
+}
+
+// The batches of what was accepted: each word of its patterns names a group or a host (V06).
+fn batches_in(alloc: Global, checked: &Checked) -> Result<Vec<PlayBatch>, AllocError>
+    ensures batches { IfOk result (λ bs. (ms : Registry)
+        → AreBatchesOf ms (inventory_view checked.now.inventory) (plays_of checked.now.book)
+        bs.items (all_batches (program_of ms (inventory_view checked.now.inventory)
+        (book_view checked.now.book)))) }
+    ensures hosts { IfOk result (λ bs. All (λ b. All
+        (λ h. h < length (inventory_view checked.now.inventory).hosts) b.members.items)
+        bs.items) }
+{
+    // Its contract says that what is `checked` was accepted.
+    let _budget = checked.budget();
+    let plays = checked.book().plays();
+    match batches_of(alloc, checked.inventory(), plays) {
+        Ok(batches) => Ok(batches),
+        Err(PatternFault::NoMemory) => Err(AllocError),
+        Err(PatternFault::Unknown) => unreachable!(),
     }
 }
 

@@ -7,5 +7,5 @@ use Rattle.pb_jobs.specs.Calls.{call_data}
 use Rattle.pb_jobs.proofs.calls.calls_of.Given as goal
 
 abbrev pub invariant-loop-pass : goal.invariant-loop-pass
-invariant-loop-pass l = (f : Trees) → pass_calls l.caller.host (string_bytes l.caller.name.now.value) (action_name (action_view f l.action)) (map pass_view l.passes) l.caller.before
-    ≡ map call_data l.calls.items ++ pass_calls l.caller.host (string_bytes l.caller.name.now.value) (action_name (action_view f l.action)) (map pass_view (drop l.pass-index l.passes)) (l.caller.before + length l.calls.items)
+invariant-loop-pass l = (f : Trees) → pass_calls l.host (string_bytes l.task.name.now.value) (action_name (action_view f l.task.task.now.action)) (map pass_view l.passes) l.task.before
+    ≡ map call_data l.calls.items ++ pass_calls l.host (string_bytes l.task.name.now.value) (action_name (action_view f l.task.task.now.action)) (map pass_view (drop l.pass-index l.passes)) (l.task.before + length l.calls.items)

@@ -13,7 +13,7 @@ returns c = λ reading s scene w xs es comes last ms told out.
     let t = (step_in w).task in
     let o = c.args.outcome in
     let ended = last_attempts es in
-    let prepares = c.requires.task reading s scene (at_work w) in
+    let prepares = c.requires.task.task reading s scene (at_work w) in
     let does = c.notifies.ensures ∙ ap₂ (λ a b. a && not b) out.changed out.failed in
     let handlers : c.in_ok-notified.notified.items ≡ ms = c.in_ok-notified.ensures reading s scene (at_work w) ms (ap (λ b. notified_by w.batch.play t b) does ∙ told) in
     record {

@@ -150,6 +150,20 @@ impl<'c> Run<'c> {
         self.recorded.history()
     }
 
+    /// The most module calls that it hands out.
+    pub fn budget(&self) -> u64
+        ensures { result ≡ self.now.accepted.budget }
+    {
+        self.checked.budget()
+    }
+
+    /// Whether it was stopped.
+    pub fn is_stopped(&self) -> bool
+        ensures { result ≡ (state_of self.now).is_stopped }
+    {
+        self.recorded.is_stopped()
+    }
+
     /// How many hosts the inventory has.
     pub fn hosts(&self) -> usize
         ensures inventory { result

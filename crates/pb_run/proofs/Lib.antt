@@ -5,4 +5,5 @@ pub mod Stories
 pub mod Opened
 pub mod Records
 pub mod Takes
+pub mod Behind
 pub mod Follows

@@ -2,5 +2,6 @@ pub mod Openings
 pub mod Recorded
 pub mod Calls
 pub mod Starts
+pub mod Turned
 pub mod Follows
 pub mod Words

@@ -105,6 +105,11 @@ abbrev pub Recaps : ℕ → Recap → RecordedMachine → Type 0
 Recaps k r m = (o : Opening) → IsRecorded o m
     → recap_view r ≡ get_or (recaps_in (state_after o (data_of m.history.items))) k empty_recap
 
+-- whether it was stopped
+abbrev pub TellsStopped : Bool → RecordedMachine → Type 0
+TellsStopped q m = (o : Opening) → IsRecorded o m
+    → q ≡ (state_after o (data_of m.history.items)).is_stopped
+
 -- there are so many hosts
 abbrev pub CountsHosts : ℕ → RecordedMachine → Type 0
 CountsHosts n m = (o : Opening) → IsRecorded o m

@@ -2,7 +2,7 @@
 ghost use Rattle.std.specs.Prelude.{◌≡◌, None, get_or};
 ghost use Rattle.pb_core.specs.Words.{tickets_of};
 ghost use Rattle.pb_run.specs.Calls.{is_ticket};
-ghost use Rattle.pb_run.specs.Recorded.{CountsHosts, Recaps};
+ghost use Rattle.pb_run.specs.Recorded.{CountsHosts, Recaps, TellsStopped};
 
 use crate::event::Event;
 use crate::recorded::RecordedMachine;
@@ -25,6 +25,13 @@ impl RecordedMachine<'_> {
             return Recap::empty();
         }
         hosts[host].recap
+    }
+
+    /// Whether it was stopped.
+    pub fn is_stopped(&self) -> bool
+        ensures { TellsStopped result self.now }
+    {
+        self.is_stopped
     }
 
     /// How many hosts the run has.

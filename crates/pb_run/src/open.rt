@@ -28,7 +28,9 @@ impl<'c> RecordedMachine<'c> {
         ensures none { IfOk result (λ m. m.history.items ≡ []) }
     {
         let history = Vec::with_capacity(alloc, 1)?;
-        let machine = Machine::open(alloc, inventory, slots, schedule, forks)?;
+        let Ok(machine) = Machine::open(alloc, inventory, slots, schedule, forks) else {
+            return Err(AllocError);
+        };
         Ok(RecordedMachine {
             machine,
             history,

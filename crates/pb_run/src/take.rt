@@ -1,15 +1,13 @@
 // What there is to do in a run, and the jobs that it hands out.
 ghost use Rattle.std.specs.Prelude.{◌+◌, ◌++◌, ◌≡◌, ◌≤◌, IfOk, OnErr, OnOk, cond, false, length};
 ghost use Rattle.std.specs.Prelude.{replicate, vec_capacity};
-ghost use Rattle.pb_core.specs.Words.{TurnsTo, tickets_of};
 ghost use Rattle.pb_run.specs.Calls.{StaysRecorded, Takes, TakesSome};
-ghost use Rattle.pb_run.specs.Starts.{GoesOn, StartsJob};
+ghost use Rattle.pb_run.specs.Starts.{StartsJob};
+ghost use Rattle.pb_run.specs.Turned.{GoesOnBehind, IsNotRecorded, StartsBehind, TakesBehind};
 
 use crate::event::{Event, Taken};
 use crate::recorded::RecordedMachine;
-use pb_core::Turned;
 use pb_jobs::Job;
-use pb_start::Pass;
 use std::alloc::AllocError;
 
 impl RecordedMachine<'_> {
@@ -46,17 +44,32 @@ impl RecordedMachine<'_> {
         ensures takes { IfOk result (λ t. Takes t self.old self.new) }
         ensures err { OnErr result (StaysRecorded self.old self.new) }
     {
-        let Ok(turned) = self.machine.core.turned() else {
+        let Ok(turned) = self.machine.turn_all() else {
             return Err(AllocError);
         };
-        match turned.core.ready() {
+        match self.take_behind(turned.turns) {
+            Ok(taken) => Ok(taken),
+            Err(error) => {
+                self.machine.turn_back(turned);
+                Err(error)
+            }
+        }
+    }
+
+    // So many Turns have happened: they are recorded, and then a task starts where one can.
+    fn take_behind(&mut self, turns: usize) -> Result<Taken, AllocError>
+        requires { self.old.is_stopped ≡ false }
+        ensures takes { IfOk result (λ t. TakesBehind turns t self.old self.new) }
+        ensures err { OnErr result (IsNotRecorded self.old self.new) }
+    {
+        match self.machine.core.ready() {
             Some(host) => {
-                let job = self.begin_turned(turned, host)?;
+                let job = self.begin_behind(turns, host)?;
                 Ok(Taken::Job(job))
             }
             None => {
-                let has_ended = turned.core.has_ended();
-                self.go_on(turned)?;
+                let has_ended = self.machine.core.has_ended();
+                self.record_turns(turns)?;
                 Ok(resting(has_ended))
             }
         }
@@ -71,7 +84,9 @@ impl RecordedMachine<'_> {
         let alloc = *self.history.allocator();
         let ticket = self.history.len();
         self.history.reserve(2)?;
-        let calls = self.machine.begin(alloc, host, ticket)?;
+        let Ok(calls) = self.machine.begin(alloc, host, ticket) else {
+            return Err(AllocError);
+        };
         self.history.push_reserved(Event::Start(host));
         Ok(Job {
             ticket,
@@ -80,19 +95,18 @@ impl RecordedMachine<'_> {
         })
     }
 
-    // Those Turns happen, and the host's task begins.
-    fn begin_turned(&mut self, turned: Turned<Vec<Pass>>, host: usize) -> Result<Job, AllocError>
-        requires going { self.old.is_stopped ≡ false }
-        requires turns { TurnsTo turned.turns self.now.machine.core turned.core }
-        requires tickets { tickets_of turned.core ≡ tickets_of self.now.machine.core }
-        ensures starts { IfOk result (λ j. StartsJob turned.turns host j self.old self.new) }
-        ensures err { OnErr result (StaysRecorded self.old self.new) }
+    // So many Turns have happened: they are recorded, and the host's task begins.
+    fn begin_behind(&mut self, turns: usize, host: usize) -> Result<Job, AllocError>
+        requires { self.old.is_stopped ≡ false }
+        ensures starts { IfOk result (λ j. StartsBehind turns host j self.old self.new) }
+        ensures err { OnErr result (IsNotRecorded self.old self.new) }
     {
         let alloc = *self.history.allocator();
-        let turns = turned.turns;
         make_room(&mut self.history, turns)?;
         let ticket = self.history.len() + turns;
-        let calls = self.machine.begin_turned(alloc, turned, host, ticket)?;
+        let Ok(calls) = self.machine.begin(alloc, host, ticket) else {
+            return Err(AllocError);
+        };
         push_turns(&mut self.history, turns);
         self.history.push_reserved(Event::Start(host));
         Ok(Job {
@@ -102,17 +116,13 @@ impl RecordedMachine<'_> {
         })
     }
 
-    // Those Turns happen.
-    fn go_on(&mut self, turned: Turned<Vec<Pass>>) -> Result<(), AllocError>
-        requires going { self.old.is_stopped ≡ false }
-        requires turns { TurnsTo turned.turns self.now.machine.core turned.core }
-        requires tickets { tickets_of turned.core ≡ tickets_of self.now.machine.core }
-        ensures goes { OnOk result (GoesOn turned.turns self.old self.new) }
-        ensures err { OnErr result (StaysRecorded self.old self.new) }
+    // So many Turns have happened: they are recorded.
+    fn record_turns(&mut self, turns: usize) -> Result<(), AllocError>
+        requires { self.old.is_stopped ≡ false }
+        ensures goes { OnOk result (GoesOnBehind turns self.old self.new) }
+        ensures err { OnErr result (IsNotRecorded self.old self.new) }
     {
-        let turns = turned.turns;
         make_room(&mut self.history, turns)?;
-        self.machine.go_on(turned);
         push_turns(&mut self.history, turns);
         Ok(())
     }

@@ -1,0 +1,5 @@
+pub mod Kept
+pub mod Jobs
+pub mod Seats
+pub mod Pools
+pub mod Executed

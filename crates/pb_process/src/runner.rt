@@ -7,7 +7,8 @@ use pb_jobs::Call;
 use pb_json::write_json;
 use pb_runner::Runner;
 use std::alloc::{AllocError, Global};
-use std::process::Processes;
+use std::os::fd::AsRawFd;
+use std::process::{OpenProcess, Processes};
 
 /// Answers each call by the program that is named as its module, in a folder: it is started with
 /// the host's name and the arguments as compact JSON.
@@ -39,7 +40,10 @@ impl<P: Processes> ProcessRunner<P> {
         })
     }
 
-    fn answer(&self, call: &Call) -> Result<Answer, AllocError> {
+    fn answer(&self, call: &Call) -> Result<Answer, AllocError>
+    where
+        <P::Started as OpenProcess>::Stdout: AsRawFd,
+    {
         let program = format!(in self.alloc; "{}/{}", self.folder, call.module)?;
         let arguments = write_json(self.alloc, &call.args)?;
         Ok(run_program(
@@ -52,11 +56,19 @@ impl<P: Processes> ProcessRunner<P> {
     }
 }
 
-impl<P: Processes> Runner for ProcessRunner<P> {
+impl<P: Processes> Runner for ProcessRunner<P>
+where
+    <P::Started as OpenProcess>::Stdout: AsRawFd,
+{
+    ghost use Rattle.std.specs.Prelude.{false};
+
     ghost calls = { λ r. r.made };
 
     // What a program answers is not for a contract to say.
     ghost answers = { λ r c a s. Unit {0} };
+
+    // Want of memory is an answer of its own.
+    ghost short = { λ r. false };
 
     fn call(&mut self, call: &Call) -> Answer {
         self.made += 1;
@@ -68,5 +80,9 @@ impl<P: Processes> Runner for ProcessRunner<P> {
 
     fn made(&self) -> u64 {
         self.made
+    }
+
+    fn is_short(&self) -> bool {
+        false
     }
 }

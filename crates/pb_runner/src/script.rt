@@ -85,11 +85,21 @@ impl ScriptRunner {
         }
     }
 
-    /// Whether there was no memory to give an answer out, and none was given in its place.
-    pub fn is_short(&self) -> bool
-        ensures { result ≡ self.now.is_short }
+    /// Another runner that answers from the same file, and has made no calls.
+    ///
+    /// # Errors
+    ///
+    /// There are too many that share the file.
+    pub fn share(&self) -> Result<ScriptRunner, AllocError>
+        ensures file { IfOk result (λ r. answers_in r ≡ answers_in self.now) }
+        ensures made { IfOk result (λ r. r.made ≡ 0) }
+        ensures fine { IfOk result (λ r. r.is_short ≡ false) }
     {
-        self.is_short
+        Ok(ScriptRunner {
+            answers: self.answers.clone()?,
+            made: 0,
+            is_short: false,
+        })
     }
 }
 
@@ -135,6 +145,8 @@ impl Runner for ScriptRunner {
 
     ghost answers = { IsScripted };
 
+    ghost short = { λ r. r.is_short };
+
     fn call(&mut self, call: &Call) -> Answer {
         self.made += 1;
         match answer_of(&self.answers, call.name.as_str(), call.number) {
@@ -148,6 +160,10 @@ impl Runner for ScriptRunner {
 
     fn made(&self) -> u64 {
         self.made
+    }
+
+    fn is_short(&self) -> bool {
+        self.is_short
     }
 }
 

@@ -1,6 +1,6 @@
 use Rattle.std.proofs.Common.{◌≡◌, ◌+◌, take}
 use Rattle.pb_runner.specs.Answered.{AreAnswered}
-use Rattle.pb_runner.proofs.runner.answers_of.Given as goal
+use Rattle.pb_runner.proofs.runner.call_all.Given as goal
 
 abbrev pub invariant-loop-call : goal.invariant-loop-call
 invariant-loop-call g l = record {

@@ -2,7 +2,7 @@ use Rattle.std.proofs.Common.{◌≡◌, ◌++◌, ◌∷◌, [], ◌+◌, take,
 use Rattle.std.proofs.lemmas.List.{take_more, take_all}
 use Rattle.pb_runner.specs.Answered.{AreAnswered}
 use Rattle.pb_runner.proofs.Answered.{AreAnswered-push}
-use Rattle.pb_runner.proofs.runner.answers_of.Goals as goal
+use Rattle.pb_runner.proofs.runner.call_all.Goals as goal
 
 pub loop-call-preserved : goal.loop-call-preserved
 loop-call-preserved g c =

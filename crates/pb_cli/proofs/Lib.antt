@@ -1,3 +1,4 @@
 pub mod RunTexts
 mod Verdicts
 pub mod Runs
+pub mod Filed

@@ -1,6 +1,6 @@
 -- What the program comes to: what it prints where, and its status.
-use Rattle.std.specs.Prelude.{◌≡◌, ◌≤◌, ◌⊎◌, ℕ, List, length, max, min, option_map, true, false}
-use Rattle.std.specs.Prelude.{Result, Ok, Err, IsErr, string_bytes}
+use Rattle.std.specs.Prelude.{◌≡◌, ◌≤◌, ◌⊎◌, ℕ, List, Bool, length, max, min, option_map, take}
+use Rattle.std.specs.Prelude.{true, false, Result, Ok, Err, IsErr, string_bytes}
 use Rattle.std.specs.declared.alloc.AllocError.{AllocError}
 use Rattle.pb_semantics.specs.Data.{Fields}
 use Rattle.pb_semantics.specs.Limits.{most_answer_bytes}
@@ -12,9 +12,13 @@ use Rattle.pb_run.specs.Recorded.{is_none}
 use Rattle.pb_runner.specs.Scripts.{IsFromFile, script_in}
 use Rattle.pb_runner.specs.declared.script.ScriptFault.{ScriptFault}
 use Rattle.pb_runner.specs.declared.script.ScriptRunner.{ScriptRunner}
-use Rattle.pb_executor.specs.Drives.{Drives}
 use Rattle.pb_executor.specs.Sound.{IsSound}
-use Rattle.pb_executor.specs.States.{RunState, opened, state_of}
+use Rattle.pb_executor.specs.States.{RunState, state_of}
+use Rattle.pb_pool.specs.Executed.{IsAnswerOfOne, IsOpenedWith}
+use Rattle.pb_pool.specs.Kept.{AllTold}
+use Rattle.pb_pool.specs.declared.fault.PoolFault.{PoolFault}
+use Rattle.pb_pool.specs.declared.fault.PoolFault.TheVariants.{NoThread}
+use Rattle.pb_pool.specs.declared.fault.PoolFault.TheVariants as pool
 use Rattle.pb_cli.specs.FileVerdicts.{HasScriptFault, Judges, of_script}
 use Rattle.pb_cli.specs.Texts.{recaps_of, refusal_line, run_lines, status_for, verdict_line}
 use Rattle.pb_cli.specs.declared.judge.Fault.{Fault}
@@ -23,6 +27,8 @@ use Rattle.pb_cli.specs.declared.outcome.Bytes.{Bytes}
 use Rattle.pb_cli.specs.declared.outcome.Outcome.{Outcome}
 use Rattle.pb_cli.specs.declared.outcome.Stream.{Stream}
 use Rattle.pb_cli.specs.declared.outcome.Stream.TheVariants.{Output, Error}
+use Rattle.pb_cli.specs.declared.want.Want.{Want}
+use Rattle.pb_cli.specs.declared.want.Want.TheVariants.{Memory, Thread}
 use Rattle.pb_options.specs.declared.words.LineFault.{LineFault}
 use Rattle.pb_options.specs.declared.words.LineFault.TheVariants as words
 use Rattle.pb_options.specs.declared.words.Options.{Options}
@@ -73,6 +79,11 @@ JudgesFiles b r = Judges (option_map (λ s. s.items) b.signatures) b.inventory.i
 abbrev pub workers : ℕ → Accepted → ℕ
 workers most a = max (min most (length (inventory_view a.inventory).hosts)) 1
 
+-- what wasn't there where a pool gives up
+abbrev pub want_in : PoolFault → Want
+want_in (pool.NoMemory r) = Memory
+want_in (NoThread r) = Thread
+
 -- a run of that book to its end
 pub record IsWholeRun (most : ℕ) (a : Accepted) (r : RunState) : Type 0 where
   pub book : r.accepted ≡ a
@@ -81,11 +92,12 @@ pub record IsWholeRun (most : ℕ) (a : Accepted) (r : RunState) : Type 0 where
   pub ended : is_none (state_of r).batches ≡ true
   pub going_on : (state_of r).is_stopped ≡ false
 
--- each Give of the run has just the file's answers to the calls of its job, in order
+-- each Give of the run has just the file's answers to the calls of a job that a run of the book
+-- hands out by that ticket, in order
 pub record IsAnsweredBy (file : Fields) (a : Accepted) (r : RunState) : Type 0 where
-  pub first : ScriptRunner
-  pub last : ScriptRunner
-  pub driven : Drives (IsFromFile file) (opened a r.forks) first r last
+  pub runners : List ScriptRunner
+  pub told : AllTold (IsAnswerOfOne (IsFromFile file) (λ s. s.is_short) runners
+      (IsOpenedWith a r.forks)) r.history
 
 -- a run of that book to its end, with the answers that are in the bytes
 pub record IsScriptedRun (most : ℕ) (answers : List ℕ) (a : Accepted) (r : RunState) : Type 0 where
@@ -119,14 +131,24 @@ RunsAcceptedAs forks answers a o =
 abbrev pub RunsAs : ℕ → Bytes → Outcome → Type 0
 RunsAs forks b o = (r : Result RunState Fault) × (RunsFiles forks b r × RunSays r o)
 
--- by what is said of a runner, which has made no calls yet
-module _ {R : Type 0} (answers : R → Call → Answer → R → Type 0) (first : R) where
-  -- a run of that book to its end, each Give of which has just what the runner answers to the
-  -- calls of its job, in order
+-- as many programs as there may be workers that put calls to them
+abbrev pub programs_for : Source → ℕ → ℕ
+programs_for (Answers name) forks = 0
+programs_for (Modules name) forks = max forks 1
+
+abbrev pub most_programs : Options → ℕ
+most_programs (Check s) = 0
+most_programs (Run s forks source) = programs_for source forks
+
+-- by what is said of runners, which have made no calls yet
+module _ {R : Type 0} (answers : R → Call → Answer → R → Type 0) (short : R → Bool)
+    (programs : List R) where
+  -- a run of that book to its end, each Give of which has just what the runner of one of its
+  -- workers answers to the calls of a job that a run of the book hands out by that ticket, in order
   pub record IsRunBy (most : ℕ) (a : Accepted) (r : RunState) : Type 0 where
     pub whole : IsWholeRun most a r
-    pub last : R
-    pub driven : Drives answers (opened a r.forks) first r last
+    pub told : AllTold (IsAnswerOfOne answers short (take (workers most a) programs)
+        (IsOpenedWith a r.forks)) r.history
 
   -- what the run of an accepted book comes to
   abbrev pub RunsAcceptedWith : ℕ → Accepted → Outcome → Type 0
@@ -137,7 +159,7 @@ module _ {R : Type 0} (answers : R → Call → Answer → R → Type 0) (first 
   RunsWith forks b o = ((f : Fault) × (JudgesFiles b (Err f) × RunSays (Err f) o))
       ⊎ ((a : Accepted) × (JudgesFiles b (Ok a) × RunsAcceptedWith forks a o))
 
-  -- the file of answers, or the runner, answers the calls
+  -- the file of answers, or the runners, answer the calls
   abbrev pub RunsBy : Source → ℕ → Bytes → Outcome → Type 0
   RunsBy (Answers name) forks b o = RunsAs forks b o
   RunsBy (Modules name) forks b o = RunsWith forks b o

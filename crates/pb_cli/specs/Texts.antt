@@ -13,6 +13,8 @@ use Rattle.pb_run.specs.Recorded.{recaps_in}
 use Rattle.pb_executor.specs.States.{RunState, state_of}
 use Rattle.pb_cli.specs.declared.judge.Fault.{Fault}
 use Rattle.pb_cli.specs.declared.judge.Fault.TheVariants.{Refused, NoMemory}
+use Rattle.pb_cli.specs.declared.want.Want.{Want}
+use Rattle.pb_cli.specs.declared.want.Want.TheVariants.{Memory, Thread}
 
 -- the host's name, or `-` where there is none
 abbrev pub host_text : Option (String Global) → List ℕ
@@ -72,3 +74,8 @@ some_unreachable rs = list_any (λ r. nat_lt 0 r.unreachable) rs
 
 abbrev pub status_for : List Recap → ℕ
 status_for rs = if some_failed rs then 2 else if some_unreachable rs then 4 else 0
+
+-- what wasn't there
+abbrev pub want_line : Want → List ℕ
+want_line Memory = codes "playcheck: want of memory" ++ (10 ∷ [])
+want_line Thread = codes "playcheck: no thread" ++ (10 ∷ [])

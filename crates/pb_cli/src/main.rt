@@ -6,6 +6,7 @@ mod judge;
 mod outcome;
 mod program;
 mod texts;
+mod want;
 
 use std::env::Env;
 use std::process::ExitCode;
@@ -13,7 +14,7 @@ use std::{env, io};
 
 fn main(rt: HostRuntime) -> io::Result<ExitCode> {
     let status = match words_of(&rt) {
-        Ok(words) => program::run(&rt, words.as_slice()),
+        Ok(words) => program::run(&rt, &rt, words.as_slice()),
         Err(e) => program::status_of_fault(&rt, e),
     };
     Ok(ExitCode::from(status))

@@ -1,23 +1,28 @@
 // What the words come to, of the bytes of the files that they name: what is printed where, and the
 // status.
-ghost use Rattle.std.specs.Prelude.{◌≡◌, Err, IfOk, Ok, max, min};
+ghost use Rattle.std.specs.Prelude.{◌<◌, ◌≡◌, ◌≤◌, All, Err, IfOk, Ok, false, max, min, sum_by};
+ghost use Rattle.std.specs.Prelude.{vec_len};
 ghost use Rattle.pb_runner.specs.Words.{answers_in};
-ghost use Rattle.pb_executor.specs.Drives.{Drives};
-ghost use Rattle.pb_executor.specs.States.{opened};
-ghost use Rattle.pb_cli.specs.Outcomes.{ChecksAs, IsAnsweredBy, IsOutcome, IsWholeRun};
-ghost use Rattle.pb_cli.specs.Outcomes.{JudgesFiles, LineSays, RunSays, RunsAccepted};
-ghost use Rattle.pb_cli.specs.Outcomes.{RunsAcceptedAs, RunsAcceptedWith, RunsAs, RunsBy};
-ghost use Rattle.pb_cli.specs.Outcomes.{RunsWith, VerdictSays};
+ghost use Rattle.pb_pool.specs.Executed.{IsAnswerOfOne, IsOpenedWith};
+ghost use Rattle.pb_pool.specs.Kept.{AllTold};
+ghost use Rattle.pb_cli.specs.Outcomes.{ChecksAs, IsOutcome, IsWholeRun, JudgesFiles};
+ghost use Rattle.pb_cli.specs.Outcomes.{LineSays, RunSays, RunsAccepted, RunsAcceptedAs};
+ghost use Rattle.pb_cli.specs.Outcomes.{RunsAcceptedWith, RunsAs, RunsBy, RunsWith};
+ghost use Rattle.pb_cli.specs.Outcomes.{VerdictSays, most_programs, programs_for, want_in};
+ghost use Rattle.pb_cli.specs.Outcomes.{workers};
 
 use crate::judge::{Fault, judge};
 use crate::texts::{recap_text, refusal_text, status_of, verdict_text};
+use crate::want::Want;
 use pb_executor::Run;
-use pb_executor::drive::drive;
 use pb_options::{LineFault, Options, Source};
+use pb_pool::{PoolFault, execute};
 use pb_runner::{Runner, ScriptRunner};
 use pb_verify::Checked;
 use std::alloc::{AllocError, Global};
 use std::mem;
+use std::sync::Wait;
+use std::thread::Threads;
 
 /// The status where all is well.
 pub const FINE: u8 = 0;
@@ -25,8 +30,8 @@ pub const FINE: u8 = 0;
 /// The status of a refusal.
 pub const REFUSED: u8 = 1;
 
-/// The status for want of memory.
-pub const NO_MEMORY: u8 = 3;
+/// The status for want of memory, or of a thread.
+pub const WANTING: u8 = 3;
 
 /// The status of a bad command line, of a file that can't be read and of an output that can't be
 /// written.
@@ -91,39 +96,51 @@ fn printed(text: String, status: u8) -> Outcome
 
 /// What comes of the options and the bytes of the files that they name: of `check` the verdict, of
 /// `run` the recap of the run, or the refusal. Without a file of answers the calls of the run are
-/// put to the programs. Nothing for want of memory.
-pub fn outcome_of<R: Runner>(
+/// put to the programs, of which each worker has one. Nothing for want of memory or of a thread.
+pub fn outcome_of<W: Runner + Send + Drop, R: Threads + Wait + Sync>(
+    rt: &R,
     alloc: Global,
     options: &Options,
     bytes: &Bytes,
-    programs: &mut R,
-) -> Result<Outcome, AllocError>
-    requires { R.calls programs.old ≡ 0 }
-    ensures { IfOk result (IsOutcome R.answers programs.old options.now bytes.now) }
+    programs: Vec<W>,
+) -> Result<Outcome, Want>
+    requires none { sum_by W.calls programs.items ≡ 0 }
+    requires enough { most_programs options.now ≤ vec_len programs }
+    ensures { IfOk result (IsOutcome W.answers W.short programs.items options.now bytes.now) }
 {
     match options {
-        Options::Check(_) => checked(alloc, bytes),
-        Options::Run { forks, source, .. } => answered(alloc, source, bytes, *forks, programs),
+        Options::Check(_) => {
+            drop(programs);
+            checked(alloc, bytes)
+        }
+        Options::Run { forks, source, .. } => {
+            answered(rt, alloc, source, bytes, *forks, programs)
+        }
     }
 }
 
-fn answered<R: Runner>(
+fn answered<W: Runner + Send + Drop, R: Threads + Wait + Sync>(
+    rt: &R,
     alloc: Global,
     source: &Source,
     bytes: &Bytes,
     forks: u16,
-    programs: &mut R,
-) -> Result<Outcome, AllocError>
-    requires { R.calls programs.old ≡ 0 }
-    ensures { IfOk result (RunsBy R.answers programs.old source.now forks bytes.now) }
+    programs: Vec<W>,
+) -> Result<Outcome, Want>
+    requires none { sum_by W.calls programs.items ≡ 0 }
+    requires enough { programs_for source.now forks ≤ vec_len programs }
+    ensures { IfOk result (RunsBy W.answers W.short programs.items source.now forks bytes.now) }
 {
     match source {
-        Source::Answers(_) => ran(alloc, bytes, forks),
-        Source::Modules(_) => ran_by(alloc, bytes, forks, programs),
+        Source::Answers(_) => {
+            drop(programs);
+            ran(rt, alloc, bytes, forks)
+        }
+        Source::Modules(_) => ran_by(rt, alloc, bytes, forks, programs),
     }
 }
 
-fn checked(alloc: Global, bytes: &Bytes) -> Result<Outcome, AllocError>
+fn checked(alloc: Global, bytes: &Bytes) -> Result<Outcome, Want>
     ensures { IfOk result (ChecksAs bytes.now) }
 {
     let verdict = verdict_of(alloc, bytes);
@@ -132,12 +149,17 @@ fn checked(alloc: Global, bytes: &Bytes) -> Result<Outcome, AllocError>
     outcome
 }
 
-fn ran(alloc: Global, bytes: &Bytes, forks: u16) -> Result<Outcome, AllocError>
+fn ran<R: Threads + Wait + Sync>(
+    rt: &R,
+    alloc: Global,
+    bytes: &Bytes,
+    forks: u16,
+) -> Result<Outcome, Want>
     ensures { IfOk result (RunsAs forks bytes.now) }
 {
     match verdict_of(alloc, bytes) {
         Ok(checked) => {
-            let outcome = ran_accepted(alloc, &checked, forks, bytes.answers.as_slice());
+            let outcome = ran_accepted(rt, alloc, &checked, forks, bytes.answers.as_slice());
             leave(checked);
             outcome
         }
@@ -145,51 +167,62 @@ fn ran(alloc: Global, bytes: &Bytes, forks: u16) -> Result<Outcome, AllocError>
     }
 }
 
-fn ran_by<R: Runner>(
+fn ran_by<W: Runner + Send + Drop, R: Threads + Wait + Sync>(
+    rt: &R,
     alloc: Global,
     bytes: &Bytes,
     forks: u16,
-    programs: &mut R,
-) -> Result<Outcome, AllocError>
-    requires { R.calls programs.old ≡ 0 }
-    ensures { IfOk result (RunsWith R.answers programs.old forks bytes.now) }
+    programs: Vec<W>,
+) -> Result<Outcome, Want>
+    requires none { sum_by W.calls programs.items ≡ 0 }
+    requires enough { max forks 1 ≤ vec_len programs }
+    ensures { IfOk result (RunsWith W.answers W.short programs.items forks bytes.now) }
 {
     match verdict_of(alloc, bytes) {
         Ok(checked) => {
-            let outcome = ran_accepted_by(alloc, &checked, forks, programs);
+            let outcome = ran_accepted_by(rt, alloc, &checked, forks, programs);
             leave(checked);
             outcome
         }
-        Err(fault) => fault_outcome(alloc, &fault),
+        Err(fault) => {
+            drop(programs);
+            fault_outcome(alloc, &fault)
+        }
     }
 }
 
-// What comes of the run of what was accepted, whose calls the runner answers.
-fn ran_accepted_by<R: Runner>(
+// What comes of the run of what was accepted, whose calls the programs answer.
+fn ran_accepted_by<W: Runner + Send + Drop, R: Threads + Wait + Sync>(
+    rt: &R,
     alloc: Global,
     checked: &Checked,
     forks: u16,
-    runner: &mut R,
-) -> Result<Outcome, AllocError>
-    requires { R.calls runner.old ≡ 0 }
-    ensures { IfOk result (RunsAcceptedWith R.answers runner.old forks checked.now) }
+    programs: Vec<W>,
+) -> Result<Outcome, Want>
+    requires none { sum_by W.calls programs.items ≡ 0 }
+    requires enough { max forks 1 ≤ vec_len programs }
+    ensures { IfOk result
+        (RunsAcceptedWith W.answers W.short programs.items forks checked.now) }
 {
-    let run = whole_run(alloc, checked, forks, runner)?;
+    let mut programs = programs;
+    programs.truncate(workers_of(forks, checked.hosts()));
+    let run = whole_run(rt, alloc, checked, forks, programs)?;
     let outcome = run_outcome(alloc, &run);
     leave(run);
     outcome
 }
 
 // What comes of the run of what was accepted, with the answers of the file.
-fn ran_accepted(
+fn ran_accepted<R: Threads + Wait + Sync>(
+    rt: &R,
     alloc: Global,
     checked: &Checked,
     forks: u16,
     answers: &[u8],
-) -> Result<Outcome, AllocError>
+) -> Result<Outcome, Want>
     ensures { IfOk result (RunsAcceptedAs forks answers.now checked.now) }
 {
-    match scripted_run(alloc, checked, forks, answers) {
+    match scripted_run(rt, alloc, checked, forks, answers)? {
         Ok(run) => {
             let outcome = run_outcome(alloc, &run);
             leave(run);
@@ -204,29 +237,29 @@ fn leave<T: Drop>(value: T) {
     mem::forget(value);
 }
 
-fn verdict_outcome(alloc: Global, verdict: &Result<Checked, Fault>) -> Result<Outcome, AllocError>
+fn verdict_outcome(alloc: Global, verdict: &Result<Checked, Fault>) -> Result<Outcome, Want>
     ensures { IfOk result (VerdictSays verdict.now) }
 {
     let status = match verdict {
         Ok(_) => FINE,
         Err(Fault::Refused(_)) => REFUSED,
-        Err(Fault::NoMemory) => return Err(AllocError),
+        Err(Fault::NoMemory) => return Err(Want::Memory),
     };
     Ok(printed(verdict_text(alloc, verdict)?, status))
 }
 
-fn run_outcome(alloc: Global, run: &Run<'_>) -> Result<Outcome, AllocError>
+fn run_outcome(alloc: Global, run: &Run<'_>) -> Result<Outcome, Want>
     ensures { IfOk result (RunSays (Ok run.now)) }
 {
     Ok(printed(recap_text(alloc, run)?, status_of(run)))
 }
 
-fn fault_outcome(alloc: Global, fault: &Fault) -> Result<Outcome, AllocError>
+fn fault_outcome(alloc: Global, fault: &Fault) -> Result<Outcome, Want>
     ensures { IfOk result (RunSays (Err fault.now)) }
 {
     match fault {
         Fault::Refused(refusal) => Ok(printed(refusal_text(alloc, refusal)?, REFUSED)),
-        Fault::NoMemory => Err(AllocError),
+        Fault::NoMemory => Err(Want::Memory),
     }
 }
 
@@ -245,20 +278,44 @@ fn verdict_of(alloc: Global, bytes: &Bytes) -> Result<Checked, Fault>
     )
 }
 
-/// The run of an accepted book to its end, with the answers of the file; or what is wrong with
-/// these.
-pub fn scripted_run<'c>(
+/// The run of an accepted book to its end, with the answers of the file, or what is wrong with
+/// these. Nothing for want of memory or of a thread.
+pub fn scripted_run<'c, R: Threads + Wait + Sync>(
+    rt: &R,
     alloc: Global,
     checked: &'c Checked,
     forks: u16,
     answers: &[u8],
-) -> Result<Run<'c>, Fault>
-    ensures { RunsAccepted forks answers.now checked.now result }
+) -> Result<Result<Run<'c>, Fault>, Want>
+    ensures { IfOk result (RunsAccepted forks answers.now checked.now) }
 {
-    let mut runner = ScriptRunner::read(alloc, answers)?;
-    let run = ended_run(alloc, checked, forks, &mut runner);
-    leave(runner);
-    Ok(run?)
+    let first = match ScriptRunner::read(alloc, answers) {
+        Ok(first) => first,
+        Err(fault) => return Ok(Err(fault.into())),
+    };
+    let runners = shares_of(alloc, &first, workers_of(forks, checked.hosts()));
+    leave(first);
+    let run = whole_run(rt, alloc, checked, forks, runners?)?;
+    Ok(Ok(run))
+}
+
+// So many runners that answer from the same file, and have made no calls.
+fn shares_of(
+    alloc: Global,
+    first: &ScriptRunner,
+    count: usize,
+) -> Result<Vec<ScriptRunner>, AllocError>
+    ensures count { IfOk result (λ rs. vec_len rs ≡ count) }
+    ensures file { IfOk result
+        (λ rs. All (λ r. answers_in r ≡ answers_in first.now) rs.items) }
+    ensures none { IfOk result
+        (λ rs. sum_by ⟦<ScriptRunner as Runner>⟧.calls rs.items ≡ 0) }
+{
+    let mut runners = Vec::with_capacity(alloc, count)?;
+    for _worker in 0..count {
+        runners.push(first.share()?)?;
+    }
+    Ok(runners)
 }
 
 // As many workers as there are hosts, at most the forks and at least one.
@@ -268,41 +325,43 @@ fn workers_of(forks: u16, hosts: usize) -> usize
     (forks as usize).min(hosts).max(1)
 }
 
-// The run of the book to its end, whose calls the file answers; want of memory also where there was
-// none to give an answer out.
-fn ended_run<'c>(
+// The run of the book to its end, by a worker for each runner, of which there are as many as there
+// are workers. Nothing for want of memory or of a thread.
+fn whole_run<'c, W: Runner + Send + Drop, R: Threads + Wait + Sync>(
+    rt: &R,
     alloc: Global,
     checked: &'c Checked,
     forks: u16,
-    runner: &mut ScriptRunner,
-) -> Result<Run<'c>, AllocError>
-    requires none { ⟦<ScriptRunner as Runner>⟧.calls runner.old ≡ 0 }
+    runners: Vec<W>,
+) -> Result<Run<'c>, Want>
+    requires none { sum_by W.calls runners.items ≡ 0 }
+    requires count { vec_len runners ≡ workers forks checked.now }
     ensures whole { IfOk result (IsWholeRun forks checked.now) }
-    ensures answered { IfOk result (IsAnsweredBy (answers_in runner.old) checked.now) }
-{
-    let run = whole_run(alloc, checked, forks, runner)?;
-    if runner.is_short() {
-        leave(run);
-        return Err(AllocError);
-    }
-    Ok(run)
-}
-
-// The run of the book to its end, whose calls the runner answers.
-fn whole_run<'c, R: Runner>(
-    alloc: Global,
-    checked: &'c Checked,
-    forks: u16,
-    runner: &mut R,
-) -> Result<Run<'c>, AllocError>
-    requires { R.calls runner.old ≡ 0 }
-    ensures whole { IfOk result (IsWholeRun forks checked.now) }
-    ensures driven { IfOk result (λ r. Drives R.answers (opened checked.now r.forks) runner.old r
-        runner.new) }
+    ensures told { IfOk result (λ r. AllTold (IsAnswerOfOne W.answers W.short runners.items
+        (IsOpenedWith checked.now r.forks)) r.history) }
 {
     // A budget fits into 64 bits.
     let _budget = checked.budget();
-    let mut run = Run::open(alloc, checked, workers_of(forks, checked.hosts()))?;
-    drive(&mut run, runner)?;
-    Ok(run)
+    let count = runners.len();
+    match execute(rt, alloc, checked, count, runners) {
+        Ok((run, runners)) => {
+            leave(runners);
+            Ok(run)
+        }
+        Err(fault) => {
+            let want = want_of(&fault);
+            leave(fault);
+            Err(want)
+        }
+    }
+}
+
+// What wasn't there where a pool gives up.
+fn want_of(fault: &PoolFault<'_>) -> Want
+    ensures { result ≡ want_in fault.now }
+{
+    match fault {
+        PoolFault::NoMemory(_) => Want::Memory,
+        PoolFault::NoThread(_) => Want::Thread,
+    }
 }

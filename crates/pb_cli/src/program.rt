@@ -1,78 +1,111 @@
 // The program: reads its words and the files that they name, and prints what comes of them.
+ghost use Rattle.std.specs.Prelude.{◌≡◌, ◌≤◌, IfOk, sum_by, vec_len};
+ghost use Rattle.pb_cli.specs.Outcomes.{most_programs};
 
 use crate::files::read_bounded;
-use crate::outcome::{Bytes, NO_MEMORY, Outcome, Stream, USAGE, line_outcome, outcome_of};
+use crate::outcome::{Bytes, Outcome, Stream, USAGE, WANTING, line_outcome, outcome_of};
+use crate::want::Want;
 use pb_book::BOOK_LIMIT;
 use pb_inventory::INVENTORY_LIMIT;
 use pb_options::input::{is_input, names_input_twice};
 use pb_options::options::options;
-use pb_options::{Options, Source, Subject};
+use pb_options::{LineFault, Options, Source, Subject};
 use pb_process::ProcessRunner;
 use pb_runner::ANSWERS_LIMIT;
 use pb_sig::SIGNATURES_LIMIT;
 use std::alloc::AllocError;
 use std::process::Processes;
 use std::rt::Files;
+use std::sync::Wait;
+use std::thread::Threads;
 use std::{fs, io};
 
-/// Does what the words say; the answer is the program's status.
-pub fn run<R: Files + AllocGlobal + Print + Eprint + Input + Processes>(
-    rt: &R,
-    words: &[String],
-) -> u8 {
+/// Does what the words say; the answer is the program's status. `host` starts the programs: they go
+/// to threads, where a handle that is known by its bounds alone doesn't.
+pub fn run<R>(rt: &R, host: &HostRuntime, words: &[String]) -> u8
+where
+    R: Files + AllocGlobal + Print + Eprint + Input + Threads + Wait + Sync,
+{
     match options(rt.alloc(), words) {
-        Ok(options) => act(rt, &options),
-        Err(fault) => say(rt, line_outcome(fault)),
+        Ok(options) => act(rt, host, &options),
+        Err(fault) => say(rt, line_said(fault)),
     }
 }
 
-fn act<R: Files + AllocGlobal + Print + Eprint + Input + Processes>(
-    rt: &R,
-    options: &Options,
-) -> u8 {
+fn act<R>(rt: &R, host: &HostRuntime, options: &Options) -> u8
+where
+    R: Files + AllocGlobal + Print + Eprint + Input + Threads + Wait + Sync,
+{
     match read_all(rt, options) {
-        Ok(bytes) => say(rt, come_to(rt, options, &bytes)),
+        Ok(bytes) => say(rt, come_to(rt, host, options, &bytes)),
         Err(status) => status,
     }
 }
 
-// What the options and the files come to; without a file of answers, programs answer the calls.
-fn come_to<R: AllocGlobal + Processes>(
-    rt: &R,
-    options: &Options,
-    bytes: &Bytes,
-) -> Result<Outcome, AllocError> {
-    let mut programs = ProcessRunner::new(rt.alloc(), rt, folder_of(options))?;
-    outcome_of(rt.alloc(), options, bytes, &mut programs)
+fn line_said(fault: LineFault) -> Result<Outcome, Want> {
+    Ok(line_outcome(fault)?)
 }
 
-// The folder of the programs; none where no folder is named.
-fn folder_of(options: &Options) -> &str {
+// What the options and the files come to; without a file of answers, programs answer the calls.
+fn come_to<R: AllocGlobal + Threads + Wait + Sync>(
+    rt: &R,
+    host: &HostRuntime,
+    options: &Options,
+    bytes: &Bytes,
+) -> Result<Outcome, Want> {
+    let programs = programs_of(host, options)?;
+    outcome_of(rt, rt.alloc(), options, bytes, programs)
+}
+
+// A runner of the programs for each worker that there may be.
+fn programs_of<'r, R: AllocGlobal + Processes>(
+    rt: &'r R,
+    options: &Options,
+) -> Result<Vec<ProcessRunner<&'r R>>, AllocError>
+    ensures enough { IfOk result (λ ps. most_programs options.now ≤ vec_len ps) }
+    ensures none { IfOk result (λ ps. sum_by (λ p. p.made) ps.items ≡ 0) }
+{
     match options {
         Options::Run {
+            forks,
             source: Source::Modules(folder),
             ..
-        } => folder.as_str(),
-        _ => "",
+        } => programs_in(rt, folder.as_str(), (*forks as usize).max(1)),
+        _ => Ok(Vec::new(rt.alloc())),
     }
+}
+
+fn programs_in<'r, R: AllocGlobal + Processes>(
+    rt: &'r R,
+    folder: &str,
+    count: usize,
+) -> Result<Vec<ProcessRunner<&'r R>>, AllocError>
+    ensures count { IfOk result (λ ps. vec_len ps ≡ count) }
+    ensures none { IfOk result (λ ps. sum_by (λ p. p.made) ps.items ≡ 0) }
+{
+    let mut programs = Vec::with_capacity(rt.alloc(), count)?;
+    for _worker in 0..count {
+        programs.push(ProcessRunner::new(rt.alloc(), rt, folder)?)?;
+    }
+    Ok(programs)
 }
 
 /// The status where the words of the command line can't be had.
 pub fn status_of_fault<R: Eprint>(rt: &R, e: io::Error) -> u8 {
     if e.kind() == io::ErrorKind::OutOfMemory {
-        return no_memory(rt);
+        return wanting(rt, Want::Memory);
     }
     tell(rt, "playcheck: the command line is not UTF-8\n", USAGE)
 }
 
 // Prints what was come to; the answer is the status.
-fn say<R: Print + Eprint>(rt: &R, said: Result<Outcome, AllocError>) -> u8 {
+fn say<R: Print + Eprint>(rt: &R, said: Result<Outcome, Want>) -> u8 {
     match said {
         Ok(outcome) => match outcome.stream {
             Stream::Output => print_text(rt, outcome.text.as_str(), outcome.status),
             Stream::Error => tell(rt, outcome.text.as_str(), outcome.status),
         },
-        Err(_) => no_memory(rt),
+        Err(want) => wanting(rt, want),
     }
 }
 
@@ -82,8 +115,8 @@ fn tell<R: Eprint>(rt: &R, text: &str, status: u8) -> u8 {
     status
 }
 
-fn no_memory<R: Eprint>(rt: &R) -> u8 {
-    tell(rt, "playcheck: want of memory\n", NO_MEMORY)
+fn wanting<R: Eprint>(rt: &R, want: Want) -> u8 {
+    tell(rt, want.text(), WANTING)
 }
 
 // Prints on standard output, which has to take all of it.
@@ -144,7 +177,7 @@ fn read_named<R: Files + AllocGlobal + Eprint + Input>(
         Ok(bytes) => Ok(bytes),
         Err(e) => {
             if e.kind() == io::ErrorKind::OutOfMemory {
-                return Err(no_memory(rt));
+                return Err(wanting(rt, Want::Memory));
             }
             let _ = eprintln!(rt; "playcheck: cannot read {name}");
             Err(USAGE)

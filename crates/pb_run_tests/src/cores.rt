@@ -1,7 +1,6 @@
 // A run of two hosts over a play of two tasks, event by event. What is expected is what the rules
 // say of it.
 ghost use Rattle.std.specs.Prelude.{◌≡◌, IfOk, None, Some, true};
-ghost use Rattle.pb_core.specs.Words.{TurnsTo, tickets_of};
 ghost use Rattle.pb_steps.specs.Words.{all_lead_on};
 
 use pb_core::{Batch, CoreFault, HostState, RunCore, RunPlay, TaskOutcome, TaskStatus, Turned};
@@ -116,12 +115,9 @@ fn done(answer: Result<(), CoreFault>) -> Result<(), Fail> {
     }
 }
 
-pub(crate) fn turned<P: Drop>(core: &RunCore<P>) -> Result<Turned<P>, Fail>
-    ensures turns { IfOk result (λ t. TurnsTo t.turns core.now t.core) }
-    ensures tickets { IfOk result (λ t. tickets_of t.core ≡ tickets_of core.now) }
-{
-    match core.turned() {
-        Ok(after) => Ok(after),
+fn turn_all(core: &mut RunCore<u32>) -> Result<Turned, Fail> {
+    match core.turn_all() {
+        Ok(turned) => Ok(turned),
         Err(_) => Err("refused")?,
     }
 }
@@ -188,13 +184,16 @@ fn a_host_that_fails_leaves(rt: HostRuntime) -> Result<(), Fail> {
     assert!(rt; core.can_turn());
     assert!(rt; core.active(alloc)?.len() == 1);
     // the second batch has no host that is left, so the run ends
-    let after = turned(&core)?;
-    assert!(rt; after.turns == 2);
-    assert!(rt; after.core.has_ended());
-    assert!(rt; after.core.batch().is_none());
-    assert!(rt; after.core.play().is_none());
-    assert!(rt; after.core.ready().is_none());
-    // this core stays in its first batch
+    let turned = turn_all(&mut core)?;
+    assert!(rt; turned.turns == 2);
+    assert!(rt; core.has_ended());
+    assert!(rt; core.batch().is_none());
+    assert!(rt; core.play().is_none());
+    assert!(rt; core.ready().is_none());
+    // taken back, it is in its first batch again
+    core.turn_back(turned);
+    assert!(rt; core.can_turn());
+    assert!(rt; core.active(alloc)?.len() == 1);
     done(core.turn())?;
     assert!(rt; core.batch().is_some());
     assert!(rt; core.can_turn());

@@ -8,7 +8,7 @@ from pathlib import Path
 
 from ansible_formats import wrong_colours, wrong_gitlab, wrong_junit, wrong_sarif, wrong_strict
 from ansible_lookups import wrong_long_names, wrong_lookups, wrong_time_limit
-from ansible_pipelines import lost_words, wrong_action, wrong_completion, wrong_gitlab_job
+from ansible_pipelines import lost_words, wrong_action, wrong_completion, wrong_gitlab_job, wrong_hook
 from ansible_rewritings import wrong_rewritings
 from ansible_tools import SECONDS, TOOL, TOP, run_tool
 from ansible_words import wrong_words
@@ -211,7 +211,7 @@ def lost_files():
 SEARCHES = (lost_titles, lost_files, lost_passes, lost_hook, wrong_long_texts, wrong_many_forms, wrong_conversion,
             wrong_warnings, wrong_signatures, wrong_gitlab, wrong_junit, wrong_strict, wrong_sarif, wrong_colours,
             wrong_lookups, wrong_long_names, wrong_time_limit, wrong_rewritings, wrong_words, wrong_completion,
-            lost_words, wrong_action, wrong_gitlab_job)
+            lost_words, wrong_action, wrong_gitlab_job, wrong_hook)
 
 
 def main():

@@ -1,4 +1,4 @@
-# Tries what stands round the front end: completion of bash, GitHub's action and GitLab's job.
+# Tries what stands round the front end: completion of bash, GitHub's action, GitLab's job and the hook of pre-commit.
 import json
 import os
 import re
@@ -117,6 +117,22 @@ def wrong_action():
                             OPTIONS="--no-lookup\n--strict\n")
             if (done.returncode, done.stdout) != (status, said) or Path(folder, "made").exists():
                 yield f"action.yml: {books!r}: {done}"
+
+
+def wrong_hook():
+    """The hook of pre-commit as the page shows it: the names of changed files stand behind its words."""
+    import yaml
+
+    page = (TOP / "docs" / "IN_PIPELINES.md").read_text(encoding="utf-8")
+    shown = yaml.safe_load(re.search(r"^## pre-commit\n\n```yaml\n(.*?)^```$", page, re.M | re.S)[1])
+    made = {hook["id"]: hook for hook in yaml.safe_load((TOP / ".pre-commit-hooks.yaml").read_text(encoding="utf-8"))}
+    with tempfile.TemporaryDirectory() as folder:
+        made_files(folder)
+        for hook in shown["repos"][0]["hooks"]:
+            for books, status in ((["bad.yml"], 1), (["good book.yml", "folder/more.yml"], 0)):
+                done = run_bash(shlex.join([str(TOP / made[hook["id"]]["entry"]), *hook["args"], *books]), folder)
+                if done.returncode != status or "1 of 1 tasks judged" not in done.stdout:
+                    yield f"pre-commit: {hook['args']}, {books}: {done}"
 
 
 def wrong_gitlab_job():

@@ -1,7 +1,9 @@
 # Checks of modules as programs (`run --modules`): python3 tests/module_checks.py PROGRAM. Each row is a program of the test's
 # own, in shell, and what is wanted of the run by the rules of crates/pb_process/README.md.
+import contextlib
 import json
 import os
+import signal
 import subprocess
 import sys
 import tempfile
@@ -33,7 +35,11 @@ ROWS = [
     ("what it says beside is dropped", f"echo noise >&2; echo '{FINE}'", {"ok": 1}, 0),
     ("the most that it may write", f"echo '{FINE}'; head -c 1048559 /dev/zero | tr '\\0' ' '", {"ok": 1}, 0),
     ("more than it may write", f"echo '{FINE}'; head -c 1048560 /dev/zero | tr '\\0' ' '", {"failed": 1}, 2),
-    ("it writes for ever", "echo $$ >\"$0.pid\"; while :; do echo yes; done", {"failed": 1}, 2),
+    ("its child keeps its output open", f"sleep 300 & echo $! >\"$0.pid\"; echo '{FINE}'", {"ok": 1}, 0),
+    ("its child keeps its output open, and it ends by a status", "sleep 300 & echo $! >\"$0.pid\"; echo '{}'; exit 3", {"failed": 1}, 2),
+    ("its child writes for ever", "while :; do echo yes; done & echo $! >\"$0.pid\"", {"failed": 1}, 2),
+    ("it closes its output and goes on", f"echo '{FINE}'; exec >&-; sleep 1", {"ok": 1}, 0),
+    ("it writes late", f"sleep 1; echo '{FINE}'", {"ok": 1}, 0),
 ]
 
 
@@ -71,7 +77,18 @@ def differs(ran, counts, status):
 
 def of_row(room, text, counts, status):
     room.module("ping", f"#!/bin/sh\n{text}\n")
-    return differs(room.run(PING), counts, status)
+    try:
+        return differs(room.run(PING), counts, status)
+    finally:
+        end_left(room)
+
+
+def end_left(room):
+    """Ends what a program of the test left behind."""
+    number = room.folder / "modules/ping.pid"
+    if number.exists():
+        with contextlib.suppress(OSError):
+            os.kill(int(number.read_text(encoding="utf-8")), signal.SIGKILL)
 
 
 def is_missing(room):
@@ -106,8 +123,8 @@ def is_asked(room):
 
 def is_ended(room):
     """A program that writes for ever has ended when the run has."""
-    text = dict((name, text) for name, text, _, _ in ROWS)["it writes for ever"]
-    found = of_row(room, text, {"failed": 1}, 2)
+    room.module("ping", "#!/bin/sh\necho $$ >\"$0.pid\"; while :; do echo yes; done\n")
+    found = differs(room.run(PING), {"failed": 1}, 2)
     number = int((room.folder / "modules/ping.pid").read_text(encoding="utf-8"))
     for _ in range(50):
         if not os.path.exists(f"/proc/{number}"):

@@ -1,15 +1,24 @@
 # Which wrong programs were refused, and by which sources: tests/refused/CRATE has a line for each, its name and a sum.
 #
-# The sum is over all that a refusal depends on: the kit's line, the edit, every file of the crate's src, specs and proofs, and
+# The sum is over all that a refusal depends on: the kit's logic, the edit, every file of the crate's src, specs and proofs, and
 # the src and specs of all crates below it. So a line counts as long as none of these has changed.
 import functools
 import hashlib
 import os
+import re
 from pathlib import Path
 
 OWN = ("src", "specs", "proofs")
 # What a crate shows to those above it.
 FACE = ("src", "specs")
+# How a kit's line ends: with the sum of the logic in which it proves.
+LOGIC = re.compile(r"\blogic [0-9a-f]{16,}$")
+
+
+def logic_of(kit_line):
+    """In which logic a kit proves: what its line says of that, which is the same for more than one kit; else its whole line."""
+    found = LOGIC.search(kit_line)
+    return found[0] if found else kit_line
 
 
 @functools.cache
@@ -28,11 +37,11 @@ def edit_path(crate, edit):
 
 class Record:
     def __init__(self, folder, kit_line):
-        self.folder, self.kit_line = Path(folder), kit_line
+        self.folder, self.logic = Path(folder), logic_of(kit_line)
 
     def sum_of(self, crate, edit):
         below = sorted((it.name, files_sum(it.folder, FACE)) for it in crate.below())
-        parts = [self.kit_line, hashlib.sha256(edit_path(crate, edit).read_bytes()).hexdigest(), files_sum(crate.folder, OWN)]
+        parts = [self.logic, hashlib.sha256(edit_path(crate, edit).read_bytes()).hexdigest(), files_sum(crate.folder, OWN)]
         lines = [*parts, *(f"{name} {taken}" for name, taken in below)]
         return hashlib.sha256("".join(f"{line}\n" for line in lines).encode()).hexdigest()
 

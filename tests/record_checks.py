@@ -13,7 +13,8 @@ import record
 from record import Record
 from wrong_programs import ONLY_NAMES, tell
 
-KIT = "the kit's line"
+KIT = "kit 13b logic 123456789abcdef0"
+OF_SAME_LOGIC = "kit 13f logic 123456789abcdef0"
 BY_A_GOAL = (True, "refused: `search` did not prove `returns`")
 BY_NAMES = (True, f"{ONLY_NAMES}: `x` has no field `y`")
 ACCEPTED = (False, "NOT REFUSED: the function is still proved with this edit")
@@ -116,9 +117,31 @@ def added_and_gone(tree):
     yield tree.run(), (ALL, (2, 0, 0))
 
 
-def other_kit(tree):
+def same_logic(tree):
+    """A kit of another name that proves in the same logic."""
     tree.run()
-    yield tree.run("another line"), (ALL, (2, 0, 0))
+    before = tree.record_path().read_bytes()
+    yield tree.run(OF_SAME_LOGIC), (NONE, (2, 2, 0))
+    yield tree.record_path().read_bytes(), before
+
+
+def other_kit(line):
+    """Another logic, and a line that names none."""
+
+    def check(tree):
+        tree.run()
+        yield tree.run(line), (ALL, (2, 0, 0))
+        yield tree.run(line), (NONE, (2, 2, 0))
+        yield tree.run(), (ALL, (2, 0, 0))
+
+    return check
+
+
+def kits_without_logic(tree):
+    """Their whole lines count."""
+    tree.run("kit 13b")
+    yield tree.run("kit 13b"), (NONE, (2, 2, 0))
+    yield tree.run("kit 13f"), (ALL, (2, 0, 0))
 
 
 def accepted(tree):
@@ -138,6 +161,14 @@ def one_byte(tree):
     for place in range(text.index("\n")):
         tree.record_path().write_text(text[:place] + chr(ord(text[place]) ^ 1) + text[place + 1 :])
         yield tree.run(), (["one"], (2, 1, 0))
+
+
+def of_another(tree):
+    """Each edit's line with the sum of the other's."""
+    tree.run()
+    one, two = (line.split() for line in tree.record_path().read_text().splitlines())
+    tree.record_path().write_text(f"{one[0]} {two[1]}\n{two[0]} {one[1]}\n")
+    yield tree.run(), (ALL, (2, 0, 0))
 
 
 def by_names(tree):
@@ -173,9 +204,15 @@ CHECKS = {
     "the edit": changed("high/wrong/one.edit"),
     "proofs below": not_seen,
     "a file more, and its name": added_and_gone,
-    "another kit": other_kit,
+    "another kit of the same logic": same_logic,
+    "another logic": other_kit("kit 13b logic 123456789abcdef1"),
+    "a longer logic": other_kit("kit 13b logic 123456789abcdef00"),
+    "a logic before other words": other_kit("kit logic 123456789abcdef0 13b"),
+    "a kit that names no logic": other_kit("kit 13b"),
+    "kits that name no logic": kits_without_logic,
     "an accepted edit": accepted,
     "a byte of the record": one_byte,
+    "the sum of another edit": of_another,
     "refused by names alone": by_names,
     "an edit that is gone": forgotten,
     "a crate that isn't proved": unproved,

@@ -1,13 +1,15 @@
 # Each allocation refused in turn, of the program and, where they are given, of the tests that make calls by hand: the answer, or
 # want of memory by name, and nothing else: python3 tests/refused_checks.py PROGRAM [TESTS]. Where a run makes some thousands of
-# them, every so many-th.
+# them, every so many-th. And each thread of a run refused in turn: want of a thread by name, and no module was started.
 import json
 import os
+import re
 import shutil
 import subprocess
 import sys
 import tempfile
 from concurrent.futures import ThreadPoolExecutor
+from dataclasses import dataclass
 from pathlib import Path
 
 from check import TIMEOUT, Outcome, write_files
@@ -15,9 +17,12 @@ from program_checks import SITE_RECAP
 
 TESTS = Path(__file__).resolve().parent
 SITE = TESTS.parent / "examples/site"
-REFUSED = b"allocation refused\n"  # what refuse.c says
+REFUSED = b"allocation refused\n"  # what refuse.c says,
+THREAD_REFUSED = b"thread refused\n"  # or this,
+TOLD = re.compile(rb"allocations +(\d+)\n")  # and at the end
 MOST = 50_000  # more allocations than any of these makes
 MOST_TRIED = 2_000  # of one run
+TIMES = 3  # as often a run is repeated
 SHOWN = 20
 
 OK = {"changed": True, "rc": 0, "stdout": "a", "stderr": "", "stdout_lines": ["a"], "stderr_lines": []}
@@ -91,10 +96,24 @@ BOOKS = {
     ),
 }
 
+# A run by several workers, each call of which leaves a mark.
+HOSTS = ["h1", "h2", "h3", "h4", "h5"]
+WORKERS = [1, 2, 5]
+MARKS = "#!/bin/sh\n: >\"marks/$1\"\necho '{\"ping\": \"pong\"}'\n"
+FILES |= {
+    "pings": json.dumps([{"hosts": "all", "tasks": [{"ping": None}]}]),
+    "five": json.dumps({"all": {"hosts": HOSTS}}),
+}
+
 ACCEPTED = Outcome(0, b"accepted budget 1\n", b"")
 RECAP = Outcome(0, b"h1 : ok=2 changed=1 unreachable=0 failed=0 skipped=0 rescued=0 ignored=0\n", b"")
 ACCEPTED_OF_THREE = Outcome(0, b"accepted budget 3\n", b"")
+PONGS = Outcome(
+    0, "".join(f"{host} : ok=1 changed=0 unreachable=0 failed=0 skipped=0 rescued=0 ignored=0\n" for host in HOSTS).encode(), b""
+)
 WANT = Outcome(3, b"", b"playcheck: want of memory\n")
+NO_THREAD = Outcome(3, b"", b"playcheck: no thread\n")
+HANGS = Outcome(-1, b"", b"it hangs")
 
 BY_HAND = ["refusals::a_refused_give_and_a_stop"]
 GIVE_REFUSED = b"give refused\n"  # what this one says
@@ -129,65 +148,133 @@ def files_of(name, play, answers):
 def runs():
     """The words of each run, and its outcome."""
     yield RUN, RECAP
-    for name, (_, _, recap, status) in BOOKS.items():
+    for name, (_, answers, recap, status) in BOOKS.items():
         words = ["run", f"{name}-book", "-i", f"{name}-inventory", "--answers", f"{name}-answers"]
-        yield words, Outcome(status, recap.encode(), b"")
+        for forks in ["1", "2"] if len(answers) > 1 else ["1"]:
+            yield [*words, "-f", forks], Outcome(status, recap.encode(), b"")
     book, inventory, answers = (str(SITE / f"{name}.json") for name in ["book", "inventory", "answers"])
     yield ["run", book, "-i", inventory, "--answers", answers], Outcome(0, SITE_RECAP.encode(), b"")
 
 
+@dataclass(frozen=True)
+class Tried:
+    is_refused: bool  # whether the allocation was made, which was refused then
+    made: int  # how many it made, where it came to its end
+    outcome: Outcome
+
+
 def refused(library, folder, words, number):
-    """Whether the allocation of that number was made, and refused, and the outcome."""
+    """A run with the allocation of that number refused; with 0 none is."""
     env = {"LD_PRELOAD": library, "REFUSE": str(number)}
-    done = subprocess.run(words, cwd=folder, env=env, capture_output=True, stdin=subprocess.DEVNULL, timeout=TIMEOUT)
-    return REFUSED in done.stderr, Outcome(done.returncode, done.stdout, done.stderr.replace(REFUSED, b"", 1))
+    how = {"cwd": folder, "env": env, "stdin": subprocess.DEVNULL, "capture_output": True}
+    try:
+        done = subprocess.run(words, timeout=TIMEOUT, check=False, **how)
+    except subprocess.TimeoutExpired:
+        return Tried(False, 0, HANGS)
+    told = TOLD.search(done.stderr)
+    stderr = TOLD.sub(b"", done.stderr.replace(REFUSED, b"", 1))
+    outcome = Outcome(done.returncode, done.stdout, stderr)
+    return Tried(REFUSED in done.stderr, int(told[1]) if told else 0, outcome)
 
 
-def made(library, folder, words):
-    """How many allocations it makes, none of them refused."""
+def tries_of(library, folder, words, number):
+    """Where its threads came to fewer allocations than in another run, it is tried some times more."""
+    found = [refused(library, folder, words, number)]
+    while not found[-1].is_refused and found[-1].outcome != HANGS and len(found) < TIMES:
+        found.append(refused(library, folder, words, number))
+    return [(number, tried) for tried in found]
+
+
+def by_halves(library, folder, words):
+    """The last allocation of a run that ends without telling how many it made."""
     least, most = 0, MOST
-    if refused(library, folder, words, most)[0]:
-        raise RuntimeError(f"{words[0]} made {MOST} allocations or more")
     while most - least > 1:
         middle = (least + most) // 2
-        if refused(library, folder, words, middle)[0]:
-            least = middle
-        else:
-            most = middle
+        is_made = refused(library, folder, words, middle).is_refused
+        least, most = (middle, most) if is_made else (least, middle)
     return least
 
 
 def outcomes(library, folder, words):
-    """The outcome for each number of a refused allocation that is tried, and at the end, with none refused, the last."""
-    last = made(library, folder, words)
-    numbers = [*range(1, last + 1, 1 + last // MOST_TRIED), last + 1]
+    """Each number of a refused allocation that is tried, with what is found: up to the most that a run was seen to make, which may
+    depend on the order of its threads, or to the first that hangs; and 0, with none refused."""
+    found = [(0, refused(library, folder, words, 0)) for _ in range(TIMES)]
+    last = max(tried.made for _, tried in found) or by_halves(library, folder, words)
+    step, following = 1 + last // MOST_TRIED, 1
     with ThreadPoolExecutor(os.cpu_count() or 1) as pool:
-        found = list(pool.map(lambda number: refused(library, folder, words, number), numbers))
-    for number, (is_refused, outcome) in zip(numbers, found):
-        if is_refused != (number <= last):
-            raise RuntimeError(f"{words[0]} made allocation {number} in one run and not in another")
-        yield number, outcome
+        while following <= last < MOST:
+            numbers = range(following, last + 1, step)
+            following = numbers[-1] + step
+            for tries in pool.map(lambda number: tries_of(library, folder, words, number), numbers):
+                found += tries
+                if tries[-1][1].outcome == HANGS:
+                    pool.shutdown(cancel_futures=True)
+                    return found
+            last = max(last, *(tried.made for _, tried in found))
+    if last >= MOST:
+        raise RuntimeError(f"{words[0]} made {last} allocations")
+    return found
+
+
+def seldom_refused(seen):
+    """What is to be said where no number was tried, or few of them were refused."""
+    numbers = {number for number, _ in seen if number}
+    count = len({number for number, tried in seen if tried.is_refused})
+    return [] if numbers and 10 * count >= 9 * len(numbers) else [f"of {len(numbers)} allocations {count} were refused"]
 
 
 def program_failures(library, folder, words, answer):
     """How many refusals were tried, and what is to be said of those that went wrong."""
-    seen = list(outcomes(library, folder, words))
+    seen = outcomes(library, folder, words)
     call = " ".join(words[1:])
-    said = [f"refused-{number} {call}\n  got: {outcome}" for number, outcome in seen if outcome not in (answer, WANT)]
-    if WANT not in [outcome for _, outcome in seen]:
+    # Something may be wanted only where an allocation was refused; an allocation of a run may be one for a thread.
+    wants = [WANT, NO_THREAD] if words[1] == "run" else [WANT]
+    is_good = [tried.outcome == answer or (tried.is_refused and tried.outcome in wants) for _, tried in seen]
+    wrong = [(number, tried.outcome) for (number, tried), good in zip(seen, is_good, strict=True) if not good]
+    said = [f"refused-{number} {call}\n  got: {outcome}" for number, outcome in wrong]
+    said += [f"refused {call}\n  {text}" for text in seldom_refused(seen)]
+    if WANT not in [tried.outcome for _, tried in seen]:
         said.append(f"refused {call}\n  never: {WANT}")
-    if seen[-1][1] != answer:
-        said.append(f"refused {call}\n  wanted with none refused: {answer}\n  got: {seen[-1][1]}")
     return len(seen), said
 
 
 def by_hand_failures(library, folder, tests, name):
     """The same of a test by hand, which judges its calls itself."""
-    seen = list(outcomes(library, folder, [tests, name]))
-    said = [f"refused-{number} {name}\n  got: {outcome}" for number, outcome in seen if outcome.status != 0]
-    if name == BY_HAND[0] and not any(outcome.stderr == GIVE_REFUSED for _, outcome in seen):
+    seen = outcomes(library, folder, [tests, name])
+    said = [f"refused-{number} {name}\n  got: {it.outcome}" for number, it in seen if it.outcome.status != 0]
+    said += [f"refused {name}\n  {text}" for text in seldom_refused(seen)]
+    if name == BY_HAND[0] and not any(tried.outcome.stderr == GIVE_REFUSED for _, tried in seen):
         said.append(f"refused {name}\n  never: a give that is refused")
     return len(seen), said
+
+
+def threads_refused(library, folder, program, workers, number):
+    """What is to be said of a run of five hosts whose thread of that number is refused; with 0 none is."""
+    marks = Path(folder, "marks")
+    shutil.rmtree(marks, ignore_errors=True)
+    marks.mkdir()
+    words = [program, "run", "pings", "-i", "five", "--modules", "modules", "-f", str(workers)]
+    env = {"LD_PRELOAD": library, "REFUSE_THREAD": str(number)}
+    how = {"cwd": folder, "env": env, "stdin": subprocess.DEVNULL, "capture_output": True}
+    try:
+        done = subprocess.run(words, timeout=TIMEOUT, check=False, **how)
+    except subprocess.TimeoutExpired:
+        return [f"thread {number} of {workers}: it hangs"]
+    stderr = TOLD.sub(b"", done.stderr.replace(THREAD_REFUSED, b"", 1))
+    found = Outcome(done.returncode, done.stdout, stderr), THREAD_REFUSED in done.stderr, sorted(os.listdir(marks))
+    # The threads of a run are as many as its workers, so the one behind the last is never asked for.
+    wanted = (NO_THREAD, True, []) if 0 < number <= workers else (PONGS, False, HOSTS)
+    return [] if found == wanted else [f"thread {number} of {workers}\n  wanted: {wanted}\n  got: {found}"]
+
+
+def thread_failures(library, folder, program):
+    """Each thread refused in turn, with 1, 2 and 5 workers: how many were tried, and what is to be said."""
+    module = Path(folder, "modules", "ping")
+    module.parent.mkdir()
+    module.write_text(MARKS, encoding="utf-8")
+    module.chmod(0o755)
+    tried = [(workers, number) for workers in WORKERS for number in range(workers + 2)]
+    return len(tried), [text for each in tried for text in threads_refused(library, folder, program, *each)]
 
 
 def refused_failures(program, tests):
@@ -201,6 +288,7 @@ def refused_failures(program, tests):
             program_failures(library, folder, [program, *CHECK], ACCEPTED),
             program_failures(library, folder, [program, *CHECK_GROUPS], ACCEPTED_OF_THREE),
             *(program_failures(library, folder, [program, *words], outcome) for words, outcome in runs()),
+            thread_failures(library, folder, program),
         ]
         counts += [by_hand_failures(library, folder, tests, name) for name in BY_HAND] if tests else []
     return sum(count for count, _ in counts), [text for _, texts in counts for text in texts]

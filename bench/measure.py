@@ -5,6 +5,7 @@ import re
 import shutil
 import subprocess
 import sys
+import tempfile
 import time
 from pathlib import Path
 from statistics import median
@@ -102,10 +103,54 @@ def can_count():
 
 def instructions(words, wanted=None, ended=0):
     """How many instructions one process takes; its status and what it prints have to be what is wanted."""
-    tool = ["valgrind", "--tool=callgrind", "--callgrind-out-file=/dev/null"]
+    return counted(words, "/dev/null", wanted, ended)
+
+
+def counted(words, path, wanted=None, ended=0):
+    tool = ["valgrind", "--tool=callgrind", f"--callgrind-out-file={path}"]
     done = subprocess.run([*tool, *words], capture_output=True, text=True)
     judge(words, done.returncode, done.stdout, wanted, ended)
     return int(COUNTED.search(done.stderr)[1])
+
+
+class Profile:
+    """The instructions of one process, whole and by calls: of each function that another calls, those until it returns."""
+
+    def __init__(self, words, wanted=None, ended=0):
+        with tempfile.TemporaryDirectory() as folder:
+            path = os.path.join(folder, "profile")
+            self.whole = counted(words, path, wanted, ended)
+            self.calls = calls_in(path)
+
+    def entering(self, part):
+        """Those of the functions whose names begin so, where one is called by a function of another name."""
+        return sum(
+            count for (caller, callee), count in self.calls.items() if callee.startswith(part) and not caller.startswith(part)
+        )
+
+
+def calls_in(path):
+    """From callgrind's file, for each caller and callee the instructions of these calls."""
+    names, found, caller, callee, is_call = {}, {}, "", "", False
+    with open(path, encoding="utf-8") as lines:
+        for text in lines:
+            key, _, value = text.rstrip("\n").partition("=")
+            if key == "fn":
+                caller = named(names, value)
+            elif key == "cfn":
+                callee = named(names, value)
+            elif key == "calls":
+                is_call = True
+            elif is_call:
+                is_call = False
+                found[caller, callee] = found.get((caller, callee), 0) + int(text.split()[-1])
+    return found
+
+
+def named(names, value):
+    """A function by what stands for it, `(number)`, behind which its name stands the first time."""
+    number, _, name = value.partition(" ")
+    return names.setdefault(number, name)
 
 
 # Printing.

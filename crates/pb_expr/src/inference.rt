@@ -1,42 +1,35 @@
 // What is found of an expression, its kind and its first fault, and what its answer teaches.
 ghost use Rattle.std.specs.Prelude.{◌≡◌, IfOk, None, OnOk, option_map, true};
-ghost use Rattle.pb_semantics.specs.Words.{recs};
+ghost use Rattle.pb_semantics.specs.Words.{booleans, recs};
 ghost use Rattle.pb_language.specs.Expression.{defined, path as read, path_or, path_status};
 ghost use Rattle.pb_language.specs.Expansion.{all_expanded, expanded, expanded_root};
 ghost use Rattle.pb_language.specs.Expansion.{parts_expanded};
-ghost use Rattle.pb_language.specs.Fit.{active_fault, read_fault, term_fault, tested_fault};
-ghost use Rattle.pb_language.specs.Kinds.{path_spot, root_spot, shown_spot};
+ghost use Rattle.pb_language.specs.Fit.{read_fault, tested_fault};
+ghost use Rattle.pb_language.specs.Kinds.{root_spot};
 ghost use Rattle.pb_language.specs.Narrow.{any_teaches, narrow, narrow_each, narrow_some};
 ghost use Rattle.pb_language.specs.Narrow.{where_taught};
-ghost use Rattle.pb_language.specs.Scope.{is_present as is_shown, spot_kind};
-ghost use Rattle.pb_language.specs.Words.{are_booleans, asks, chain_fault, default_kind, fault};
-ghost use Rattle.pb_language.specs.Words.{fields_fault, first, kind_of as kind_found};
-ghost use Rattle.pb_language.specs.Words.{parts_slots, steps_fault, wrong_kind};
-ghost use Rattle.pb_language.specs.Fit.{path_fault};
-ghost use Rattle.pb_semantics.specs.Words.{booleans};
+ghost use Rattle.pb_language.specs.Words.{are_booleans, asks, chain_fault, fault, fields_fault};
+ghost use Rattle.pb_language.specs.Words.{first, kind_of as kind_found, parts_slots, wrong_kind};
 ghost use Rattle.pb_kind.specs.Words.{kind_view, slot_given};
 ghost use Rattle.pb_syntax.specs.ExprView.{expr_view, exprs_view, names_of, parts_view};
-ghost use Rattle.pb_syntax.specs.ExprView.{root_view, status_view, term_view};
+ghost use Rattle.pb_syntax.specs.ExprView.{root_view, status_view};
 ghost use Rattle.pb_forms.specs.FitView.{fault_view};
 ghost use Rattle.pb_expr.specs.Found.{AreFound, IsRight};
 ghost use Rattle.pb_forms.specs.InferredView.{fault_in};
-ghost use Rattle.pb_taught.specs.TaughtView.{alias_tree};
-ghost use Rattle.pb_taught.specs.TaughtView.{scope_view};
+ghost use Rattle.pb_taught.specs.TaughtView.{alias_tree, scope_view};
 
 use crate::asked::{Asked, Here, Inquiry, here_anew};
+use crate::leaves::{fit, in_batch_unfit, of_path, path_or_else, unfit};
 use crate::narrow::{any_teaches, show, show_active, show_status, taught_by_all};
-use crate::root_faults::{active_unfit, term_unfit};
 use crate::roots::{AtRoot, alias_of, at_root};
-use crate::steps::path_unfit;
 use pb_forms::forms;
 use pb_forms::inferred::{Inferred, found_copied};
-use pb_forms::kinds::{kind_at_end, kind_or};
 use pb_forms::literal::{literal_kind, put_certain};
 use pb_forms::unfit::{Unfit, first_of};
 use pb_kind::Kind;
-use pb_syntax::{Expr, Path, Root, Status, Term};
+use pb_syntax::{Expr, Path, Root, Status};
 use pb_taught::known::Known;
-use pb_taught::scope::{Taught, is_present};
+use pb_taught::scope::Taught;
 use std::alloc::{AllocError, Global};
 use std::collections::BTreeMap;
 
@@ -97,20 +90,6 @@ pub(crate) fn infer<K: Known>(
         }
         Expr::Record(fields) => of_fields(alloc, fields, inquiry, taught, asked),
     }
-}
-
-fn fit(kind: Kind) -> Result<Inferred, AllocError>
-    ensures kind { IfOk result (λ f. f.kind ≡ kind) }
-    ensures fault { IfOk result (λ f. f.unfit ≡ None) }
-{
-    Ok(Inferred { kind, unfit: None })
-}
-
-fn unfit(kind: Kind, unfit: Option<Unfit>) -> Result<Inferred, AllocError>
-    ensures kind { IfOk result (λ f. f.kind ≡ kind) }
-    ensures fault { IfOk result (λ f. f.unfit ≡ unfit) }
-{
-    Ok(Inferred { kind, unfit })
 }
 
 // What is found of the tree of a root that is a name of `vars`, where the root is one.
@@ -361,8 +340,7 @@ pub(crate) fn narrow_here<K: Known>(
         Expr::Or(operands) if answer => narrow_some(alloc, operands, answer, inquiry, here),
         Expr::Or(operands) => narrow_each(alloc, operands, answer, inquiry, here),
         Expr::InBatch(term) if answer => {
-            let taught = show_active(alloc, term, inquiry.known, here.taught)?;
-            Ok(here_anew(alloc, taught))
+            Ok(here_anew(alloc, show_active(alloc, term, inquiry.known, here.taught)?))
         }
         Expr::Defined(path) if answer => narrow_there(alloc, path, inquiry, here),
         Expr::PathStatus(status, path) => {
@@ -394,8 +372,7 @@ fn narrow_there<K: Known>(
 {
     let mut here = here;
     let alias = of_alias(alloc, &path.root, inquiry, &here.taught, &mut here.asked)?;
-    let taught = show(alloc, path, inquiry.known, here.taught, alias)?;
-    Ok(here_anew(alloc, taught))
+    Ok(here_anew(alloc, show(alloc, path, inquiry.known, here.taught, alias)?))
 }
 
 // The test of a status at the end of the path had that answer.
@@ -417,8 +394,7 @@ fn narrow_status<K: Known>(
 {
     let mut here = here;
     let alias = of_alias(alloc, &path.root, inquiry, &here.taught, &mut here.asked)?;
-    let taught = show_status(alloc, test, path, inquiry.known, here.taught, alias)?;
-    Ok(here_anew(alloc, taught))
+    Ok(here_anew(alloc, show_status(alloc, test, path, inquiry.known, here.taught, alias)?))
 }
 
 // Each operand had that answer.
@@ -444,8 +420,7 @@ fn narrow_each<K: Known>(
     Ok(here)
 }
 
-// One of the operands had that answer, and those before it hadn't; where none teaches anything
-// nothing is looked at.
+// One operand had that answer, and none before it; nothing is looked at where none teaches.
 #[cycle(infer)]
 fn narrow_some<K: Known>(
     alloc: Global,
@@ -473,8 +448,7 @@ fn narrow_some<K: Known>(
         ways.push(way)?;
         here = narrow_here(alloc, operand, !answer, inquiry, here)?;
     }
-    let taught = taught_by_all(alloc, ways, here.taught)?;
-    Ok(here_anew(alloc, taught))
+    Ok(here_anew(alloc, taught_by_all(alloc, ways, here.taught)?))
 }
 
 // What is taught on a way of several, on which the operand had that answer.
@@ -492,8 +466,7 @@ fn narrow_way<K: Known>(
         (expanded b.trees (expr_view operand.now)) answer) }
 {
     let way = inquiry.way(alloc, here)?;
-    let way = narrow_here(alloc, operand, answer, inquiry, way)?;
-    Ok(way.taught)
+    Ok(narrow_here(alloc, operand, answer, inquiry, way)?.taught)
 }
 
 // Of the value at the end of the path, or of the other where there may be none.
@@ -523,60 +496,4 @@ fn of_path_or<K: Known>(
     let at = at_path(alloc, path, inquiry, taught, asked)?;
     let other = forms::not_any(infer(alloc, other, inquiry, taught, asked)?);
     path_or_else(alloc, path, inquiry.known, taught, at, other)
-}
-
-// The same by what was found of both.
-fn path_or_else<K: Known>(
-    alloc: Global,
-    path: &Path,
-    known: &K,
-    taught: &Taught,
-    at: AtRoot,
-    other: Inferred,
-) -> Result<Inferred, AllocError>
-    ensures kind { let b = K.before known.now in
-        let r = expanded_root b.trees (root_view path.now.root) in
-        let ns = names_of path.now.steps.items in
-        IfOk result (λ f. kind_view f.kind
-        ≡ default_kind (shown_spot (is_shown (scope_view b taught.now) r ns)
-        (path_spot ns (slot_given at.slot))) (kind_view other.kind)) }
-    ensures fault { IfOk result (λ f. fault_in f
-        ≡ first (option_map fault_view at.tested) (fault_in other)) }
-{
-    let unfit = first_of(at.tested, other.unfit);
-    let is_shown = is_present(known, taught, path);
-    let kind = kind_or(alloc, &at.slot, &path.steps, is_shown, other.kind)?;
-    Ok(Inferred { kind, unfit })
-}
-
-// Of the value at the end of a path.
-fn of_path<K: Known>(
-    path: &Path,
-    known: &K,
-    taught: &Taught,
-    at: AtRoot,
-) -> Result<Inferred, AllocError>
-    ensures kind { IfOk result (λ f. kind_view f.kind
-        ≡ spot_kind (path_spot (names_of path.now.steps.items) (slot_given at.slot))) }
-    ensures fault { let b = K.before known.now in
-        let r = expanded_root b.trees (root_view path.now.root) in
-        let ns = names_of path.now.steps.items in
-        IfOk result (λ f. fault_in f ≡ path_fault (is_shown (scope_view b taught.now) r ns)
-        (option_map fault_view at.tested) (option_map fault_view at.read)
-        (steps_fault ns (spot_kind (slot_given at.slot)))) }
-{
-    let unfit = path_unfit(known, taught, path, &at);
-    let kind = kind_at_end(&at.slot, &path.steps)?;
-    Ok(Inferred { kind, unfit })
-}
-
-fn in_batch_unfit<K: Known>(known: &K, taught: &Taught, term: &Term) -> Option<Unfit>
-    ensures { let c = scope_view (K.before known.now) taught.now in
-        option_map fault_view result
-        ≡ first (term_fault c (term_view term.now)) (active_fault c (term_view term.now)) }
-{
-    first_of(
-        term_unfit(known, taught, term),
-        active_unfit(known, taught, term),
-    )
 }

@@ -15,6 +15,7 @@ mod asked;
 pub mod change;
 pub mod fit;
 mod inference;
+mod leaves;
 pub mod narrow;
 mod root_faults;
 mod roots;

@@ -1,8 +1,15 @@
 // A task of a book as it runs, prepared once for its place in its play.
-ghost use Rattle.std.specs.Prelude.{◌≡◌, IfOk, option_map, string_bytes, true, unwrap_or};
+ghost use Rattle.std.specs.Prelude.{◌≡◌, IfOk, not, option_map, string_bytes, true, unwrap_or};
+ghost use Rattle.pb_semantics.specs.Words.{is_among};
+ghost use Rattle.pb_language.specs.Expression.{Name};
+ghost use Rattle.pb_language.specs.Rules.{part_names};
+ghost use Rattle.pb_syntax.specs.Words.{parts_view};
+ghost use Rattle.pb_vars.specs.Words.{in_scope};
 ghost use Rattle.pb_route.specs.Words.{IsStation, station_task};
-ghost use Rattle.pb_start.specs.Words.{Prepares};
+ghost use Rattle.pb_reads.specs.Needed.{IsReached};
+ghost use Rattle.pb_start.specs.Words.{Prepares, read_no_item};
 ghost use Rattle.pb_prepare.specs.Order.{has_order};
+ghost use Rattle.pb_prepare.specs.Roots.{roots_at};
 
 use crate::bound::Bound;
 use crate::item::read_item;
@@ -16,15 +23,21 @@ use std::alloc::{AllocError, Global};
 use std::sync::Arc;
 
 /// The task as it runs where it stands, with those slots. Its arguments stand in the order of their
-/// names, as the reader leaves them.
+/// names, as the reader leaves them. Of the names of `vars` it has those alone that it reaches, and
+/// they are said to read the item only where one of them may.
 ///
 /// # Errors
 ///
 /// Want of memory.
 pub fn prepare(alloc: Global, station: &Station<'_>, slots: &Slots) -> Result<Prepared, AllocError>
     requires station { IsStation station.now }
-    ensures { IfOk result (λ p. has_order (station_task station.now).action ≡ true
+    ensures task { IfOk result (λ p. has_order (station_task station.now).action ≡ true
         → Prepares p (station_task station.now)) }
+    ensures names { IfOk result (λ p. (n : Name)
+        → is_among n (part_names (parts_view p.names.items)) ≡ true
+        → IsReached (in_scope station.now.vars) (roots_at station.now) n) }
+    ensures item { IfOk result
+        (λ p. p.names_read_item ≡ not (read_no_item (parts_view p.names.items))) }
 {
     let task = station.task;
     let around: &Around<'_> = &station.around;

@@ -1,9 +1,11 @@
 use denote.Ref.{Bor}
 use Rattle.std.proofs.Common.{◌≡◌, ◌∙◌, Bool, true, false, not, Option, Some, None, option_map, refl, sym, ap, subst}
 use Rattle.std.specs.Prelude.{unwrap_or}
+use Rattle.pb_semantics.specs.Keeps.{is_among}
 use Rattle.pb_language.specs.Expansion.{all_expanded, trees}
 use Rattle.pb_language.specs.Expression.{Expressions, no_parts}
 use Rattle.pb_language.specs.Plays.{append_expressions, expanded_attempts, expanded_list, expanded_option}
+use Rattle.pb_language.specs.Rules.{part_names}
 use Rattle.pb_flow.specs.Nodes.{around_view}
 use Rattle.pb_route.specs.Station.{lone_registry, stands_round}
 use Rattle.pb_syntax.specs.Aliases.{Trees, trees_in}
@@ -13,12 +15,13 @@ use Rattle.pb_task.specs.Tasks.{task_view}
 use Rattle.pb_vars.specs.Borrowed.{borrowed_view}
 use Rattle.pb_vars.specs.InScope.{in_scope}
 use Rattle.pb_reads.specs.Done.{evaluated}
-use Rattle.pb_reads.specs.Needed.{AreSameAt}
+use Rattle.pb_reads.specs.Needed.{AreSameAt, IsReached}
 use Rattle.pb_reads.specs.Roots.{all_roots}
 use Rattle.pb_reads.specs.Round.{conditions_round}
 use Rattle.pb_reads.specs.RootsView.{roots_view}
 use Rattle.pb_start.specs.Items.{read_no_item}
 use Rattle.pb_prepare.specs.Order.{has_order}
+use Rattle.pb_prepare.specs.Roots.{roots_at}
 use Rattle.pb_prepare.proofs.Same.{same-action, same-attempts, same-changed, same-conditions, same-failed, same-loop}
 use Rattle.pb_prepare.proofs.task.prepare.Goals as goal
 
@@ -37,8 +40,23 @@ invariant_of-result c = record {
       ∙ unlike (read_no_item (borrowed_view c.as_slice-3.result.now)) c.in_ok-read_item.field-0 c.in_ok-read_item.ensures off;
 }
 
-pub returns : goal.returns
-returns c = λ ordered.
+pub returns-clause-item : goal.returns-clause-item
+returns-clause-item c =
+    c.in_ok-read_item.ensures
+    ∙ ap (λ ps. not (read_no_item ps)) (sym (c.in_ok-names.ensures ∙ ap borrowed_view (c.as_slice-2.ensures.value ∙ sym c.as_slice-3.ensures.value)))
+
+pub returns-clause-names : goal.returns-clause-names
+returns-clause-names c = λ n among.
+    let s = c.args.station.now in
+    let t = s.task.now in
+    let when = exprs_view t.when.items in
+    let roots : roots_view c.as_slice.result.now ≡ roots_at s =
+    ap roots_view c.as_slice.ensures.value ∙ c.in_ok-roots.ensures (lone_registry t.work) no_parts ∙ ap (λ a. all_roots (evaluated (append_expressions (around_view (lone_registry t.work) no_parts a).conditions when) (task_view t))) c.deref-around.ensures in
+    let names : parts_view c.in_ok-names.field-0.items ≡ borrowed_view c.in_ok-reached.reached.items = c.in_ok-names.ensures ∙ ap borrowed_view c.as_slice-2.ensures.value in
+    subst (λ rs. IsReached (in_scope s.vars) rs n) roots (c.in_ok-reached.ensures.needed n (ap (λ ps. is_among n (part_names ps)) (sym names) ∙ among))
+
+pub returns-clause-task : goal.returns-clause-task
+returns-clause-task c = λ ordered.
     let s = c.args.station.now in
     let t = s.task.now in
     let d = task_view t in

@@ -28,7 +28,7 @@ loop-station-preserved c =
     let at : s ≡ get_or ss i s = c.station-item.is ∙ ap (λ xs. get_or xs i s) all in
     let more : map station_task (take (i + 1) ss) ≡ map station_task (take i ss) ++ station_task s ∷ [] =
     map_more station_task ss i s (subst (λ xs. i < length xs) all c.loop-station-test.true) ∙ ap (λ x. map station_task (take i ss) ++ station_task x ∷ []) (sym at) in
-    subst₂ ArePreparedInOrder (sym c.in_ok-push.ensures.items) (sym more) (one-more l.tasks.items (map station_task (take i ss)) c.in_ok-task.task (station_task s) l.invariant c.in_ok-task.ensures)
+    subst₂ ArePreparedInOrder (sym c.in_ok-push.ensures.items) (sym more) (one-more l.tasks.items (map station_task (take i ss)) c.in_ok-task.task (station_task s) l.invariant c.in_ok-task.ensures.task)
 
 pub returns : goal.returns
 returns c ms sound gathers =

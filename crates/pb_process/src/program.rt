@@ -1,4 +1,6 @@
 // A program that is run for a call: how it is started, and how what it writes is read.
+ghost use Rattle.std.specs.Prelude.{◌<◌, ◌≡◌, length};
+ghost use Rattle.pb_process.specs.Limits.{most_argument_bytes};
 
 use crate::answer::answer_of;
 use libc::net::{POLLIN, poll};
@@ -32,6 +34,7 @@ pub fn run_program<P: Processes>(
 ) -> Answer
 where
     <P::Started as OpenProcess>::Stdout: AsRawFd,
+    ensures long { most_argument_bytes < length arguments.now → result ≡ Answer.Broken Why.TooLong }
 {
     if arguments.len() > MOST_ARGUMENTS {
         return Answer::Broken(Why::TooLong);

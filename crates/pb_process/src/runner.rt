@@ -1,5 +1,5 @@
 // A runner whose modules are programs in a folder.
-ghost use Rattle.std.specs.Prelude.{◌≡◌, IfOk};
+ghost use Rattle.std.specs.Prelude.{◌≡◌, IfOk, string_bytes};
 
 use crate::program::run_program;
 use pb_finish::{Answer, Why};
@@ -29,7 +29,8 @@ impl<P: Processes> ProcessRunner<P> {
     pub fn new(alloc: Global, processes: P, folder: &str) -> Result<ProcessRunner<P>, AllocError>
     where
         P: Drop,
-        ensures { IfOk result (λ r. r.made ≡ 0) }
+        ensures made { IfOk result (λ r. r.made ≡ 0) }
+        ensures folder { IfOk result (λ r. string_bytes r.folder ≡ folder.now) }
     {
         let folder = String::from_str(alloc, folder)?;
         Ok(ProcessRunner {

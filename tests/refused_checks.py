@@ -196,8 +196,9 @@ def by_halves(library, folder, words):
 
 
 def outcomes(library, folder, words):
-    """Each number of a refused allocation that is tried, with what is found: up to the most that a run was seen to make, which may
-    depend on the order of its threads, or to the first that hangs; and 0, with none refused."""
+    """Each number of a refused allocation that is tried, with what is found: up to the most that a run makes in which none is
+    refused, which may depend on the order of its threads, or to the first that hangs; and 0, with none refused. Where one is,
+    there may be more, since what was refused may be asked a second time."""
     found = [(0, refused(library, folder, words, 0)) for _ in range(TIMES)]
     last = max(tried.made for _, tried in found) or by_halves(library, folder, words)
     step, following = 1 + last // MOST_TRIED, 1
@@ -210,7 +211,7 @@ def outcomes(library, folder, words):
                 if tries[-1][1].outcome == HANGS:
                     pool.shutdown(cancel_futures=True)
                     return found
-            last = max(last, *(tried.made for _, tried in found))
+            last = max(last, *(tried.made for _, tried in found if not tried.is_refused))
     if last >= MOST:
         raise RuntimeError(f"{words[0]} made {last} allocations")
     return found

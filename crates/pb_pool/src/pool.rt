@@ -12,7 +12,7 @@ use crate::board::Board;
 use crate::fault::PoolFault;
 use crate::rule::Rule;
 use crate::seat::Seat;
-use crate::threads::{Want, work_all};
+use crate::threads::{Shortage, work_all};
 use crate::worker::Worker;
 use pb_executor::Run;
 use pb_runner::Runner;
@@ -126,8 +126,8 @@ where
     };
     drop(runners);
     match want {
-        Want::Memory => Err(PoolFault::NoMemory(Some(run))),
-        Want::Thread => Err(PoolFault::NoThread(run)),
+        Shortage::Memory => Err(PoolFault::NoMemory(Some(run))),
+        Shortage::Thread => Err(PoolFault::NoThread(run)),
     }
 }
 

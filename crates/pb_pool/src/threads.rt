@@ -15,7 +15,7 @@ use std::thread::{Promise, PromisedHandle, Scope, Threads};
 
 // What wasn't there for a pool.
 #[derive(Clone, Copy)]
-pub(crate) enum Want {
+pub(crate) enum Shortage {
     Memory,
     Thread,
 }
@@ -23,11 +23,11 @@ pub(crate) enum Want {
 // The worker that a thread began with: what is promised is that the one that comes back made the
 // calls that its seat was handed meanwhile, unless its memory ran short.
 #[derive(Drop)]
-pub(crate) struct Begun<C: Ledger, G: Ledger, W: Runner> {
+pub(crate) struct WorkerPromise<C: Ledger, G: Ledger, W: Runner> {
     worker: Snapshot<Worker<C, G, W>>,
 }
 
-impl<C: Ledger, G: Ledger, W: Runner> Promise<Worker<C, G, W>> for Begun<C, G, W> {
+impl<C: Ledger, G: Ledger, W: Runner> Promise<Worker<C, G, W>> for WorkerPromise<C, G, W> {
     ghost use Rattle.std.specs.Prelude.{◌+◌, ◌≡◌, false};
 
     ghost kept_by = { λ p w. w.is_short ≡ false
@@ -35,7 +35,7 @@ impl<C: Ledger, G: Ledger, W: Runner> Promise<Worker<C, G, W>> for Begun<C, G, W
         ≡ W.calls p.worker.value.runner + w.seat.handed };
 }
 
-pub(crate) type WorkerThread<C, G, W> = PromisedHandle<Worker<C, G, W>, Begun<C, G, W>>;
+pub(crate) type WorkerThread<C, G, W> = PromisedHandle<Worker<C, G, W>, WorkerPromise<C, G, W>>;
 
 // Has each worker work in a thread of its own, and joins them all. They begin once all threads are
 // there; where one can't be made, nothing happens but that the run is stopped.
@@ -44,7 +44,7 @@ pub(crate) fn work_all<C, G, P, W, R>(
     board: &Board<'_, C, G, P>,
     workers: Vec<Worker<C, G, W>>,
     threads: Vec<WorkerThread<C, G, W>>,
-) -> (Vec<Worker<C, G, W>>, Option<Want>)
+) -> (Vec<Worker<C, G, W>>, Option<Shortage>)
 where
     C: Ledger + Send + Sync,
     G: Ledger + Send + Sync,
@@ -64,7 +64,7 @@ where
     thread::scope(
         thread::scope_env(),
         rt,
-        move |scope| -> (Vec<Worker<C, G, W>>, Option<Want>)
+        move |scope| -> (Vec<Worker<C, G, W>>, Option<Shortage>)
             requires { (vec_len threads ≡ 0) × (vec_len workers ≤ vec_capacity threads)
                 × All (λ w. MayAnswer W.answers W.short P.of P.told w.runner) workers.items
                 × CanCount P.of (sum_by (λ w. W.calls w.runner) workers.items) }
@@ -85,7 +85,7 @@ fn work_in<'s, E, C, G, P, W, R>(
     board: &'s Board<'_, C, G, P>,
     workers: Vec<Worker<C, G, W>>,
     threads: Vec<WorkerThread<C, G, W>>,
-) -> (Vec<Worker<C, G, W>>, Option<Want>)
+) -> (Vec<Worker<C, G, W>>, Option<Shortage>)
 where
     C: Ledger + Send + Sync,
     G: Ledger + Send + Sync,
@@ -107,10 +107,10 @@ where
     let is_manned = start_all(scope, rt, board, &mut workers, &mut threads);
     let is_whole = join_all(rt, threads, &mut workers);
     if !is_manned {
-        return (workers, Some(Want::Thread));
+        return (workers, Some(Shortage::Thread));
     }
     if !is_whole {
-        return (workers, Some(Want::Memory));
+        return (workers, Some(Shortage::Memory));
     }
     (workers, None)
 }
@@ -144,7 +144,7 @@ where
 {
     let mut held = board.hold(rt);
     while let Some(worker) = workers.pop() {
-        let begun = Begun {
+        let begun = WorkerPromise {
             worker: Snapshot::of(&worker),
         };
         let part = move || -> Worker<C, G, W>

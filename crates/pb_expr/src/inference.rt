@@ -394,7 +394,8 @@ fn narrow_status<K: Known>(
 {
     let mut here = here;
     let alias = of_alias(alloc, &path.root, inquiry, &here.taught, &mut here.asked)?;
-    Ok(here_anew(alloc, show_status(alloc, test, path, inquiry.known, here.taught, alias)?))
+    let taught = show_status(alloc, test, path, inquiry.known, here.taught, alias)?;
+    Ok(here_anew(alloc, taught))
 }
 
 // Each operand had that answer.

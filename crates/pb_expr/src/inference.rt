@@ -231,8 +231,7 @@ fn infer_each<K: Known>(
     Ok(all)
 }
 
-// Of a chain in which each operand is asked where those before it had that answer; what is taught
-// is copied only where an operand may teach.
+// Of a chain in which each operand is asked where those before it had that answer.
 #[cycle(infer)]
 fn of_operands<K: Known>(
     alloc: Global,
@@ -340,7 +339,8 @@ pub(crate) fn narrow_here<K: Known>(
         Expr::Or(operands) if answer => narrow_some(alloc, operands, answer, inquiry, here),
         Expr::Or(operands) => narrow_each(alloc, operands, answer, inquiry, here),
         Expr::InBatch(term) if answer => {
-            Ok(here_anew(alloc, show_active(alloc, term, inquiry.known, here.taught)?))
+            let taught = show_active(alloc, term, inquiry.known, here.taught)?;
+            Ok(here_anew(alloc, taught))
         }
         Expr::Defined(path) if answer => narrow_there(alloc, path, inquiry, here),
         Expr::PathStatus(status, path) => {
@@ -372,7 +372,8 @@ fn narrow_there<K: Known>(
 {
     let mut here = here;
     let alias = of_alias(alloc, &path.root, inquiry, &here.taught, &mut here.asked)?;
-    Ok(here_anew(alloc, show(alloc, path, inquiry.known, here.taught, alias)?))
+    let taught = show(alloc, path, inquiry.known, here.taught, alias)?;
+    Ok(here_anew(alloc, taught))
 }
 
 // The test of a status at the end of the path had that answer.
@@ -449,7 +450,8 @@ fn narrow_some<K: Known>(
         ways.push(way)?;
         here = narrow_here(alloc, operand, !answer, inquiry, here)?;
     }
-    Ok(here_anew(alloc, taught_by_all(alloc, ways, here.taught)?))
+    let taught = taught_by_all(alloc, ways, here.taught)?;
+    Ok(here_anew(alloc, taught))
 }
 
 // What is taught on a way of several, on which the operand had that answer.

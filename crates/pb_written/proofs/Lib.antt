@@ -1,0 +1,4 @@
+pub mod Names
+pub mod Planned
+pub mod Admits
+pub mod Runs

@@ -11,7 +11,7 @@ use Rattle.pb_finish.specs.Answers.{answer_data}
 use Rattle.pb_finish.specs.declared.answer.Answer.{Answer}
 use Rattle.pb_core.specs.Readings.{Reading}
 use Rattle.pb_jobs.specs.Active.{IsActiveBatch}
-use Rattle.pb_jobs.specs.Machines.{IsMachine, IsSameBut, IsSceneOf}
+use Rattle.pb_jobs.specs.Machines.{CountsMore, CountsNone, IsMachine, IsSameBut, IsSceneOf}
 use Rattle.pb_jobs.specs.Tasks.{FinishesAs, IsFinished}
 use Rattle.pb_jobs.specs.declared.active.ActiveBatch.{ActiveBatch}
 use Rattle.pb_jobs.specs.declared.finish.Finished.{Finished}
@@ -29,5 +29,19 @@ comes_so old now b c k xs f g same known sees does is reading s machine w fine =
     (after, subst (IsFinished w (map answer_data xs)) is (does reading s (scene_is now now.core b c reading s after.kept sees active many) w fine))
 
 -- nothing more is counted
-pub none_more : (xs : List ℕ) (k : ℕ) → xs ≡ set xs k (get_or xs k 0 + 0)
+none_more : (xs : List ℕ) (k : ℕ) → xs ≡ set xs k (get_or xs k 0 + 0)
 none_more xs k = let same : get_or xs k 0 + 0 ≡ get_or xs k 0 = omega arith in sym (ap (set xs k) same ∙ set-get_or xs k 0)
+
+-- what is counted once the active hosts have been looked for
+module _ (old now new : Machine) (k : ℕ) (same : IsSameBut old now) where
+  pub counts_none : CountsNone now new → CountsMore k 0 old new
+  counts_none none = record {
+    calls = ap (λ (v : Vec ℕ Global). v.items) (none.calls ∙ same.calls) ∙ none_more old.calls.items k;
+    slots = none.slots ∙ same.slots;
+  }
+
+  pub counts_same : (n : ℕ) → CountsMore k n now new → CountsMore k n old new
+  counts_same n more = record {
+    calls = more.calls ∙ ap (λ (v : Vec ℕ Global). set v.items k (get_or v.items k 0 + n)) same.calls;
+    slots = more.slots ∙ same.slots;
+  }

@@ -2,6 +2,7 @@
 use Rattle.std.specs.Prelude.{◌≡◌, ◌≤◌, ◌+◌, ◌<◌, ◌^◌, ℕ, suc, List, Vec, All, IfSome, String}
 use Rattle.std.specs.Prelude.{false, get_or, true}
 use Rattle.std.specs.declared.alloc.Global.{Global}
+use Rattle.pb_language.specs.Expression.{Name}
 use Rattle.pb_language.specs.Give.{Answer}
 use Rattle.pb_language.specs.Machine.{give, start}
 use Rattle.pb_language.specs.Start.{call_count}
@@ -51,16 +52,17 @@ BeginsPast k m = (reading : Reading (Vec Pass Global)) (s : FlatState) → IsMac
 
 -- ---- at a Give
 
--- each variable that the task sets by these answers has a slot
-abbrev pub HasSlots : {s : FlatState} → {k : ℕ} → Works s k → List Answer → Machine → Type 0
-HasSlots w xs m = (o : TaskOutcome) (ws : List (String Global × Value))
-    → EndsSo w xs o (fields_view ws) → have_slots (names_of_slots m.slots) ws ≡ true
+-- each variable that the task sets by these answers has one of these slots
+abbrev pub HasSlots : {s : FlatState} → {k : ℕ} → Works s k → List Answer → List Name → Type 0
+HasSlots w xs names = (o : TaskOutcome) (ws : List (String Global × Value))
+    → EndsSo w xs o (fields_view ws) → have_slots names ws ≡ true
 
 -- in no state that the machine is a job of the host is out whose Give isn't stuck and each of whose
 -- variables has a slot
 abbrev pub CannotGive : ℕ → List Answer → Machine → Type 0
 CannotGive k xs m = (reading : Reading (Vec Pass Global)) (s : FlatState) → IsMachine m reading s
-    → (w : Works s k) → (flat.step s (give k xs)).is_stuck ≡ false → HasSlots w xs m → ⊥
+    → (w : Works s k) → (flat.step s (give k xs)).is_stuck ≡ false
+    → HasSlots w xs (names_of_slots m.slots) → ⊥
 
 abbrev pub CannotLeave : ℕ → Machine → Type 0
 CannotLeave k m = (xs : List Answer) → IsDisabled (give k xs) m.core

@@ -113,6 +113,7 @@ pub record TurnsAllAs (n : ℕ) (old new : Machine) : Type 0 where
   pub machine : GoesOnTo n old new
   pub tickets : tickets_of new.core ≡ tickets_of old.core
   pub calls : new.calls ≡ old.calls
+  pub slots : new.slots ≡ old.slots
 
 -- the machine before those Turns, but for whether the active hosts are known
 pub record IsBefore (t : Turned) (new old : Machine) : Type 0 where
@@ -139,9 +140,15 @@ OpensAs schedule forks m = (reading : Reading (Vec Pass Global)) (program : Prog
     → AreBatches reading.name schedule.plays.items schedule.batches.items (all_batches program)
     → IsMachine m reading (flat.opening program (inventory_view m.inventory.now) forks)
 
-abbrev pub CountsMore : ℕ → ℕ → Machine → Machine → Type 0
-CountsMore k n old new =
-    new.calls.items ≡ slice_set old.calls.items k (get_or old.calls.items k 0 + n)
+-- so many more calls were handed out to the host, and the slots of variables stay
+pub record CountsMore (k n : ℕ) (old new : Machine) : Type 0 where
+  pub calls : new.calls.items ≡ slice_set old.calls.items k (get_or old.calls.items k 0 + n)
+  pub slots : new.slots ≡ old.slots
+
+-- none were
+pub record CountsNone (old new : Machine) : Type 0 where
+  pub calls : new.calls ≡ old.calls
+  pub slots : new.slots ≡ old.slots
 
 abbrev pub ticket_after : ℕ → Answered → Option ℕ
 ticket_after t answered.Done = None

@@ -6,8 +6,8 @@ ghost use Rattle.pb_core.specs.Words.{tickets_of};
 ghost use Rattle.pb_finish.specs.Words.{answer_data};
 ghost use Rattle.pb_jobs.specs.Faults.{AgainPast, CannotAgain, CannotGive, CannotLeave};
 ghost use Rattle.pb_jobs.specs.Faults.{CannotSettle, GivesPast, IsCounted};
-ghost use Rattle.pb_jobs.specs.Machines.{AgainAs, CountsMore, GivesAs, IsSameBut, LeavesAs};
-ghost use Rattle.pb_jobs.specs.Machines.{SettlesAs, calls_after, ticket_after};
+ghost use Rattle.pb_jobs.specs.Machines.{AgainAs, CountsMore, CountsNone, GivesAs, IsSameBut};
+ghost use Rattle.pb_jobs.specs.Machines.{LeavesAs, SettlesAs, calls_after, ticket_after};
 
 use crate::active::ActiveBatch;
 use crate::finish::Finished;
@@ -73,7 +73,7 @@ impl Machine<'_> {
         ensures leaves { OnOk result (LeavesAs host is_reached self.old self.new) }
         ensures tickets { OnOk result (tickets_of self.new.core
             ≡ slice_set (tickets_of self.old.core) host None) }
-        ensures counts { self.new.calls ≡ self.old.calls }
+        ensures counts { CountsNone self.old self.new }
         ensures err { OnErr result (IsSameBut self.old self.new) }
         ensures there { IfErr result (λ e. e ≡ CoreFault.NotThere → CannotLeave host self.old) }
         ensures full { IfErr result (λ e. e ≡ CoreFault.Full → IsCounted host self.old) }
@@ -117,7 +117,7 @@ impl Machine<'_> {
         ensures settles { OnOk result (SettlesAs host outcome writes.items self.old self.new) }
         ensures tickets { OnOk result (tickets_of self.new.core
             ≡ slice_set (tickets_of self.old.core) host None) }
-        ensures counts { self.new.calls ≡ self.old.calls }
+        ensures counts { CountsNone self.old self.new }
         ensures err { OnErr result (IsSameBut self.old self.new) }
         ensures there { IfErr result (λ e. e ≡ CoreFault.NotThere
             → CannotSettle host outcome writes.items self.old) }

@@ -2,7 +2,8 @@
 ghost use Rattle.std.specs.Prelude.{◌≡◌, IfErr, IfOk, None, OnErr, OnOk};
 ghost use Rattle.pb_language.specs.Machine.{turn};
 ghost use Rattle.pb_core.specs.Words.{IsDisabled, tickets_of};
-ghost use Rattle.pb_jobs.specs.Machines.{IsBefore, IsSameBut, StopsAs, TurnsAllAs, TurnsAs};
+ghost use Rattle.pb_jobs.specs.Machines.{CountsNone, IsBefore, IsSameBut, StopsAs, TurnsAllAs};
+ghost use Rattle.pb_jobs.specs.Machines.{TurnsAs};
 
 use crate::begin::know;
 use crate::machine::Machine;
@@ -17,7 +18,7 @@ impl Machine<'_> {
     pub fn turn(&mut self) -> Result<(), CoreFault>
         ensures turns { OnOk result (TurnsAs self.old self.new) }
         ensures tickets { OnOk result (tickets_of self.new.core ≡ tickets_of self.old.core) }
-        ensures calls { OnOk result (self.new.calls ≡ self.old.calls) }
+        ensures counts { OnOk result (CountsNone self.old self.new) }
         ensures err { OnErr result (IsSameBut self.old self.new) }
         ensures there { IfErr result (λ e. e ≡ CoreFault.NotThere
             → IsDisabled turn self.old.core) }
@@ -59,7 +60,7 @@ impl Machine<'_> {
     pub fn stop(&mut self)
         ensures stops { StopsAs self.old self.new }
         ensures tickets { tickets_of self.new.core ≡ tickets_of self.old.core }
-        ensures calls { self.new.calls ≡ self.old.calls }
+        ensures counts { CountsNone self.old self.new }
     {
         self.core.stop();
     }

@@ -1,9 +1,9 @@
-use Rattle.std.proofs.Common.{map, get_or, ap, subst, ◌∙◌}
+use Rattle.std.proofs.Common.{map, length, get_or, ap, subst, ◌∙◌}
 use Rattle.std.proofs.lemmas.Result.{err_from_is_err_and}
 use Rattle.pb_finish.specs.Answers.{answer_data}
 use Rattle.pb_jobs.specs.Machines.{AreCallsOf}
 use Rattle.pb_jobs.proofs.Faults.{again_gives, again_past_gives, counted_gives, leave_gives, not_out_gives, settle_gives}
-use Rattle.pb_jobs.proofs.Finishes.{comes_so, none_more}
+use Rattle.pb_jobs.proofs.Finishes.{comes_so, counts_none, counts_same}
 use Rattle.pb_jobs.proofs.Gives.{changes_again, changes_left, changes_settled}
 use Rattle.pb_jobs.proofs.machine.Machine.give.Goals as goal
 
@@ -21,7 +21,7 @@ returns-in_ok-leave-in-Left-clause-gives c = λ reading s is w fine.
 
 pub returns-in_ok-leave-in-Left-clause-counts : goal.returns-in_ok-leave-in-Left-clause-counts
 returns-in_ok-leave-in-Left-clause-counts c =
-    ap (λ v. v.items) (c.in_ok-leave-in-Left.ensures.counts ∙ c.look.ensures.same.calls) ∙ none_more c.args.self.now.calls.items c.args.host
+    counts_none c.args.self.now c.look.new.self _ c.args.host c.look.ensures.same c.in_ok-leave-in-Left.ensures.counts
 
 pub returns-in_ok-calls-in-Again-clause-gives : goal.returns-in_ok-calls-in-Again-clause-gives
 returns-in_ok-calls-in-Again-clause-gives c = λ reading s is w fine.
@@ -37,6 +37,10 @@ returns-in_ok-calls-in-Again-clause-gives c = λ reading s is w fine.
       steps = changes.steps;
     }
 
+pub returns-in_ok-calls-in-Again-clause-counts : goal.returns-in_ok-calls-in-Again-clause-counts
+returns-in_ok-calls-in-Again-clause-counts c =
+    counts_same c.args.self.now c.look.new.self _ c.args.host c.look.ensures.same (length c.in_ok-calls-in-Again.calls.items) c.in_ok-calls-in-Again.ensures.counts
+
 pub returns-in_ok-settle-in-Ended-clause-gives : goal.returns-in_ok-settle-in-Ended-clause-gives
 returns-in_ok-settle-in-Ended-clause-gives c = λ reading s is w fine.
     let known = comes_so c.args.self.now c.look.new.self c.in-Some.batch c.scene.result c.args.host c.args.answers.now c.in_ok-finished.finished _
@@ -51,7 +55,7 @@ returns-in_ok-settle-in-Ended-clause-gives c = λ reading s is w fine.
 
 pub returns-in_ok-settle-in-Ended-clause-counts : goal.returns-in_ok-settle-in-Ended-clause-counts
 returns-in_ok-settle-in-Ended-clause-counts c =
-    ap (λ v. v.items) (c.in_ok-settle-in-Ended.ensures.counts ∙ c.look.ensures.same.calls) ∙ none_more c.args.self.now.calls.items c.args.host
+    counts_none c.args.self.now c.look.new.self _ c.args.host c.look.ensures.same c.in_ok-settle-in-Ended.ensures.counts
 
 pub returns-in_err-finished-clause-there : goal.returns-in_err-finished-clause-there
 returns-in_err-finished-clause-there c =

@@ -27,6 +27,7 @@ returns-clause-turns c =
       };
       tickets = e.tickets;
       calls = refl;
+      slots = refl;
     }
 
 pub returns-clause-back : goal.returns-clause-back

@@ -45,4 +45,7 @@ module _ (n k : ℕ) (old now new : Machine) (turns : TurnsAllAs n old now) wher
   tickets_after t e = e ∙ ap (λ ts. set ts k t) turns.tickets
 
   pub counts_after : (many : ℕ) → CountsMore k many now new → CountsMore k many old new
-  counts_after many e = e ∙ ap (λ (xs : Vec ℕ Global). set xs.items k (get_or xs.items k 0 + many)) turns.calls
+  counts_after many e = record {
+    calls = e.calls ∙ ap (λ (xs : Vec ℕ Global). set xs.items k (get_or xs.items k 0 + many)) turns.calls;
+    slots = e.slots ∙ turns.slots;
+  }

@@ -16,17 +16,18 @@ use Rattle.pb_machine.proofs.Machines.{same_enabled, same_run}
 use Rattle.pb_history.specs.Jobs.{is_out_at}
 use Rattle.pb_history.specs.Turns as tree
 use Rattle.pb_history.specs.Turns.{next_of, start_or, stopped, turns_due, turns_for}
+use Rattle.pb_slots.specs.Words.{names_of_slots}
 use Rattle.pb_finish.specs.Answers.{answer_data}
 use Rattle.pb_finish.specs.declared.answer.Answer.{Answer}
 use Rattle.pb_core.specs.Activities.{number_of}
 use Rattle.pb_core.specs.Cores.{tickets_of}
 use Rattle.pb_core.specs.Events.{CanStart, CanTurn, IsNext}
-use Rattle.pb_jobs.specs.Machines.{TurnsAs}
+use Rattle.pb_jobs.specs.Machines.{CountsNone, TurnsAs}
 use Rattle.pb_jobs.specs.declared.job.Job.{Job}
 use Rattle.pb_run.specs.Calls.{Gives, StaysRecorded, TakesSome, records_some}
 use Rattle.pb_run.specs.Follows.{EventView, Follows, HasFollowed, event_view}
 use Rattle.pb_run.specs.Openings.{Opening, flat_after, state_after}
-use Rattle.pb_run.specs.Recorded.{IsRecorded, Stops, data_of, is_none, stop_events}
+use Rattle.pb_run.specs.Recorded.{IsRecorded, Stops, data_of, is_none, slot_names, stop_events}
 use Rattle.pb_run.specs.Starts.{MayTurn, StartsJob}
 use Rattle.pb_run.specs.declared.event.Event.{Event}
 use Rattle.pb_run.specs.declared.event.Event.TheVariants.{Start, Give, Turn, Stop}
@@ -38,7 +39,7 @@ use Rattle.pb_run.proofs.Records.{goes_on_at}
 use Rattle.pb_run.proofs.Stories.{out_at}
 
 pub stays_same : (m : RecordedMachine) → StaysRecorded m m
-stays_same m = record { history = refl; recorded = λ o recorded. recorded }
+stays_same m = record { history = refl; recorded = λ o recorded. recorded; slots = refl }
 
 no_and : (q : Bool) → q && false ≡ false
 no_and true = refl
@@ -68,14 +69,16 @@ module _ (old new : RecordedMachine) (v : EventView) where
     events = ap (map event_view) stays.history ∙ sym (append-nil (map event_view old.history.items))
         ∙ ap (λ q. map event_view old.history.items ++ cond q (v ∷ []) []) (sym (enabled_now o old v.0 ∙ off));
     recorded = stays.recorded o recorded;
+    slots = stays.slots;
   }
 
   -- and else the event does
-  follows_on : (o : Opening) (e : Event) → enabled (flat_now o old) v.0 ≡ true → new.history.items ≡ old.history.items ++ e ∷ [] → event_view e ≡ v → IsRecorded o new → HasFollowed o v old new
-  follows_on o e on history same recorded = record {
+  follows_on : (o : Opening) (e : Event) → enabled (flat_now o old) v.0 ≡ true → new.history.items ≡ old.history.items ++ e ∷ [] → event_view e ≡ v → IsRecorded o new → slot_names new ≡ slot_names old → HasFollowed o v old new
+  follows_on o e on history same recorded slots = record {
     events = ap (map event_view) history ∙ map-append event_view old.history.items (e ∷ []) ∙ ap (λ w. map event_view old.history.items ++ w ∷ []) same
         ∙ ap (λ q. map event_view old.history.items ++ cond q (v ∷ []) []) (sym (enabled_now o old v.0 ∙ on));
     recorded = recorded;
+    slots = slots;
   }
 
 -- a run that was stopped
@@ -91,7 +94,7 @@ pub follows_start : (old new : RecordedMachine) (k : ℕ) (q : Bool) (j : Job) �
 follows_start old new k q j can on starts = λ o never recorded.
     let may : enabled (flat_now o old) (start k) ≡ true = sym (can recorded.reading (flat_now o old) recorded.machine.kept.core) ∙ on in
     let started = starts o never recorded (λ i l. absurd (omega (arith, l))) may in
-    follows_on old new (start k, []) o (Start k) may started.history refl started.recorded
+    follows_on old new (start k, []) o (Start k) may started.history refl started.recorded started.slots
 
 -- a Give
 no_job : (k : ℕ) (ys : List language.Answer) (s : State) → is_out_at k s ≡ false → (bs : List Batch) → machine.is_possible s bs (give k ys) ≡ false
@@ -110,7 +113,7 @@ follows_give old new k t xs v g is going out gives = λ o never recorded.
     let ys = map answer_data xs.items in
     let works = works_out recorded.reading old.machine.core (flat_now o old) recorded.machine.kept.core k t (recorded.is_stopped ∙ going) (sym out) in
     let on : enabled (flat_now o old) (give k ys) ≡ true = may_give (flat_now o old) k works ys in
-    follows_on old new v o (Give k xs) (ap (λ w. enabled (flat_now o old) w.0) (sym is) ∙ on) given.given.events is given.recorded
+    follows_on old new v o (Give k xs) (ap (λ w. enabled (flat_now o old) w.0) (sym is) ∙ on) given.given.events is given.recorded given.slots
 
 -- a Turn
 pub follows_no_turn : (m : RecordedMachine) (q : Bool) → CanTurn m.machine.core q → q ≡ false → Follows (turn, []) m m
@@ -122,11 +125,12 @@ one_turn s on zero l = on
 one_turn s on (suc i) l = absurd (omega (arith, l))
 
 pub follows_turn : (old new : RecordedMachine) (q : Bool) → CanTurn old.machine.core q → q ≡ true → new.is_stopped ≡ old.is_stopped → new.history.items ≡ old.history.items ++ Turn ∷ [] → TurnsAs old.machine new.machine
-    → tickets_of new.machine.core ≡ tickets_of old.machine.core → new.machine.calls ≡ old.machine.calls → Follows (turn, []) old new
-follows_turn old new q can may still history turns tickets calls = λ o never recorded.
+    → tickets_of new.machine.core ≡ tickets_of old.machine.core → CountsNone old.machine new.machine → Follows (turn, []) old new
+follows_turn old new q can may still history turns tickets counts = λ o never recorded.
     let s = flat_now o old in
     let on : enabled s turn ≡ true = sym (can recorded.reading s recorded.machine.kept.core) ∙ may in
-    follows_on old new (turn, []) o Turn on history refl (goes_on_at old new 1 still history o recorded (one_turn s on) (turns recorded.reading s recorded.machine on) tickets calls)
+    follows_on old new (turn, []) o Turn on history refl (goes_on_at old new 1 still history o recorded (one_turn s on) (turns recorded.reading s recorded.machine on) tickets counts.calls)
+    (ap names_of_slots counts.slots)
 
 -- a Stop
 stop_view : (q : Bool) (s : State) (bs : List Batch) → map event_view (cond (q || is_none bs) [] (Stop ∷ [])) ≡ cond (not q && machine.is_possible s bs stop) ((stop, []) ∷ []) []
@@ -141,6 +145,7 @@ follows_stop old new stops = λ o never recorded.
       events = ap (map event_view) stopped.history ∙ map-append event_view old.history.items (stop_events s)
           ∙ ap (λ vs. map event_view old.history.items ++ vs) (stop_view s.is_stopped s s.batches);
       recorded = stopped.recorded;
+      slots = stopped.slots;
     }
 
 -- memory is wanted where a Turn is due

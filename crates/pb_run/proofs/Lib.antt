@@ -7,3 +7,5 @@ pub mod Records
 pub mod Takes
 pub mod Behind
 pub mod Follows
+pub mod Counts
+pub mod Faults

@@ -10,6 +10,7 @@ use Rattle.pb_machine.specs.Simulation.{state_of}
 use Rattle.pb_machine.proofs.Machines.{same_run}
 use Rattle.pb_history.specs.Happens.{turned}
 use Rattle.pb_history.specs.Jobs.{handed_to, is_out_at, job_calls}
+use Rattle.pb_slots.specs.Words.{names_of_slots}
 use Rattle.pb_finish.specs.Answers.{answer_data}
 use Rattle.pb_finish.specs.declared.answer.Answer.{Answer}
 use Rattle.pb_start.specs.declared.passes.Pass.{Pass}
@@ -22,20 +23,20 @@ use Rattle.pb_core.specs.Hosts.{recap_view}
 use Rattle.pb_core.specs.declared.host.HostState.{HostState}
 use Rattle.pb_core.proofs.Tickets.{tickets_count}
 use Rattle.pb_jobs.proofs.Worlds.{hosts_many}
-use Rattle.pb_jobs.specs.Machines.{BeginsAfter, CountsMore, GivesAs, GoesOnTo, IsMachine, IsSameBut, StopsAs, calls_after, kept_in, ticket_after}
+use Rattle.pb_jobs.specs.Machines.{BeginsAfter, CountsMore, CountsNone, GivesAs, GoesOnTo, IsMachine, IsSameBut, StopsAs, calls_after, kept_in, ticket_after}
 use Rattle.pb_jobs.specs.Calls.{call_data}
 use Rattle.pb_jobs.specs.declared.job.Call.{Call}
 use Rattle.pb_jobs.specs.declared.job.Job.{Job}
 use Rattle.pb_jobs.specs.declared.machine.Answered.{Answered}
 use Rattle.pb_jobs.specs.declared.machine.Answered.TheVariants as answered
 use Rattle.pb_jobs.specs.declared.machine.Machine.{Machine}
-use Rattle.pb_run.specs.Calls.{AreOut, Gives, HandsOut, IsRefused, IsTold, StaysRecorded, but_host, given_as, is_ticket, refusal_at, refusal_in, same_hosts}
+use Rattle.pb_run.specs.Calls.{AreOut, Gives, HandsOut, IsRefusedAs, IsTold, StaysRecorded, but_host, given_as, is_ticket, refusal_at, refusal_in, same_hosts}
 use Rattle.pb_run.specs.Openings.{AreCounted, ArePlaces, Opening, flat_after, state_after}
 use Rattle.pb_run.specs.Recorded.{IsRecorded, IsStopped, Stands, Stops, data_of, event_data, is_none, is_over, recaps_in}
 use Rattle.pb_run.specs.Starts.{GoesOn, MayTurn, StartsJob, start_behind}
 use Rattle.pb_run.specs.declared.event.Event.{Event}
 use Rattle.pb_run.specs.declared.event.Event.TheVariants.{Start, Give, Turn, Stop}
-use Rattle.pb_run.specs.declared.event.GiveError.TheVariants as refusal
+use Rattle.pb_run.specs.declared.event.GiveFault.TheVariants as refusal
 use Rattle.pb_run.specs.declared.recorded.RecordedMachine.{RecordedMachine}
 use Rattle.pb_run.proofs.Events.{after_turns, behind, handed_turned}
 use Rattle.pb_history.proofs.Histories.{inventory_is}
@@ -89,6 +90,7 @@ module _ (old new : RecordedMachine) where
         out = λ i. ap (λ xs. is_out_at i (state_after o xs)) same ∙ and_out o ds (ds ++ behind n (start k)) old.machine new.machine false false before after k j.ticket tickets ticketed i;
         going = ap (λ xs. (state_after o xs).is_stopped) same ∙ goes_on o ds (ds ++ behind n (start k)) old.machine new.machine false false before after refl;
         recorded = rw (same, still) after;
+        slots = ap names_of_slots counts.slots;
       }
 
   pub goes_on_at : (n : ℕ) → new.is_stopped ≡ old.is_stopped → new.history.items ≡ es ++ replicate n Turn → (o : Opening) (recorded : IsRecorded o old) → MayTurn n (flat_after o (data_of es))
@@ -100,11 +102,11 @@ module _ (old new : RecordedMachine) where
 
   -- so many Turns happen
   pub goes_on_by : (n : ℕ) → new.is_stopped ≡ old.is_stopped → new.history.items ≡ es ++ replicate n Turn → GoesOnTo n old.machine new.machine
-      → tickets_of new.machine.core ≡ tickets_of old.machine.core → new.machine.calls ≡ old.machine.calls → GoesOn n old new
-  goes_on_by n still history goes tickets calls = λ o recorded on.
+      → tickets_of new.machine.core ≡ tickets_of old.machine.core → CountsNone old.machine new.machine → GoesOn n old new
+  goes_on_by n still history goes tickets counts = λ o recorded on.
       let ds = data_of es in
       let same : data_of new.history.items ≡ ds ++ replicate n turn = ap data_of history ∙ data_join es (replicate n Turn) ∙ ap (λ xs. ds ++ xs) (data_turns n) in
-      let after = has_turned o ds old.machine new.machine n old.is_stopped recorded on (goes recorded.reading (flat_after o ds) recorded.machine) tickets calls in
+      let after = has_turned o ds old.machine new.machine n old.is_stopped recorded on (goes recorded.reading (flat_after o ds) recorded.machine) tickets counts.calls in
       record {
         history = history;
         stands = ap (state_after o) same ∙ same_run o.program o.inventory o.forks (ds ++ replicate n turn) ∙ ap state_of (after_turns o ds n);
@@ -114,6 +116,7 @@ module _ (old new : RecordedMachine) where
         );
         going = ap (λ xs. (state_after o xs).is_stopped) same ∙ goes_on o ds (ds ++ replicate n turn) old.machine new.machine old.is_stopped old.is_stopped recorded after refl;
         recorded = rw (same, still) after;
+        slots = ap names_of_slots counts.slots;
       }
 
   -- the answers to a job are recorded
@@ -150,6 +153,7 @@ module _ (old new : RecordedMachine) where
           going = on;
         };
         recorded = rw (same, still) after;
+        slots = ap names_of_slots counts.slots;
       } where
         asked_is : (o : Option ℕ) → is_ticket t o ≡ true → o ≡ Some t
         asked_is None e = cc
@@ -206,6 +210,7 @@ stays_by old new history still same = record {
     tickets = subst (λ (c : RunCore (Vec Pass Global)). ArePlaces (tickets_of c) (data_of old.history.items)) (sym same.core) recorded.tickets;
     counts = subst (λ (cs : Vec ℕ Global). AreCounted cs.items o (data_of old.history.items)) (sym same.calls) recorded.counts;
   });
+  slots = ap names_of_slots same.slots;
 }
 
 -- why answers are refused
@@ -218,15 +223,15 @@ module _ (m : RecordedMachine) (k t : ℕ) where
       (ap (λ (s : State). s.is_stopped) (same_run o.program o.inventory o.forks ds) ∙ recorded.is_stopped)
       (ticket_is o ds m.machine m.is_stopped recorded k)
 
-  pub refused_stopped : m.is_stopped ≡ true → IsRefused refusal.Stopped k t m
+  pub refused_stopped : m.is_stopped ≡ true → IsRefusedAs (Some refusal.Stopped) k t m
   refused_stopped e = λ o recorded.
       refusal_by o recorded ∙ ap (λ q. cond q (Some refusal.Stopped) (cond (is_ticket t (get_or (tickets_of m.machine.core) k None)) None (Some refusal.Stranger))) e
 
-  pub refused_stranger : m.is_stopped ≡ false → is_ticket t (get_or (tickets_of m.machine.core) k None) ≡ false → IsRefused refusal.Stranger k t m
+  pub refused_stranger : m.is_stopped ≡ false → is_ticket t (get_or (tickets_of m.machine.core) k None) ≡ false → IsRefusedAs (Some refusal.Stranger) k t m
   refused_stranger e f = λ o recorded. refusal_by o recorded ∙ ap₂ (λ q p. cond q (Some refusal.Stopped) (cond p None (Some refusal.Stranger))) e f
 
-  pub refused_memory : m.is_stopped ≡ false → is_ticket t (get_or (tickets_of m.machine.core) k None) ≡ true → IsRefused refusal.NoMemory k t m
-  refused_memory e f = λ o recorded. refusal_by o recorded ∙ ap₂ (λ q p. cond q (Some refusal.Stopped) (cond p None (Some refusal.Stranger))) e f
+  pub refused_none : m.is_stopped ≡ false → is_ticket t (get_or (tickets_of m.machine.core) k None) ≡ true → IsRefusedAs None k t m
+  refused_none e f = λ o recorded. refusal_by o recorded ∙ ap₂ (λ q p. cond q (Some refusal.Stopped) (cond p None (Some refusal.Stranger))) e f
 
 -- where nothing can happen any more no Stop is recorded
 over_is : (o : Opening) (m : RecordedMachine) → IsRecorded o m → is_over (state_after o (data_of m.history.items)) ≡ m.is_stopped || is_none (flat_after o (data_of m.history.items)).batches
@@ -238,6 +243,7 @@ pub stays_over : (m : RecordedMachine) (o : Opening) → IsRecorded o m → m.is
 stays_over m o recorded over = record {
   history = sym (append-nil m.history.items) ∙ ap (λ q. m.history.items ++ cond q [] (Stop ∷ [])) (sym (over_is o m recorded ∙ over));
   recorded = recorded;
+  slots = refl;
 }
 
 or_right : (a b : Bool) → b ≡ true → a || b ≡ true
@@ -262,14 +268,15 @@ stays_ended m q tells e = λ o recorded.
 
 -- and else one is
 pub stops_now : (old new : RecordedMachine) (q : Bool) → old.is_stopped ≡ false → new.is_stopped ≡ true → new.history.items ≡ old.history.items ++ Stop ∷ [] → TellsEnd old.machine.core q → q ≡ false
-    → StopsAs old.machine new.machine → tickets_of new.machine.core ≡ tickets_of old.machine.core → new.machine.calls ≡ old.machine.calls → Stops old new
-stops_now old new q going still history tells e stops tickets calls = λ o recorded.
+    → StopsAs old.machine new.machine → tickets_of new.machine.core ≡ tickets_of old.machine.core → CountsNone old.machine new.machine → Stops old new
+stops_now old new q going still history tells e stops tickets counts = λ o recorded.
     let s = flat_after o (data_of old.history.items) in
     let left : is_none s.batches ≡ false = sym (ended_none s.batches) ∙ sym (tells recorded.reading s recorded.machine.kept.core) ∙ e in
     let over : is_over (state_after o (data_of old.history.items)) ≡ false = over_is o old recorded ∙ ap₂ (λ a b. a || b) going left in
     record {
       history = history ∙ ap (λ b. old.history.items ++ cond b [] (Stop ∷ [])) (sym over);
-      recorded = stops_by old new going still history stops tickets calls o recorded (ap (λ b. not b && is_possible s s.batches stop) (recorded.is_stopped ∙ going) ∙ possible s s.batches left);
+      slots = ap names_of_slots counts.slots;
+      recorded = stops_by old new going still history stops tickets counts.calls o recorded (ap (λ b. not b && is_possible s s.batches stop) (recorded.is_stopped ∙ going) ∙ possible s s.batches left);
     } where
       possible : (s : FlatState) (bs : List Batch) → is_none bs ≡ false → is_possible s bs stop ≡ true
       possible s [] f = cc

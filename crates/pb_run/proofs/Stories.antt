@@ -114,7 +114,7 @@ module _ (o : Opening) (never : IsNeverStuck o) (es : List Event) (old new : Mac
     is_stopped = ap (λ (s : FlatState). s.is_stopped) (is ∙ goes) ∙ turned_going n (flat_after o es) ∙ stands.is_stopped;
     tickets = subst (λ ts. ArePlaces ts (es ++ behind n (start k))) (sym tickets)
         (places_set k (start k) (λ j. refl) (tickets_of old.core) es n (Some t) stands.tickets (λ p e. let same : t ≡ p = cc in sym same ∙ place));
-    counts = subst (λ xs. AreCounted xs o (es ++ behind n (start k))) (sym counts)
+    counts = subst (λ xs. AreCounted xs o (es ++ behind n (start k))) (sym counts.calls)
         (counted_behind k (start k) (λ j. refl) o es n (length cs) old.calls.items stands.counts more);
   }
 
@@ -169,7 +169,7 @@ module _ (o : Opening) (never : IsNeverStuck o) (es : List Event) (old new : Mac
     is_stopped = ap (λ (s : FlatState). s.is_stopped) (given_is ∙ given.steps) ∙ stands.is_stopped;
     tickets = subst (λ ts. ArePlaces ts (es ++ behind 0 (give k xs))) (sym tickets)
         (places_set k (give k xs) (λ j. refl) (tickets_of old.core) es 0 (ticket_after (length es) a) stands.tickets place_after);
-    counts = subst (λ ys. AreCounted ys o (es ++ behind 0 (give k xs))) (sym counts)
+    counts = subst (λ ys. AreCounted ys o (es ++ behind 0 (give k xs))) (sym counts.calls)
         (counted_behind k (give k xs) (λ j. refl) o es 0 (calls_after a) old.calls.items stands.counts (ap (λ (s : FlatState). s.handed) given.steps));
   }
 

@@ -42,6 +42,7 @@ stays m = λ o recorded on. record {
   none = (none (state_after o (data_of m.history.items)).handed, λ i. refl);
   going = refl;
   recorded = recorded;
+  slots = refl;
 } where
   none : (x : ℕ) → x ≡ x + 0
   none x = omega arith
@@ -108,6 +109,7 @@ module _ (old new : RecordedMachine) (n : ℕ) (core : Core) (going : old.is_sto
           going = st.going;
         };
         recorded = st.recorded;
+        slots = st.slots;
       }
 
   -- or none can
@@ -132,6 +134,7 @@ module _ (old new : RecordedMachine) (n : ℕ) (core : Core) (going : old.is_sto
           going = gone.going;
         };
         recorded = gone.recorded;
+        slots = gone.slots;
       }
 
 -- a run that was stopped
@@ -148,4 +151,5 @@ takes_stopped m stopped = λ o never recorded.
         going = refl;
       };
       recorded = recorded;
+      slots = refl;
     }

@@ -14,13 +14,14 @@ use Rattle.pb_jobs.specs.declared.job.Job.{Job}
 use Rattle.pb_jobs.specs.declared.machine.Answered.{Answered}
 use Rattle.pb_jobs.specs.declared.machine.Answered.TheVariants as answered
 use Rattle.pb_run.specs.Openings.{IsNeverStuck, Opening, state_after}
-use Rattle.pb_run.specs.Recorded.{IsRecorded, data_of, is_none}
+use Rattle.pb_run.specs.Faults.{Faults}
+use Rattle.pb_run.specs.Recorded.{IsRecorded, data_of, is_none, slot_names}
 use Rattle.pb_run.specs.declared.event.Event.{Event}
 use Rattle.pb_run.specs.declared.event.Event.TheVariants.{Start, Give, Turn}
 use Rattle.pb_run.specs.declared.event.Given.{Given}
 use Rattle.pb_run.specs.declared.event.Given.TheVariants as given
-use Rattle.pb_run.specs.declared.event.GiveError.{GiveError}
-use Rattle.pb_run.specs.declared.event.GiveError.TheVariants as refusal
+use Rattle.pb_run.specs.declared.event.GiveFault.{GiveFault}
+use Rattle.pb_run.specs.declared.event.GiveFault.TheVariants as refusal
 use Rattle.pb_run.specs.declared.event.Taken.{Taken}
 use Rattle.pb_run.specs.declared.event.Taken.TheVariants as taken
 use Rattle.pb_run.specs.declared.recorded.RecordedMachine.{RecordedMachine}
@@ -103,6 +104,7 @@ pub record IsTaken (o : Opening) (old new : List Event) (t : Taken) : Type 0 whe
 pub record IsTakenFrom (o : Opening) (old new : RecordedMachine) (t : Taken) : Type 0 where
   pub taken : IsTaken o old.history.items new.history.items t
   pub recorded : IsRecorded o new
+  pub slots : slot_names new ≡ slot_names old
 
 abbrev pub Takes : Taken → RecordedMachine → RecordedMachine → Type 0
 Takes t old new = (o : Opening) → IsNeverStuck o → IsRecorded o old → IsTakenFrom o old new t
@@ -124,17 +126,18 @@ TakesSome m = (o : Opening) → IsRecorded o m
 pub record StaysRecorded (old new : RecordedMachine) : Type 0 where
   pub history : new.history.items ≡ old.history.items
   pub recorded : (o : Opening) → IsRecorded o old → IsRecorded o new
+  pub slots : slot_names new ≡ slot_names old
 
 abbrev pub is_ticket : ℕ → Option ℕ → Bool
 is_ticket t None = false
 is_ticket t (Some p) = p == t
 
--- why answers to the job of that host and ticket are refused, memory aside
-abbrev pub refusal_at : State → List machine.Event → ℕ → ℕ → Option GiveError
+-- why answers to the job of that host and ticket are refused, whatever the machine answers
+abbrev pub refusal_at : State → List machine.Event → ℕ → ℕ → Option GiveFault
 refusal_at s es k t = cond s.is_stopped (Some refusal.Stopped)
     (cond (is_ticket t (ticket_out k s es)) None (Some refusal.Stranger))
 
-abbrev pub refusal_in : Opening → List Event → ℕ → ℕ → Option GiveError
+abbrev pub refusal_in : Opening → List Event → ℕ → ℕ → Option GiveFault
 refusal_in o es k t = refusal_at (state_after o (data_of es)) (data_of es) k t
 
 -- what is told of a job that was answered, whose calls may be made again under that ticket
@@ -160,13 +163,17 @@ pub record IsGivenTo (o : Opening) (old new : RecordedMachine) (k t : ℕ) (xs :
     (g : Given) : Type 0 where
   pub given : IsGiven o old.history.items new.history.items k t xs g
   pub recorded : IsRecorded o new
+  pub slots : slot_names new ≡ slot_names old
 
 abbrev pub Gives : ℕ → ℕ → Vec Answer Global → Given → RecordedMachine → RecordedMachine → Type 0
 Gives k t xs g old new = (o : Opening) → IsNeverStuck o → IsRecorded o old
     → IsGivenTo o old new k t xs g
 
--- it is refused for that reason, where it isn't for want of memory
-abbrev pub IsRefused : GiveError → ℕ → ℕ → RecordedMachine → Type 0
-IsRefused refusal.NoMemory k t m = (o : Opening) → IsRecorded o m
-    → refusal_in o m.history.items k t ≡ None
-IsRefused e k t m = (o : Opening) → IsRecorded o m → refusal_in o m.history.items k t ≡ Some e
+-- it is refused for that reason; or for none, and by a fault of the machine
+abbrev pub IsRefusedAs : Option GiveFault → ℕ → ℕ → RecordedMachine → Type 0
+IsRefusedAs why k t m = (o : Opening) → IsRecorded o m → refusal_in o m.history.items k t ≡ why
+
+abbrev pub IsRefused : GiveFault → ℕ → ℕ → RecordedMachine → Type 0
+IsRefused refusal.Stopped k t m = IsRefusedAs (Some refusal.Stopped) k t m
+IsRefused refusal.Stranger k t m = IsRefusedAs (Some refusal.Stranger) k t m
+IsRefused (refusal.Core fault) k t m = IsRefusedAs None k t m × Faults fault m

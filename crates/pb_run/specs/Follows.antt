@@ -6,7 +6,7 @@ use Rattle.pb_finish.specs.declared.answer.Answer.{Answer}
 use Rattle.pb_finish.specs.declared.answer.Answer.TheVariants.{Broken, Object, Unreachable}
 use Rattle.pb_finish.specs.declared.answer.Why.{Why}
 use Rattle.pb_run.specs.Openings.{IsNeverStuck, Opening, state_after}
-use Rattle.pb_run.specs.Recorded.{IsRecorded, data_of, event_data}
+use Rattle.pb_run.specs.Recorded.{IsRecorded, data_of, event_data, slot_names}
 use Rattle.pb_run.specs.declared.event.Event.{Event}
 use Rattle.pb_run.specs.declared.event.Event.TheVariants.{Start, Give, Turn, Stop}
 use Rattle.pb_run.specs.declared.recorded.RecordedMachine.{RecordedMachine}
@@ -45,6 +45,7 @@ pub record HasFollowed (o : Opening) (v : EventView) (old new : RecordedMachine)
   pub events : map event_view new.history.items ≡ map event_view old.history.items
       ++ if_enabled (state_after o (data_of old.history.items)) v
   pub recorded : IsRecorded o new
+  pub slots : slot_names new ≡ slot_names old
 
 -- the event happens where it can, and else nothing does
 abbrev pub Follows : EventView → RecordedMachine → RecordedMachine → Type 0

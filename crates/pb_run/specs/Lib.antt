@@ -1,5 +1,6 @@
 pub mod Openings
 pub mod Recorded
+pub mod Faults
 pub mod Calls
 pub mod Starts
 pub mod Turned

@@ -13,6 +13,8 @@ use Rattle.pb_history.specs.Jobs.{is_out_at}
 use Rattle.pb_inventory.specs.Inventory.{inventory_view}
 use Rattle.pb_inventory.specs.Numbered.{name_of}
 use Rattle.pb_inventory.specs.declared.inventory.Inventory.{Inventory}
+use Rattle.pb_slots.specs.Words.{names_of_slots}
+use Rattle.pb_slots.specs.declared.slots.Slots.{Slots}
 use Rattle.pb_start.specs.declared.passes.Pass.{Pass}
 use Rattle.pb_finish.specs.Answers.{answer_data}
 use Rattle.pb_world.specs.Hosts.{names_of_hosts}
@@ -52,6 +54,10 @@ pub record Stands (o : Opening) (es : List machine.Event) (m : Machine) (stopped
 abbrev pub history_of : RecordedMachine → List Event
 history_of m = m.history.items
 
+-- the names of the slots of its variables
+abbrev pub slot_names : RecordedMachine → List Name
+slot_names m = names_of_slots m.machine.slots
+
 -- it is the run after its history
 abbrev pub IsRecorded : Opening → RecordedMachine → Type 0
 IsRecorded o m = Stands o (data_of m.history.items) m.machine m.is_stopped
@@ -69,12 +75,14 @@ pub record IsScheduled (i : Inventory) (schedule : Schedule) (forks : ℕ) (o : 
     pub batches : (name : ℕ → Name) → AreNamed name o.inventory.hosts
         → AreBatches name schedule.plays.items schedule.batches.items (all_batches o.program)
 
-pub record IsOpened (o : Opening) (m : RecordedMachine) : Type 0 where
+pub record IsOpened (o : Opening) (given : Slots) (m : RecordedMachine) : Type 0 where
   pub recorded : IsRecorded o m
   pub none_out : (k : ℕ) → is_out_at k (state_after o []) ≡ false
+  pub slots : slot_names m ≡ names_of_slots given
 
-abbrev pub Opens : Inventory → Schedule → ℕ → RecordedMachine → Type 0
-Opens i schedule forks m = (o : Opening) → IsScheduled i schedule forks o → IsOpened o m
+abbrev pub Opens : Inventory → Slots → Schedule → ℕ → RecordedMachine → Type 0
+Opens i slots schedule forks m =
+    (o : Opening) → IsScheduled i schedule forks o → IsOpened o slots m
 
 -- nothing happens any more: it was stopped, or has ended
 abbrev pub is_none : List program.Batch → Bool
@@ -92,6 +100,7 @@ pub record IsStopped (o : Opening) (old new : RecordedMachine) : Type 0 where
   pub history : new.history.items
       ≡ old.history.items ++ stop_events (state_after o (data_of old.history.items))
   pub recorded : IsRecorded o new
+  pub slots : slot_names new ≡ slot_names old
 
 abbrev pub Stops : RecordedMachine → RecordedMachine → Type 0
 Stops old new = (o : Opening) → IsRecorded o old → IsStopped o old new

@@ -8,7 +8,7 @@ use Rattle.pb_history.specs.Happens.{turned}
 use Rattle.pb_jobs.specs.declared.job.Job.{Job}
 use Rattle.pb_run.specs.Calls.{AreOut, Continues, HandsOutNone, IsHandedOut, and_host}
 use Rattle.pb_run.specs.Openings.{IsNeverStuck, Opening, flat_after, state_after}
-use Rattle.pb_run.specs.Recorded.{IsRecorded, data_of}
+use Rattle.pb_run.specs.Recorded.{IsRecorded, data_of, slot_names}
 use Rattle.pb_run.specs.declared.event.Event.{Event}
 use Rattle.pb_run.specs.declared.event.Event.TheVariants.{Start, Turn}
 use Rattle.pb_run.specs.declared.recorded.RecordedMachine.{RecordedMachine}
@@ -28,6 +28,7 @@ pub record IsStarted (o : Opening) (n k : ℕ) (old new : RecordedMachine) (j : 
   pub out : AreOut o old.history.items new.history.items (and_host k)
   pub going : Continues o old.history.items new.history.items
   pub recorded : IsRecorded o new
+  pub slots : slot_names new ≡ slot_names old
 
 -- the host of that number starts after so many Turns, where it may
 abbrev pub StartsJob : ℕ → ℕ → Job → RecordedMachine → RecordedMachine → Type 0
@@ -43,6 +44,7 @@ pub record HasTurned (o : Opening) (n : ℕ) (old new : RecordedMachine) : Type 
   pub none : HandsOutNone o old.history.items new.history.items
   pub going : Continues o old.history.items new.history.items
   pub recorded : IsRecorded o new
+  pub slots : slot_names new ≡ slot_names old
 
 abbrev pub GoesOn : ℕ → RecordedMachine → RecordedMachine → Type 0
 GoesOn n old new = (o : Opening) → IsRecorded o old

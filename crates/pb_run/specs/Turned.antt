@@ -1,8 +1,10 @@
 -- What is recorded once Turns have happened in the machine that the history doesn't have yet.
 use Rattle.std.specs.Prelude.{◌≡◌, ℕ}
+use Rattle.pb_core.specs.declared.fault.CoreFault.{CoreFault}
 use Rattle.pb_jobs.specs.Machines.{IsSameBut, TurnsAllAs}
 use Rattle.pb_jobs.specs.declared.job.Job.{Job}
 use Rattle.pb_run.specs.Calls.{Takes}
+use Rattle.pb_run.specs.Faults.{Faults}
 use Rattle.pb_run.specs.Starts.{GoesOn, StartsJob}
 use Rattle.pb_run.specs.declared.event.Taken.{Taken}
 use Rattle.pb_run.specs.declared.recorded.RecordedMachine.{RecordedMachine}
@@ -23,6 +25,9 @@ TakesBehind n t = Behind n (Takes t)
 
 abbrev pub StartsBehind : ℕ → ℕ → Job → RecordedMachine → RecordedMachine → Type 0
 StartsBehind n k j = Behind n (StartsJob n k j)
+
+abbrev pub FaultsBehind : ℕ → CoreFault → RecordedMachine → Type 0
+FaultsBehind n e now = (old : RecordedMachine) → HasTurnedAll n old now → Faults e old
 
 abbrev pub GoesOnBehind : ℕ → RecordedMachine → RecordedMachine → Type 0
 GoesOnBehind n = Behind n (GoesOn n)

@@ -1,4 +1,5 @@
 // What happens in a run, and what its callers are told.
+use pb_core::CoreFault;
 use pb_finish::Answer;
 use pb_jobs::Job;
 
@@ -36,10 +37,11 @@ pub enum Given {
 }
 
 /// Why answers are refused.
-#[derive(Clone, Copy, PartialEq, Eq, Debug)]
-pub enum GiveError {
+#[derive(Debug, Drop)]
+pub enum GiveFault {
     Stopped,
     /// No job of that ticket and host is out.
     Stranger,
-    NoMemory,
+    /// They were to be recorded, and that didn't happen.
+    Core(CoreFault),
 }

@@ -1,8 +1,9 @@
 // Events of a run that happen again, where they can.
-ghost use Rattle.std.specs.Prelude.{[], ◌≡◌, IfOk, OnErr, OnOk, map};
+ghost use Rattle.std.specs.Prelude.{[], ◌≡◌, IfErr, IfOk, OnErr, OnOk, map};
 ghost use Rattle.pb_language.specs.Machine as machine;
 ghost use Rattle.pb_finish.specs.Words.{answer_data};
 ghost use Rattle.pb_run.specs.Calls.{StaysRecorded};
+ghost use Rattle.pb_run.specs.Faults.{Faults};
 ghost use Rattle.pb_run.specs.Follows.{Follows, event_view, why_of};
 
 use crate::event::Event;
@@ -16,10 +17,12 @@ impl RecordedMachine<'_> {
     ///
     /// # Errors
     ///
-    /// Want of memory: nothing has happened then.
-    pub fn follow(&mut self, event: &Event) -> Result<(), AllocError>
+    /// Want of memory; `NotThere` where a task sets a variable that has no slot; `Full` where a
+    /// count has no room. Nothing has happened then.
+    pub fn follow(&mut self, event: &Event) -> Result<(), CoreFault>
         ensures follows { OnOk result (Follows (event_view event.now) self.old self.new) }
         ensures err { OnErr result (StaysRecorded self.old self.new) }
+        ensures faults { IfErr result (λ e. Faults e self.old) }
     {
         match event {
             Event::Start(host) => self.follow_start(*host),
@@ -32,9 +35,10 @@ impl RecordedMachine<'_> {
         }
     }
 
-    fn follow_start(&mut self, host: usize) -> Result<(), AllocError>
+    fn follow_start(&mut self, host: usize) -> Result<(), CoreFault>
         ensures follows { OnOk result (Follows (machine.start host, []) self.old self.new) }
         ensures err { OnErr result (StaysRecorded self.old self.new) }
+        ensures faults { IfErr result (λ e. Faults e self.old) }
     {
         if self.is_stopped {
             return Ok(());
@@ -46,11 +50,12 @@ impl RecordedMachine<'_> {
         Ok(())
     }
 
-    fn follow_give(&mut self, host: usize, answers: &[Answer]) -> Result<(), AllocError>
+    fn follow_give(&mut self, host: usize, answers: &[Answer]) -> Result<(), CoreFault>
         ensures follows { OnOk result (Follows
             (machine.give host (map answer_data answers.now), map why_of answers.now)
             self.old self.new) }
         ensures err { OnErr result (StaysRecorded self.old self.new) }
+        ensures faults { IfErr result (λ e. Faults e self.old) }
     {
         if self.is_stopped {
             return Ok(());
@@ -61,27 +66,22 @@ impl RecordedMachine<'_> {
         let copies = copies_of(*self.history.allocator(), answers)?;
         match self.record(host, ticket, copies) {
             Ok(_given) => Ok(()),
-            Err(_copies) => Err(AllocError),
+            Err((fault, _copies)) => Err(fault),
         }
     }
 
-    fn follow_turn(&mut self) -> Result<(), AllocError>
+    fn follow_turn(&mut self) -> Result<(), CoreFault>
         ensures follows { OnOk result (Follows (machine.turn, []) self.old self.new) }
         ensures err { OnErr result (StaysRecorded self.old self.new) }
+        ensures faults { IfErr result (λ e. Faults e self.old) }
     {
         if !self.machine.core.can_turn() {
             return Ok(());
         }
         self.history.reserve(2)?;
-        match self.machine.turn() {
-            Ok(()) => {
-                self.history.push_reserved(Event::Turn);
-                Ok(())
-            }
-            Err(CoreFault::Memory(refused)) => Err(refused),
-            Err(CoreFault::NotThere) => Ok(()),
-            Err(CoreFault::Full) => unreachable!(),
-        }
+        self.machine.turn()?;
+        self.history.push_reserved(Event::Turn);
+        Ok(())
     }
 }
 

@@ -15,5 +15,5 @@ mod open;
 pub mod recorded;
 mod take;
 
-pub use event::{Event, GiveError, Given, Taken};
+pub use event::{Event, GiveFault, Given, Taken};
 pub use recorded::RecordedMachine;

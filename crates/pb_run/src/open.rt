@@ -1,14 +1,15 @@
 // How a run is opened and stopped.
-ghost use Rattle.std.specs.Prelude.{[], ◌≡◌, IfOk};
+ghost use Rattle.std.specs.Prelude.{[], ◌≡◌, IfErr, IfOk};
+ghost use Rattle.pb_jobs.specs.Faults.{OpensNot};
 ghost use Rattle.pb_run.specs.Recorded.{Opens, Stops};
 
 use crate::event::Event;
 use crate::recorded::RecordedMachine;
-use pb_core::Schedule;
+use pb_core::{CoreFault, Schedule};
 use pb_inventory::Inventory;
 use pb_jobs::Machine;
 use pb_slots::Slots;
-use std::alloc::{AllocError, Global};
+use std::alloc::Global;
 
 impl<'c> RecordedMachine<'c> {
     /// A run of that schedule over the hosts of the inventory, in which nothing has happened yet.
@@ -16,21 +17,20 @@ impl<'c> RecordedMachine<'c> {
     ///
     /// # Errors
     ///
-    /// Want of memory.
+    /// Want of memory; `NotThere` where the first batch is of no play.
     pub fn open(
         alloc: Global,
         inventory: &'c Inventory,
         slots: Slots,
         schedule: Schedule,
         forks: usize,
-    ) -> Result<RecordedMachine<'c>, AllocError>
-        ensures opens { IfOk result (Opens inventory.now schedule forks) }
+    ) -> Result<RecordedMachine<'c>, CoreFault>
+        ensures opens { IfOk result (Opens inventory.now slots schedule forks) }
         ensures none { IfOk result (λ m. m.history.items ≡ []) }
+        ensures err { IfErr result (OpensNot schedule) }
     {
         let history = Vec::with_capacity(alloc, 1)?;
-        let Ok(machine) = Machine::open(alloc, inventory, slots, schedule, forks) else {
-            return Err(AllocError);
-        };
+        let machine = Machine::open(alloc, inventory, slots, schedule, forks)?;
         Ok(RecordedMachine {
             machine,
             history,

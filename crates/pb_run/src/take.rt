@@ -1,12 +1,16 @@
 // What there is to do in a run, and the jobs that it hands out.
-ghost use Rattle.std.specs.Prelude.{◌+◌, ◌++◌, ◌≡◌, ◌≤◌, IfOk, OnErr, OnOk, cond, false, length};
-ghost use Rattle.std.specs.Prelude.{replicate, vec_capacity};
+ghost use Rattle.std.specs.Prelude.{◌+◌, ◌++◌, ◌≡◌, ◌≤◌, IfErr, IfOk, OnErr, OnOk, cond, false};
+ghost use Rattle.std.specs.Prelude.{length, replicate, true, vec_capacity};
+ghost use Rattle.pb_core.specs.Words.{CanStart, CanTurn};
 ghost use Rattle.pb_run.specs.Calls.{StaysRecorded, Takes, TakesSome};
+ghost use Rattle.pb_run.specs.Faults.{Faults};
 ghost use Rattle.pb_run.specs.Starts.{StartsJob};
-ghost use Rattle.pb_run.specs.Turned.{GoesOnBehind, IsNotRecorded, StartsBehind, TakesBehind};
+ghost use Rattle.pb_run.specs.Turned.{FaultsBehind, GoesOnBehind, IsNotRecorded, StartsBehind};
+ghost use Rattle.pb_run.specs.Turned.{TakesBehind};
 
 use crate::event::{Event, Taken};
 use crate::recorded::RecordedMachine;
+use pb_core::CoreFault;
 use pb_jobs::Job;
 use std::alloc::AllocError;
 
@@ -16,12 +20,13 @@ impl RecordedMachine<'_> {
     ///
     /// # Errors
     ///
-    /// Want of memory, where a Turn or a Start is to be recorded: nothing has happened then, no
-    /// Turn either.
-    pub fn take(&mut self) -> Result<Taken, AllocError>
+    /// Want of memory, where a Turn or a Start is to be recorded; `Full` where a count has no room.
+    /// Nothing has happened then, no Turn either.
+    pub fn take(&mut self) -> Result<Taken, CoreFault>
         ensures takes { IfOk result (λ t. Takes t self.old self.new) }
         ensures err { OnErr result (StaysRecorded self.old self.new) }
         ensures memory { OnErr result (TakesSome self.old) }
+        ensures faults { IfErr result (λ e. Faults e self.old) }
     {
         if self.is_stopped {
             return Ok(Taken::Stopped);
@@ -39,28 +44,29 @@ impl RecordedMachine<'_> {
     }
 
     // The Turns that are due happen, and then a task starts where one can.
-    fn take_turned(&mut self) -> Result<Taken, AllocError>
-        requires { self.old.is_stopped ≡ false }
+    fn take_turned(&mut self) -> Result<Taken, CoreFault>
+        requires going { self.old.is_stopped ≡ false }
+        requires due { CanTurn self.old.machine.core true }
         ensures takes { IfOk result (λ t. Takes t self.old self.new) }
         ensures err { OnErr result (StaysRecorded self.old self.new) }
+        ensures faults { IfErr result (λ e. Faults e self.old) }
     {
-        let Ok(turned) = self.machine.turn_all() else {
-            return Err(AllocError);
-        };
+        let turned = self.machine.turn_all()?;
         match self.take_behind(turned.turns) {
             Ok(taken) => Ok(taken),
-            Err(error) => {
+            Err(fault) => {
                 self.machine.turn_back(turned);
-                Err(error)
+                Err(fault)
             }
         }
     }
 
     // So many Turns have happened: they are recorded, and then a task starts where one can.
-    fn take_behind(&mut self, turns: usize) -> Result<Taken, AllocError>
+    fn take_behind(&mut self, turns: usize) -> Result<Taken, CoreFault>
         requires { self.old.is_stopped ≡ false }
         ensures takes { IfOk result (λ t. TakesBehind turns t self.old self.new) }
         ensures err { OnErr result (IsNotRecorded self.old self.new) }
+        ensures faults { IfErr result (λ e. FaultsBehind turns e self.old) }
     {
         match self.machine.core.ready() {
             Some(host) => {
@@ -75,18 +81,18 @@ impl RecordedMachine<'_> {
         }
     }
 
-    // The host's task begins.
-    pub(crate) fn begin(&mut self, host: usize) -> Result<Job, AllocError>
-        requires { self.old.is_stopped ≡ false }
+    // The host's task begins, which may.
+    pub(crate) fn begin(&mut self, host: usize) -> Result<Job, CoreFault>
+        requires going { self.old.is_stopped ≡ false }
+        requires ready { CanStart host self.old.machine.core true }
         ensures starts { IfOk result (λ j. StartsJob 0 host j self.old self.new) }
         ensures err { OnErr result (StaysRecorded self.old self.new) }
+        ensures faults { IfErr result (λ e. Faults e self.old) }
     {
         let alloc = *self.history.allocator();
         let ticket = self.history.len();
         self.history.reserve(2)?;
-        let Ok(calls) = self.machine.begin(alloc, host, ticket) else {
-            return Err(AllocError);
-        };
+        let calls = self.machine.begin(alloc, host, ticket)?;
         self.history.push_reserved(Event::Start(host));
         Ok(Job {
             ticket,
@@ -95,18 +101,18 @@ impl RecordedMachine<'_> {
         })
     }
 
-    // So many Turns have happened: they are recorded, and the host's task begins.
-    fn begin_behind(&mut self, turns: usize, host: usize) -> Result<Job, AllocError>
-        requires { self.old.is_stopped ≡ false }
+    // So many Turns have happened: they are recorded, and the host's task begins, which may.
+    fn begin_behind(&mut self, turns: usize, host: usize) -> Result<Job, CoreFault>
+        requires going { self.old.is_stopped ≡ false }
+        requires ready { CanStart host self.old.machine.core true }
         ensures starts { IfOk result (λ j. StartsBehind turns host j self.old self.new) }
         ensures err { OnErr result (IsNotRecorded self.old self.new) }
+        ensures faults { IfErr result (λ e. FaultsBehind turns e self.old) }
     {
         let alloc = *self.history.allocator();
         make_room(&mut self.history, turns)?;
         let ticket = self.history.len() + turns;
-        let Ok(calls) = self.machine.begin(alloc, host, ticket) else {
-            return Err(AllocError);
-        };
+        let calls = self.machine.begin(alloc, host, ticket)?;
         push_turns(&mut self.history, turns);
         self.history.push_reserved(Event::Start(host));
         Ok(Job {
@@ -145,10 +151,7 @@ fn make_room(history: &mut Vec<Event>, events: usize) -> Result<(), AllocError>
     ensures ok { OnOk result (length history.old.items + events + 2 ≤ vec_capacity history.new) }
     ensures kept { vec_capacity history.old ≤ vec_capacity history.new }
 {
-    let Some(more) = events.checked_add(2) else {
-        return Err(AllocError);
-    };
-    history.reserve(more)?;
+    history.reserve(events.saturating_add(2))?;
     Ok(())
 }
 

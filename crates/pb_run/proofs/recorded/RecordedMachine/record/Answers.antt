@@ -1,7 +1,9 @@
 use Rattle.std.proofs.Common.{◌≡◌, ◌++◌, ◌∷◌, [], length, map, refl, ap, subst, ◌∙◌, arith}
 use Rattle.pb_finish.specs.Answers.{answer_data}
+use Rattle.pb_jobs.specs.Faults.{CannotGive, GivesPast}
 use Rattle.pb_jobs.specs.Machines.{GivesAs}
 use Rattle.pb_run.specs.declared.event.Event.TheVariants.{Give}
+use Rattle.pb_run.proofs.Faults.{give_faults}
 use Rattle.pb_run.proofs.Records.{gives_by, stays_by}
 use Rattle.pb_run.proofs.recorded.RecordedMachine.record.Goals as goal
 
@@ -14,5 +16,14 @@ returns-in-Ok-clause-gives c =
     let gives = subst (λ ys. GivesAs k (map answer_data ys) c.in-Ok.answered c.args.self.now.machine c.give.new.self) c.deref.ensures.value e.gives in
     rw c.given_of.ensures (gives_by c.args.self.now _ k c.args.out c.args.answers c.in-Ok.answered c.len-ticket.result c.requires.going c.requires.going history place c.requires.out gives e.tickets e.counts)
 
-pub returns-in-Err-clause-err : goal.returns-in-Err-clause-err
-returns-in-Err-clause-err c = stays_by c.args.self.now _ c.reserve.ensures.items refl c.in-Err.ensures.err
+pub returns-in-Err-give-clause-err : goal.returns-in-Err-give-clause-err
+returns-in-Err-give-clause-err c = stays_by c.args.self.now _ c.reserve.ensures.items refl c.in-Err-give.ensures.err
+
+pub returns-in-Err-give-clause-faults : goal.returns-in-Err-give-clause-faults
+returns-in-Err-give-clause-faults c =
+    let m = c.args.self.now in
+    let k = c.args.host in
+    let e = c.in-Err-give.ensures in
+    give_faults m k c.args.out c.args.answers.items c.requires.going c.requires.out _
+    (λ there. subst (λ ys. CannotGive k (map answer_data ys) m.machine) c.deref.ensures.value (e.there there))
+    (λ full. subst (λ ys. GivesPast k (map answer_data ys) m.machine) c.deref.ensures.value (e.full full))

@@ -8,7 +8,10 @@ pub returns-clause-goes : goal.returns-clause-goes
 returns-clause-goes c = λ old turned.
     let n = c.args.turns in
     let history = c.push_turns.ensures.items ∙ ap (λ xs. xs ++ replicate n Turn) (c.make_room.ensures.items ∙ turned.history) in
-    goes_on_by old _ n turned.stopped history turned.machine.machine turned.machine.tickets turned.machine.calls
+    goes_on_by old _ n turned.stopped history turned.machine.machine turned.machine.tickets (record {
+      calls = turned.machine.calls;
+      slots = turned.machine.slots;
+    })
 
 pub returns-in_err-make_room-clause-err : goal.returns-in_err-make_room-clause-err
 returns-in_err-make_room-clause-err c =

@@ -11,4 +11,4 @@ returns-then-has_ended c = stays_ended c.args.self.now c.has_ended.result c.has_
 pub returns : goal.returns
 returns c =
     let e = c.stop.ensures in
-    stops_now c.args.self.now _ c.has_ended.result c.if-self.false refl c.push_reserved.ensures.items c.has_ended.ensures.ended c.if-has_ended.false e.stops e.tickets e.calls
+    stops_now c.args.self.now _ c.has_ended.result c.if-self.false refl c.push_reserved.ensures.items c.has_ended.ensures.ended c.if-has_ended.false e.stops e.tickets e.counts

@@ -1,3 +1,4 @@
+use Rattle.pb_run.proofs.Faults.{next_can, turns_when}
 use Rattle.pb_run.proofs.Follows.{wants_start, wants_turn}
 use Rattle.pb_run.proofs.Records.{on_err}
 use Rattle.pb_run.proofs.Takes.{stay, stays, takes_rested, takes_started, takes_stopped}
@@ -23,3 +24,9 @@ returns-then-can_turn-clause-memory c =
 pub returns-in_err-job-in-Some-clause-memory : goal.returns-in_err-job-in-Some-clause-memory
 returns-in_err-job-in-Some-clause-memory c =
     on_err c.from_residual.result _ (wants_start c.args.self.now c.in-Some.host c.can_turn.result c.if-self.false c.can_turn.ensures.turn c.if-can_turn.false c.in-Some.ensures)
+
+pub begin-requires-clause-ready : goal.begin-requires-clause-ready
+begin-requires-clause-ready c = next_can c.args.self.now.machine.core c.in-Some.host c.in-Some.ensures
+
+pub take_turned-requires-clause-due : goal.take_turned-requires-clause-due
+take_turned-requires-clause-due c = turns_when c.args.self.now.machine.core c.can_turn.result c.can_turn.ensures.turn c.if-can_turn.true

@@ -4,3 +4,4 @@ pub mod Driven
 pub mod Insides
 pub mod Replays
 pub mod Turns
+pub mod Slotted

@@ -1,7 +1,8 @@
 -- What holds of every run of what was accepted.
-use Rattle.std.proofs.Common.{◌≡◌, ◌<◌, ℕ, length, true, refl, sym, ap, ◌∙◌, arith}
+use Rattle.std.proofs.Common.{◌≡◌, ◌<◌, ◌≤◌, ℕ, List, length, true, refl, sym, ap, ◌∙◌, arith}
 use Rattle.std.proofs.lemmas.List.{length-map}
 use Rattle.pb_language.specs.Judged.{judged}
+use Rattle.pb_language.specs.Machine.{Event}
 use Rattle.pb_language.specs.Verdict.{accepted}
 use Rattle.pb_language.proofs.After.{after_claim}
 use Rattle.pb_language.proofs.Given.{give_claim}
@@ -18,7 +19,7 @@ use Rattle.pb_verify.specs.Judges.{is_accepted}
 use Rattle.pb_verify.specs.declared.checked.Accepted.{Accepted}
 use Rattle.pb_verify.proofs.Verdicts.{accepts-accepted}
 use Rattle.pb_run.specs.Calls.{IsWaiting}
-use Rattle.pb_run.specs.Openings.{AllEnabled, IsNeverStuck}
+use Rattle.pb_run.specs.Openings.{AllEnabled, IsNeverStuck, state_after}
 use Rattle.pb_run.specs.Recorded.{data_of, event_data, is_none}
 use Rattle.pb_executor.specs.Sound.{IsSound}
 use Rattle.pb_executor.specs.States.{RunState, opening_of, state_of}
@@ -37,13 +38,16 @@ module _ (r : RunState) (h : is_accepted r.accepted ≡ true) where
   pub never_stuck : IsNeverStuck (opening_of r)
   never_stuck = never
 
+  pub within : (es : List Event) → (state_after (opening_of r) es).handed ≤ a.budget
+  within es = within_budget_from after_claim start_claim give_claim (modules_of a.registry) (inventory_view a.inventory) (book_view a.book) a.budget r.forks es (distinct_hosts a.inventory) judged_accepted
+
   pub is_sound : AllEnabled (opening_of r) (data_of r.history) → IsSound r
   is_sound enabled =
       let few = short_history_from (never_stuck_from after_claim start_claim give_claim) (modules_of a.registry) (inventory_view a.inventory) (book_view a.book) a.budget r.forks (data_of r.history) (distinct_hosts a.inventory) judged_accepted in
       record {
         enabled = enabled;
         never_stuck = never (data_of r.history);
-        within = within_budget_from after_claim start_claim give_claim (modules_of a.registry) (inventory_view a.inventory) (book_view a.book) a.budget r.forks (data_of r.history) (distinct_hosts a.inventory) judged_accepted;
+        within = within (data_of r.history);
         short = omega (arith, few, ap length enabled, length-map r.history event_data);
       }
 

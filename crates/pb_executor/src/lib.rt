@@ -9,7 +9,9 @@
 #![tactic(auto)]
 
 pub mod drive;
+pub mod fault;
 pub mod replay;
 mod run;
 
+pub use fault::GiveError;
 pub use run::Run;

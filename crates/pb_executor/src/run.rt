@@ -13,10 +13,11 @@ ghost use Rattle.pb_executor.specs.States.{opened, opening_of, state_of};
 ghost use Rattle.pb_executor.specs.Refusals.{IsRefusedRun, TakesSomeRun};
 ghost use Rattle.pb_executor.specs.Replays.{FollowsRun};
 
+use crate::fault::{GiveError, error_of, refused_by};
 use pb_core::Recap;
 use pb_finish::Answer;
 use pb_jobs::Job;
-use pb_run::{Event, GiveError, Given, RecordedMachine, Taken};
+use pb_run::{Event, Given, RecordedMachine, Taken};
 use pb_schedule::Planned;
 use pb_verify::Checked;
 use std::alloc::{AllocError, Global};
@@ -74,12 +75,14 @@ impl<'c> Run<'c> {
         // Its contract says that what is `checked` was accepted.
         let _budget = checked.budget();
         let inventory = checked.inventory();
-        let recorded = RecordedMachine::open(alloc, inventory, slots, schedule, forks)?;
-        Ok(Run {
-            checked,
-            forks,
-            recorded,
-        })
+        match RecordedMachine::open(alloc, inventory, slots, schedule, forks) {
+            Ok(recorded) => Ok(Run {
+                checked,
+                forks,
+                recorded,
+            }),
+            Err(fault) => Err(refused_by(fault)),
+        }
     }
 
     /// What there is to do, once the Turns that are due have happened: the job of the ready host
@@ -98,7 +101,12 @@ impl<'c> Run<'c> {
         ensures sound { IsSound self.new }
         ensures few { length self.new.history < 2 ^ 63 }
     {
-        self.recorded.take()
+        // What is handed out is within the budget, which fits 64 bits.
+        let _budget = self.checked.budget();
+        match self.recorded.take() {
+            Ok(taken) => Ok(taken),
+            Err(fault) => Err(refused_by(fault)),
+        }
     }
 
     /// The answers to a job, in the order of its calls; what stands in the job beside its ticket
@@ -121,7 +129,12 @@ impl<'c> Run<'c> {
         ensures sound { IsSound self.new }
         ensures few { length self.new.history < 2 ^ 63 }
     {
-        self.recorded.give(job, answers)
+        // What is handed out is within the budget, which fits 64 bits.
+        let _budget = self.checked.budget();
+        match self.recorded.give(job, answers) {
+            Ok(given) => Ok(given),
+            Err((fault, job, answers)) => Err((error_of(fault), job, answers)),
+        }
     }
 
     /// Stops the run; nothing where it is stopped or has ended. There is always room for this
@@ -138,7 +151,12 @@ impl<'c> Run<'c> {
     pub(crate) fn follow(&mut self, event: &Event) -> Result<(), AllocError>
         ensures { OnOk result (FollowsRun (event_view event.now) self.old self.new) }
     {
-        self.recorded.follow(event)
+        // What is handed out is within the budget, which fits 64 bits.
+        let _budget = self.checked.budget();
+        match self.recorded.follow(event) {
+            Ok(()) => Ok(()),
+            Err(fault) => Err(refused_by(fault)),
+        }
     }
 
     /// What has happened, in order. The run is the definitions' run of these events, never stuck

@@ -23,7 +23,7 @@ use Rattle.pb_run.specs.declared.event.Event.{Event}
 use Rattle.pb_run.specs.declared.event.Event.TheVariants.{Start, Give, Turn, Stop}
 use Rattle.pb_run.specs.declared.event.Given.{Given}
 use Rattle.pb_run.specs.declared.event.Given.TheVariants as given
-use Rattle.pb_run.specs.declared.event.GiveError.TheVariants as refusal
+use Rattle.pb_run.specs.declared.event.GiveFault.TheVariants as refusal
 use Rattle.pb_run.specs.declared.event.Taken.{Taken}
 use Rattle.pb_run.specs.declared.event.Taken.TheVariants as taken
 use Rattle.pb_executor.specs.Drives.{GivesRun, IsSameRun, TakesRun}

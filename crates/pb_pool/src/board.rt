@@ -9,10 +9,10 @@ ghost use Rattle.pb_pool.specs.Seats.{given_more, given_sum, handed_sum, none, t
 use crate::rule::Rule;
 use crate::seat::Seat;
 use crate::shared::SharedRun;
-use pb_executor::Run;
+use pb_executor::{GiveError, Run};
 use pb_finish::Answer;
 use pb_jobs::Job;
-use pb_run::{GiveError, Given, Taken};
+use pb_run::{Given, Taken};
 use std::alloc::{AllocError, Global};
 use std::marker::Model;
 use std::sync::ledger::{Blank, Ledger, Share};

@@ -9,10 +9,10 @@ ghost use Rattle.pb_pool.specs.Seats.{calls_of_taken as taken_calls, given_more,
 
 use crate::rule::Rule;
 use crate::seat::Seat;
-use pb_executor::Run;
+use pb_executor::{GiveError, Run};
 use pb_finish::Answer;
 use pb_jobs::Job;
-use pb_run::{GiveError, Given, Taken};
+use pb_run::{Given, Taken};
 use std::alloc::AllocError;
 use std::marker::{Model, PhantomData};
 use std::sync::ledger::{Book, Ledger, Share};

@@ -1,8 +1,8 @@
 // Jobs that are out beside one another, and calls that are made again.
 use crate::runs::{ONE_PING, PONG, accepted, answer_of, checked_for, error_of, job_of};
-use pb_executor::Run;
+use pb_executor::{GiveError, Run};
 use pb_jobs::Job;
-use pb_run::{Event, GiveError, Given, Taken};
+use pb_run::{Event, Given, Taken};
 use pb_verify::Checked;
 use std::alloc::Global;
 use std::mem;

@@ -2,10 +2,10 @@
 // nothing, and the same call made again is done. tests/refused_checks.py refuses each allocation in
 // turn.
 use crate::runs::{ONE_PING, PONG, accepted, job_of, told};
-use pb_executor::Run;
+use pb_executor::{GiveError, Run};
 use pb_finish::Answer;
 use pb_jobs::Job;
-use pb_run::{Event, GiveError, Taken};
+use pb_run::{Event, Taken};
 use pb_value::read_json;
 use pb_verify::Checked;
 use std::alloc::Global;

@@ -1,12 +1,12 @@
 // Runs of one task, taken and given by hand.
 use pb_book::Book;
-use pb_executor::Run;
+use pb_executor::{GiveError, Run};
 use pb_executor::drive::drive;
 use pb_executor::replay::replay;
 use pb_finish::Answer;
 use pb_inventory::Inventory;
 use pb_jobs::Job;
-use pb_run::{Event, GiveError, Given, Taken};
+use pb_run::{Event, Given, Taken};
 use pb_runner::ScriptRunner;
 use pb_sig::Registry;
 use pb_value::read_json;

@@ -1,8 +1,8 @@
 // Runs of one task, taken and given by hand.
 use pb_book::Book;
-use pb_executor::{GiveError, Run};
 use pb_executor::drive::drive;
 use pb_executor::replay::replay;
+use pb_executor::{GiveError, Run};
 use pb_finish::Answer;
 use pb_inventory::Inventory;
 use pb_jobs::Job;

@@ -1,10 +1,20 @@
 -- What the calls of a run do, by what its recorded machine does.
 use Rattle.std.proofs.Common.{◌≡◌, ◌++◌, ◌<◌, ◌^◌, Result, Ok, Err, IfOk, IfErr, OnErr, OnOk, ℕ, Vec, true, refl, ap, arith, subst, sym}
 use Rattle.std.specs.declared.alloc.Global.{Global}
+use Rattle.pb_language.specs.Expression.{Name}
+use Rattle.pb_language.specs.Program.{all_batches}
 use Rattle.pb_finish.specs.declared.answer.Answer.{Answer}
 use Rattle.pb_history.specs.Jobs.{is_out_at}
+use Rattle.pb_inventory.specs.Inventory.{inventory_view}
+use Rattle.pb_inventory.specs.Numbered.{name_of}
+use Rattle.pb_verify.specs.declared.checked.Accepted.{Accepted}
+use Rattle.pb_world.specs.Hosts.{names_of_hosts}
+use Rattle.pb_core.specs.Cores.{AreBatches}
+use Rattle.pb_core.specs.declared.batch.Schedule.{Schedule}
 use Rattle.pb_core.specs.declared.fault.CoreFault.{CoreFault}
 use Rattle.pb_core.specs.declared.fault.CoreFault.TheVariants.{Full, Memory, NotThere}
+use Rattle.pb_jobs.specs.Faults.{OpensNot}
+use Rattle.pb_schedule.specs.Schedules.{AreNamed, program_for}
 use Rattle.pb_run.specs.Calls.{Gives, HasJob, IsRefused, StaysRecorded, Takes, TakesSome}
 use Rattle.pb_run.specs.Faults.{AreSlotted, Faults}
 use Rattle.pb_run.specs.Follows.{EventView, Follows}
@@ -124,3 +134,12 @@ on_ok_run (Err e) P Q f p = p
 pub on_err_run : {X E : Type 0} (r : Result X E) (P Q : Type 0) → (P → Q) → OnErr r P → OnErr r Q
 on_err_run (Ok x) P Q f p = p
 on_err_run (Err e) P Q f p = f p
+
+-- the program of what was accepted has its schedule, so none is missing when it is opened
+pub opens_memory : (a : Accepted) (schedule : Schedule) → ((name : ℕ → Name) → AreNamed name (inventory_view a.inventory).hosts → AreBatches name schedule.plays.items schedule.batches.items (all_batches (program_for a)))
+    → (f : CoreFault) → OpensNot schedule f → IsMemory f
+opens_memory a schedule batches (Memory e) x = tt
+opens_memory a schedule batches NotThere x =
+    let name = name_of (names_of_hosts (inventory_view a.inventory).hosts) in
+    x name (all_batches (program_for a)) (batches name (λ k l. refl))
+opens_memory a schedule batches Full x = x

@@ -1,11 +1,16 @@
-use Rattle.std.proofs.Common.{IfErr, IfOk, subst}
-use Rattle.pb_run.specs.Calls.{Gives, IsRefused}
+use Rattle.std.proofs.Common.{◌<◌, ◌^◌, arith, subst}
 use Rattle.pb_executor.specs.Drives.{GivesRun}
 use Rattle.pb_executor.specs.Inside.{run_state}
-use Rattle.pb_executor.specs.Refusals.{IsRefusedRun}
+use Rattle.pb_executor.specs.Refusals.{IsRefusedRun, error_in}
 use Rattle.pb_executor.specs.States.{RunState}
-use Rattle.pb_executor.proofs.Insides.{err_run, give_keeps, gives_run, ok_run, refused_run, sound_run}
+use Rattle.pb_executor.proofs.Insides.{give_keeps, gives_run, is_no_fault, refused_run, sound_run}
 use Rattle.pb_executor.proofs.run.Run.give.Goals as goal
+use Rattle.pb_executor.proofs.run.Run.give.Goals.{in-Ok, in-Err}
+
+pub error_of-requires : goal.error_of-requires
+error_of-requires c =
+    let few : c.self.inside.checked.now.budget < 2 ^ 64 = omega (arith, c.budget-budget.ensures.budget) in
+    is_no_fault c.self.inside c.self.invariant few c.in-Err.fault c.args.job.host c.args.job.ticket c.in-Err.ensures.refused
 
 pub invariant_of-self : goal.invariant_of-self
 invariant_of-self c = give_keeps c.self.inside c.self.invariant c.give.new.self c.args.job.host c.args.job.ticket c.args.answers c.give.result c.give.ensures.gives c.give.ensures.err
@@ -17,16 +22,23 @@ returns-clause-given c =
     let k = c.args.job.host in
     let t = c.args.job.ticket in
     let xs = c.args.answers in
-    subst (λ (r : RunState). IfOk c.give.result (λ g. GivesRun k t xs g r (run_state (record a { recorded = m })))) c.self.view_is
-    (ok_run c.give.result (λ g. Gives k t xs g a.recorded m) (λ g. GivesRun k t xs g (run_state a) (run_state (record a { recorded = m }))) (gives_run a c.self.invariant m k t xs) c.give.ensures.gives)
+    elim c.match-give.branch [
+      | in-Ok w ↦
+          rw w.result-is (subst (λ (r : RunState). GivesRun k t xs w.in-Ok.given r (run_state (record a { recorded = m }))) c.self.view_is
+          (gives_run a c.self.invariant m k t xs w.in-Ok.given w.in-Ok.ensures.gives))
+      | in-Err w ↦ rw w.result-is tt
+    ]
 
 pub returns-clause-refused : goal.returns-clause-refused
 returns-clause-refused c =
-    let a = c.self.inside in
     let k = c.args.job.host in
     let t = c.args.job.ticket in
-    subst (λ (r : RunState). IfErr c.give.result (λ e. IsRefusedRun e.0 k t r)) c.self.view_is
-    (err_run c.give.result (λ e. IsRefused e.0 k t a.recorded) (λ e. IsRefusedRun e.0 k t (run_state a)) (λ e. refused_run a c.self.invariant e.0 k t) c.give.ensures.refused)
+    elim c.match-give.branch [
+      | in-Ok w ↦ rw w.result-is tt
+      | in-Err w ↦
+          rw (w.result-is, w.error_of.ensures) (subst (λ (r : RunState). IsRefusedRun (error_in w.in-Err.fault) k t r) c.self.view_is
+          (refused_run c.self.inside c.self.invariant w.in-Err.fault k t w.in-Err.ensures.refused))
+    ]
 
 pub returns-clause-sound : goal.returns-clause-sound
 returns-clause-sound c =

@@ -151,7 +151,6 @@ fn at_path<K: Known>(
     at_root(alloc, &path.root, inquiry.known, taught, alias)
 }
 
-// What is found of the value at the end of the path.
 #[cycle(infer)]
 fn infer_path<K: Known>(
     alloc: Global,
@@ -207,7 +206,6 @@ fn infer_both<K: Known>(
     Ok((one, other))
 }
 
-// What is found of each of them.
 #[cycle(infer)]
 fn infer_each<K: Known>(
     alloc: Global,

@@ -1,4 +1,4 @@
-use Rattle.std.proofs.Common.{map, length, get_or, ap, subst, ◌∙◌}
+use Rattle.std.proofs.Common.{map, length, get_or, ap, subst}
 use Rattle.std.proofs.lemmas.Result.{err_from_is_err_and}
 use Rattle.pb_finish.specs.Answers.{answer_data}
 use Rattle.pb_jobs.specs.Machines.{AreCallsOf}

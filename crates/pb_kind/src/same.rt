@@ -36,8 +36,9 @@ fn are_same_hosts(names: &BTreeSet<String>, others: &BTreeSet<String>) -> bool
     names == others
 }
 
+/// Where it holds, both have the same fields; it isn't asked of results.
 #[cycle(same)]
-fn are_same_slots(slots: &Slots, others: &Slots) -> bool
+pub fn are_same_slots(slots: &Slots, others: &Slots) -> bool
     ensures { result ≡ true
         → slots_view slots.now.entries ≡ slots_view others.now.entries }
 {

@@ -86,7 +86,7 @@ agreeing_visits [] (u ∷ us) a h = absurd a
 agreeing_visits (v ∷ vs) [] a h = absurd a
 agreeing_visits (v ∷ vs) (u ∷ us) a h = (visit_named v u a.0 h.0, agreeing_visits vs us a.1 h.1)
 
-agreeing_plays : (ws xs : List PlayWalk) → AllPlaysAgree ws xs → PlaysNameHandlers xs → PlaysNameHandlers ws
+pub agreeing_plays : (ws xs : List PlayWalk) → AllPlaysAgree ws xs → PlaysNameHandlers xs → PlaysNameHandlers ws
 agreeing_plays [] [] a h = tt
 agreeing_plays [] (x ∷ xs) a h = absurd a
 agreeing_plays (w ∷ ws) [] a h = absurd a

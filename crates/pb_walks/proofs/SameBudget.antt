@@ -67,7 +67,7 @@ module _ (vs us : List Visit) (a : AllVisitsAgree vs us) where
       (both_sums (row_calls vs rescued) (row_calls vs always + row_calls vs row) (row_calls us rescued) (row_calls us always + row_calls us row) (row_same rescued)
       (both_sums (row_calls vs always) (row_calls vs row) (row_calls us always) (row_calls us row) (row_same always) (row_same row)))
 
-plays_same : (ws xs : List PlayWalk) → AllPlaysAgree ws xs → plays_calls ws ≡ plays_calls xs
+pub plays_same : (ws xs : List PlayWalk) → AllPlaysAgree ws xs → plays_calls ws ≡ plays_calls xs
 plays_same [] [] a = refl
 plays_same [] (x ∷ xs) a = absurd a
 plays_same (w ∷ ws) [] a = absurd a

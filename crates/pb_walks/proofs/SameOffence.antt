@@ -22,7 +22,7 @@ visits_same h [] (u ∷ us) a = absurd a
 visits_same h (v ∷ vs) [] a = absurd a
 visits_same h (v ∷ vs) (u ∷ us) a = ap (λ o. lesser o (visits_offence h vs)) (visit_same h v u a.0) ∙ ap (λ o. lesser (visit_offence h u) o) (visits_same h vs us a.1)
 
-plays_same : (h : Name) (ws xs : List PlayWalk) → AllPlaysAgree ws xs → plays_offence h ws ≡ plays_offence h xs
+pub plays_same : (h : Name) (ws xs : List PlayWalk) → AllPlaysAgree ws xs → plays_offence h ws ≡ plays_offence h xs
 plays_same h [] [] a = refl
 plays_same h [] (x ∷ xs) a = absurd a
 plays_same h (w ∷ ws) [] a = absurd a

@@ -56,7 +56,7 @@ module _ (inventory : Inventory) (vs us : List View) (a : ViewsAgree vs us) wher
     well_too = a.well_too;
   }
 
-  plays_agree : (ps : Program) (h : Name) (e f : Exit) (ls ms : List (List Later)) → LatersAgree ls ms → WellExit e → WellExit f → ExitsAgree e f → AllPlaysAgree (plays_walked inventory vs h e ps ls) (plays_walked inventory us h f ps ms)
+  pub plays_agree : (ps : Program) (h : Name) (e f : Exit) (ls ms : List (List Later)) → LatersAgree ls ms → WellExit e → WellExit f → ExitsAgree e f → AllPlaysAgree (plays_walked inventory vs h e ps ls) (plays_walked inventory us h f ps ms)
   plays_agree [] h e f ls ms l w v x = tt
   plays_agree (p ∷ ps) h e f ls ms l w v x =
       let st = setting_of inventory p vs (first_laters ls) h in

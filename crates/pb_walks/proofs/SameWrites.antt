@@ -54,7 +54,7 @@ visits_same (v ∷ vs) [] ss ts a x = absurd a
 visits_same (v ∷ vs) (u ∷ us) ss ts a x =
     both_hold (writes_below (task_writes v.setting v.visited v.env) ss) (visits_below vs ss) (writes_below (task_writes u.setting u.visited u.env) ts) (visits_below us ts) (below_same v u a.0 ss ts x) (visits_same vs us ss ts a.1 x)
 
-plays_same : (ws xs : List PlayWalk) (ss ts : Slots) → AllPlaysAgree ws xs → SlotsAgree ss ts → plays_below ws ss ≡ plays_below xs ts
+pub plays_same : (ws xs : List PlayWalk) (ss ts : Slots) → AllPlaysAgree ws xs → SlotsAgree ss ts → plays_below ws ss ≡ plays_below xs ts
 plays_same [] [] ss ts a x = refl
 plays_same [] (y ∷ xs) ss ts a x = absurd a
 plays_same (w ∷ ws) [] ss ts a x = absurd a
@@ -76,7 +76,7 @@ visits_written [] (u ∷ us) ss ts a x = absurd a
 visits_written (v ∷ vs) [] ss ts a x = absurd a
 visits_written (v ∷ vs) (u ∷ us) ss ts a x = visits_written vs us (with_writes (task_writes v.setting v.visited v.env) ss) (with_writes (task_writes u.setting u.visited u.env) ts) a.1 (writes_same v u a.0 ss ts x)
 
-plays_written : (ws xs : List PlayWalk) (ss ts : Slots) → AllPlaysAgree ws xs → SameSlots ss ts → SameSlots (with_plays ws ss) (with_plays xs ts)
+pub plays_written : (ws xs : List PlayWalk) (ss ts : Slots) → AllPlaysAgree ws xs → SameSlots ss ts → SameSlots (with_plays ws ss) (with_plays xs ts)
 plays_written [] [] ss ts a x = x
 plays_written [] (y ∷ xs) ss ts a x = absurd a
 plays_written (w ∷ ws) [] ss ts a x = absurd a

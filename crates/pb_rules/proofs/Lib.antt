@@ -10,3 +10,5 @@ pub mod Modules
 pub mod InventoryNames
 pub mod TaskReads
 pub mod ScopesRound
+pub mod Nameless
+pub mod Denials

@@ -4,4 +4,6 @@ pub mod Parameters
 pub mod Names
 pub mod Handlers
 pub mod Sites
+pub mod Denied
+pub mod Named
 pub mod Words

@@ -7,9 +7,11 @@
 #![tactic(auto)]
 
 pub mod broken;
+mod denied;
 mod expressions;
 mod known;
 pub mod laws;
+pub mod name;
 mod names;
 pub mod notify;
 pub mod others;
@@ -22,6 +24,7 @@ mod sites;
 mod steps;
 
 pub use broken::{Broken, Rule};
+pub use name::reads_name;
 pub use notify::is_named;
 pub use others::reads_others;
 pub use rules::first_broken;

@@ -1,0 +1,9 @@
+use Rattle.std.proofs.Common.{◌∙◌, map}
+use Rattle.std.proofs.lemmas.Result.{IfOk-weaker}
+use Rattle.pb_language.specs.Sites.{sites_of}
+use Rattle.pb_play.specs.Plays.{play_view}
+use Rattle.pb_rules.proofs.Denials.{name-denied}
+use Rattle.pb_rules.proofs.name.reads_name.Goals as goal
+
+pub returns : goal.returns
+returns c = IfOk-weaker c.any_denied.result _ _ (λ b e. e ∙ name-denied (sites_of (map play_view c.args.plays.now))) c.any_denied.ensures

@@ -19,7 +19,8 @@ use pb_task::Task;
 use pb_vars::{InScope, Question};
 use std::alloc::{AllocError, Global};
 
-// Whether some text of a task reads such a thing, also through values of `vars`.
+// Whether some text of a task reads something of which it doesn't hold, also through values of
+// `vars`.
 pub(crate) fn any_denied<Q: Question>(
     alloc: Global,
     question: &Q,

@@ -7,3 +7,4 @@ pub mod Gathered
 pub mod Trees
 pub mod Evaluated
 pub mod Written
+pub mod Once

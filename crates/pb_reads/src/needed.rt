@@ -4,6 +4,7 @@ ghost use Rattle.pb_semantics.specs.Words.{is_among};
 ghost use Rattle.pb_language.specs.Expansion.{trees};
 ghost use Rattle.pb_language.specs.Expression.{Name};
 ghost use Rattle.pb_language.specs.Rules.{any_too_long, part_names};
+ghost use Rattle.pb_language.specs.Theorem.{are_distinct};
 ghost use Rattle.pb_syntax.specs.Aliases.{trees_in};
 ghost use Rattle.pb_vars.specs.Borrowed.{borrowed_view};
 ghost use Rattle.pb_vars.specs.Words.{in_scope};
@@ -19,8 +20,8 @@ use pb_vars::laws::{all_are_in_order, trees_are_whole};
 use std::alloc::{AllocError, Global};
 use std::collections::BTreeSet;
 
-/// The names of `vars` that these roots reach, also through values of others, each behind the names
-/// that its value reads: in this order they are worked out, and no others have to be.
+/// The names of `vars` that these roots reach, also through values of others, each once and behind
+/// the names that its value reads: in this order they are worked out, and no others have to be.
 ///
 /// # Errors
 ///
@@ -37,6 +38,9 @@ pub fn names_reached<'p>(
     ensures needed { IfOk result (λ es. (n : Name)
         → is_among n (part_names (borrowed_view es.items)) ≡ true
         → IsReached (in_scope scope.now) (roots_view roots.now) n) }
+    ensures once { IfOk result (λ es.
+        any_too_long (in_scope scope.now) (in_scope scope.now) ≡ false
+        → are_distinct (part_names (borrowed_view es.items)) ≡ true) }
 {
     all_are_in_order();
     trees_are_whole();

@@ -1,8 +1,7 @@
 -- The hosts that a play's pattern finds.
-use Rattle.std.proofs.Common.{◌≡◌, ℕ, ◌+◌, ◌<◌, ◌≤◌, List, [], ◌∷◌, ◌++◌, length, get_or, drop, map, Bool, true, false, cond, Some, None, option_map, slice_get, String, Global, string_bytes, refl, sym, ap, ◌∙◌, arith}
+use Rattle.std.proofs.Common.{◌≡◌, ℕ, ◌<◌, List, [], ◌∷◌, ◌++◌, length, map, Bool, true, false, cond, Some, None, option_map, slice_get, String, Global, string_bytes, refl, sym, ap, ◌∙◌, arith}
 use Rattle.std.specs.List.{All}
-use Rattle.std.specs.Prelude.{◌||◌, nat_eq}
-use Rattle.std.proofs.lemmas.List.{drop_all, length-map}
+use Rattle.std.proofs.lemmas.List.{length-map}
 use Rattle.std.specs.declared.sync.Arc.{Arc}
 use Rattle.pb_semantics.specs.Keeps.{is_among}
 use Rattle.pb_language.specs.BookForm.{words_from}
@@ -19,7 +18,6 @@ use Rattle.pb_inventory.proofs.NamedCycles.{is_in-named}
 use Rattle.pb_inventory.proofs.PatternHosts.{within-all}
 use Rattle.pb_play.specs.Plays.{words_in}
 use Rattle.pb_task.specs.Tasks.{names_view}
-use Rattle.pb_hosts.proofs.Named.{next_number}
 use Rattle.pb_hosts.proofs.Places.{host_there}
 
 found_step : (q : Bool) (hs ns : List Name) → cond q (Some hs) None ≡ Some ns → ns ≡ hs
@@ -36,16 +34,6 @@ pattern_found v ps qs hs e h =
     ∙ ap (λ xs. pattern_hosts v [] (patterns_words (inventory.names_view xs))) e ∙ ap (pattern_hosts v []) (same_words ps)
 
 -- ---- whether a host is one of them
-
-same_number : (n : ℕ) → nat_eq n n ≡ true
-same_number n = grind arith
-
-pub found_there : (ps : List ℕ) (i h : ℕ) → i < length ps → get_or ps i 0 ≡ h → is_in h (drop i ps) ≡ true
-found_there ps i h lt e =
-    ap (is_in h) (next_number ps i lt) ∙ ap (λ x. is_in h (x ∷ drop (i + 1) ps)) e ∙ ap (λ b. b || is_in h (drop (i + 1) ps)) (same_number h)
-
-pub not_there : (ps : List ℕ) (i h : ℕ) → length ps ≤ i → is_in h (drop i ps) ≡ false
-not_there ps i h le = ap (is_in h) (drop_all i ps le)
 
 pub cast_has : (xs : List HostVariables) (ps : List ℕ) (h : ℕ) (b : Bool) → are_apart (map (λ x. x.name) xs) ≡ true → All (λ p. p < length xs) ps → h < length xs → is_in h ps ≡ b
     → option_map (λ x. is_among x.name (named (map (λ y. y.name) xs) ps)) (slice_get xs h) ≡ Some b

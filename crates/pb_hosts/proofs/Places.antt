@@ -117,12 +117,12 @@ views_well (h ∷ hs) (s ∷ ss) w g =
       either false us ts v x = x
 
 -- an element that is read
-pub slots_at : (ms : List (BTreeMap (String Global) (Slot Kind))) (p : ℕ) (m : BTreeMap (String Global) (Slot Kind)) → p < length ms → m ≡ get_or ms p m → slice_get (slots_of_each ms) p ≡ Some (slots_view m.entries)
-slots_at ms p m lt e = slice_get-map (λ (x : BTreeMap (String Global) (Slot Kind)). slots_view x.entries) ms p ∙ ap (option_map (λ x. slots_view x.entries)) (slice_get_read ms (length ms) p m refl lt e)
+pub slots_at : (ms : List (Arc (BTreeMap (String Global) (Slot Kind)) Global)) (p : ℕ) (m : Arc (BTreeMap (String Global) (Slot Kind)) Global) → p < length ms → m ≡ get_or ms p m → slice_get (slots_of_each ms) p ≡ Some (slots_view m.value.entries)
+slots_at ms p m lt e = slice_get-map (λ (x : Arc (BTreeMap (String Global) (Slot Kind)) Global). slots_view x.value.entries) ms p ∙ ap (option_map (λ x. slots_view x.value.entries)) (slice_get_read ms (length ms) p m refl lt e)
 
 -- what is known of a host by its name
-pub view_read : (hs : List Name) (ms : List (BTreeMap (String Global) (Slot Kind))) (p : ℕ) (n : Name) (m : BTreeMap (String Global) (Slot Kind)) → are_apart hs ≡ true → length ms ≡ length hs → p < length hs
-    → name_of hs p ≡ n → m ≡ get_or ms p m → slots_view m.entries ≡ view_of n (views_from hs (slots_of_each ms))
+pub view_read : (hs : List Name) (ms : List (Arc (BTreeMap (String Global) (Slot Kind)) Global)) (p : ℕ) (n : Name) (m : Arc (BTreeMap (String Global) (Slot Kind)) Global) → are_apart hs ≡ true → length ms ≡ length hs → p < length hs
+    → name_of hs p ≡ n → m ≡ get_or ms p m → slots_view m.value.entries ≡ view_of n (views_from hs (slots_of_each ms))
 view_read hs ms p n m apart size lt name e =
     sym (view_at hs (slots_of_each ms) p n apart lt name ∙ ap (λ o. unwrap_or o no_slots) (slots_at ms p m (omega (arith, size)) e))
 

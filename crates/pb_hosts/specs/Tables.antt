@@ -2,6 +2,7 @@
 use Rattle.std.specs.Prelude.{ℕ, List, [], ◌∷◌, true, cond, map, nat_eq, Option, Some, None, String}
 use Rattle.std.specs.BTreeMap.{BTreeMap}
 use Rattle.std.specs.declared.alloc.Global.{Global}
+use Rattle.std.specs.declared.sync.Arc.{Arc}
 use Rattle.pb_semantics.specs.Data.{Fields, no_fields, field}
 use Rattle.pb_semantics.specs.Kind.{Slots, put_slot}
 use Rattle.pb_language.specs.Expression.{Name}
@@ -24,11 +25,11 @@ views_from [] ss = []
 views_from (n ∷ ns) [] = []
 views_from (n ∷ ns) (s ∷ ss) = record { host = n; slots = s } ∷ views_from ns ss
 
-abbrev pub slots_of_each : List (BTreeMap (String Global) (Slot Kind)) → List Slots
-slots_of_each ms = map (λ m. slots_view m.entries) ms
+abbrev pub slots_of_each : List (Arc (BTreeMap (String Global) (Slot Kind)) Global) → List Slots
+slots_of_each ms = map (λ m. slots_view m.value.entries) ms
 
-abbrev pub views_with : inventory.Inventory → List (BTreeMap (String Global) (Slot Kind))
-    → List View
+abbrev pub views_with : inventory.Inventory
+    → List (Arc (BTreeMap (String Global) (Slot Kind)) Global) → List View
 views_with i ms = views_from (host_names (inventory_view i)) (slots_of_each ms)
 
 -- slots with the kinds of the values of a layer over them

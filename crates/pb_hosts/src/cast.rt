@@ -1,7 +1,9 @@
 // The hosts of a play, and what is always there for each of them.
-ghost use Rattle.std.specs.Prelude.{◌≡◌, ◌<◌, length, true};
+ghost use Rattle.std.specs.Prelude.{◌≡◌, ◌<◌, EachIndex, IfOk, false, length, slice_index_or, true};
 ghost use Rattle.std.specs.List.{All};
+ghost use Rattle.std.proofs.Props.{props};
 ghost use Rattle.pb_language.specs.Setting.{host_list};
+ghost use Rattle.pb_inventory.specs.Graph.{is_in};
 ghost use Rattle.pb_inventory.specs.Words.{inventory_view, names_at};
 ghost use Rattle.pb_kind.specs.Words.{kind_view};
 ghost use Rattle.pb_hosts.specs.Equal.{same_kind};
@@ -22,13 +24,18 @@ pub struct Cast<'s> {
     pub places: Vec<usize>,
     // The kind of a list of them.
     list: Kind,
+    // Of each host of the inventory whether it is one of them.
+    flags: Vec<bool>,
     ghost placed: { All (λ p. p < length (inventory_view inventory.now).hosts) places.items },
     ghost listed: { same_kind (kind_view list)
         (host_list (names_at (host_names (inventory_view inventory.now)) places.items)) ≡ true },
+    ghost count: { length flags.items ≡ length (inventory_view inventory.now).hosts },
+    ghost flagged: { EachIndex flags.items
+        (λ k. slice_index_or flags.items k false ≡ is_in k places.items) } by { Prim.hlevel props },
 }
 
 impl<'s> Cast<'s> {
-    ghost use Rattle.std.specs.Prelude.{[], IfOk, Some, option_map, slice_get};
+    ghost use Rattle.std.specs.Prelude.{[], Some, option_map, slice_get};
     ghost use Rattle.pb_semantics.specs.Words.{is_among};
     ghost use Rattle.pb_language.specs.Plays.{pattern_hosts};
     ghost use Rattle.pb_play.specs.Words.{play_view};
@@ -73,11 +80,13 @@ impl<'s> Cast<'s> {
             ≡ names_at (host_names (inventory_view inventory.entry.now)) places.items) }
     {
         let list = hosts_list(alloc, inventory, &places)?;
+        let flags = flags_at(alloc, inventory.hosts(), &places)?;
         Ok(Cast {
             inventory,
             play,
             places,
             list,
+            flags,
         })
     }
 
@@ -94,11 +103,20 @@ impl<'s> Cast<'s> {
         ensures { option_map (λ h. is_among h.name (cast_hosts self.now))
             (slice_get (inventory_view self.now.inventory.now).hosts host) ≡ Some result }
     {
-        for place in &self.places {
-            if *place == host {
-                return true;
-            }
-        }
-        false
+        self.flags[host]
     }
+}
+
+// Of each of so many hosts whether it is at one of these places.
+fn flags_at(alloc: Global, hosts: usize, places: &[usize]) -> Result<Vec<bool>, AllocError>
+    requires { All (λ p. p < hosts) places.now }
+    ensures count { IfOk result (λ v. length v.items ≡ hosts) }
+    ensures each { IfOk result (λ v. EachIndex v.items
+        (λ k. slice_index_or v.items k false ≡ is_in k places.now)) }
+{
+    let mut flags = vec![in alloc; false; hosts]?;
+    for place in places {
+        flags[*place] = true;
+    }
+    Ok(flags)
 }

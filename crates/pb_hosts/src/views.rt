@@ -13,7 +13,7 @@ ghost use Rattle.pb_hosts.specs.Tables.{slots_of_each, views_with, with_layer};
 use pb_forms::literal_kind;
 use pb_inventory::Inventory;
 use pb_kind::below::find;
-use pb_kind::{Kind, Slot, Slots, copy_slots, put_slot};
+use pb_kind::{Kind, Slot, Slots, put_slot};
 use pb_value::Fields;
 use std::alloc::{AllocError, Global};
 use std::sync::Arc;
@@ -25,8 +25,8 @@ pub const MOST_VARIABLES: usize = 1_048_576;
 #[derive(Drop)]
 pub struct Views<'i> {
     pub inventory: &'i Inventory,
-    // In host order.
-    hosts: Vec<Slots>,
+    // In host order; hosts that look alike may share what is known of them.
+    hosts: Vec<Arc<Slots>>,
     ghost each: { length hosts.items ≡ length (inventory_view inventory.now).hosts },
     ghost well: { WellViews (views_with inventory.now hosts.items) } by { well_views_prop _ },
 }
@@ -59,15 +59,16 @@ impl<'i> Views<'i> {
         }
         let mut hosts = Vec::with_capacity(alloc, inventory.hosts())?;
         for host in 0..inventory.hosts() {
-            hosts.push(known_of(alloc, inventory, host)?)?;
+            let known = known_of(alloc, inventory, host)?;
+            hosts.push(Arc::new(alloc, known)?)?;
         }
         Ok(Views { inventory, hosts })
     }
 
-    /// What is known where the slots are those of each host, in host order.
-    pub fn of_hosts(inventory: &'i Inventory, hosts: Vec<Slots>) -> Views<'i>
+    /// What is known where the slots are those of each host, in host order. Hosts may share them.
+    pub fn of_hosts(inventory: &'i Inventory, hosts: Vec<Arc<Slots>>) -> Views<'i>
         requires each { length hosts.items ≡ length (inventory_view inventory.now).hosts }
-        requires well { All (λ m. Well (recs (slots_view m.entries))) hosts.items }
+        requires well { All (λ m. Well (recs (slots_view m.value.entries))) hosts.items }
         ensures inventory { result.inventory ≡ inventory.entry }
         ensures views { views_view result ≡ views_from
             (host_names (inventory_view inventory.entry.now)) (slots_of_each hosts.items) }
@@ -75,7 +76,7 @@ impl<'i> Views<'i> {
         Views { inventory, hosts }
     }
 
-    /// The same, which shares what lies in the kinds.
+    /// The same, which shares what is known of each host.
     ///
     /// # Errors
     ///
@@ -92,7 +93,7 @@ impl<'i> Views<'i> {
     }
 
     /// What is known of the variables of each host, in host order.
-    pub fn into_hosts(self) -> Vec<Slots>
+    pub fn into_hosts(self) -> Vec<Arc<Slots>>
         ensures all { length result.items ≡ length (inventory_view self.entry.inventory.now).hosts }
         ensures views { views_view self.entry ≡ views_with self.entry.inventory.now result.items }
     {
@@ -130,13 +131,13 @@ impl<'i> Views<'i> {
     }
 }
 
-// Of each host the same slots.
-fn copies(alloc: Global, hosts: &[Slots]) -> Result<Vec<Slots>, AllocError>
+// Of each host the same slots, which are shared.
+fn copies(alloc: Global, hosts: &[Arc<Slots>]) -> Result<Vec<Arc<Slots>>, AllocError>
     ensures { IfOk result (λ v. slots_of_each v.items ≡ slots_of_each hosts.now) }
 {
     let mut copies = Vec::with_capacity(alloc, hosts.len())?;
     for slots in hosts {
-        copies.push(copy_slots(slots)?)?;
+        copies.push(slots.clone()?)?;
     }
     Ok(copies)
 }

@@ -1,19 +1,13 @@
-use Rattle.std.proofs.Common.{◌∙◌, sym, true, false}
+use Rattle.std.proofs.Common.{◌∙◌, ◌<◌, false, length, sym, subst}
+use Rattle.std.proofs.lemmas.List.{get_or_read}
 use Rattle.pb_inventory.specs.Inventory.{inventory_view}
-use Rattle.pb_hosts.proofs.Casting.{cast_has, found_there, not_there}
+use Rattle.pb_hosts.proofs.Casting.{cast_has}
 use Rattle.pb_hosts.proofs.Places.{apart_hosts}
 use Rattle.pb_hosts.proofs.cast.Cast.has.Goals as goal
-
-pub returns-then-place-host : goal.returns-then-place-host
-returns-then-place-host c =
-    let p = c.args.self.now in
-    let l = c.loop-place in
-    cast_has (inventory_view p.inventory.now).hosts p.places.items c.args.host true (apart_hosts p.inventory.now) p.placed c.requires
-    (sym l.invariant ∙ found_there c.deref-place-items.result.now l.place-index c.args.host c.loop-place-test.true c.if-place-host.true)
 
 pub returns : goal.returns
 returns c =
     let p = c.args.self.now in
-    let l = c.loop-place in
-    cast_has (inventory_view p.inventory.now).hosts p.places.items c.args.host false (apart_hosts p.inventory.now) p.placed c.requires
-    (sym l.invariant ∙ not_there c.deref-place-items.result.now l.place-index c.args.host c.loop-place-test.false)
+    let within : c.args.host < length p.flags.items = subst (λ n. c.args.host < n) (sym p.count) c.requires in
+    cast_has (inventory_view p.inventory.now).hosts p.places.items c.args.host c.index.result.now (apart_hosts p.inventory.now) p.placed c.requires
+    (sym (get_or_read p.flags.items c.args.host c.index.result.now within c.index.ensures false ∙ p.flagged c.args.host within))

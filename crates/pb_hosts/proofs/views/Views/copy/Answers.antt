@@ -11,8 +11,8 @@ pub invariant_of-result : goal.invariant_of-result
 invariant_of-result c =
     let v = c.args.self.now in
     let same = c.in_ok-hosts.ensures ∙ ap slots_of_each c.deref.ensures.value in
-    let few = length-map v.hosts.items (λ m. slots_view m.entries) in
-    let more = length-map c.in_ok-hosts.hosts.items (λ m. slots_view m.entries) in
+    let few = length-map v.hosts.items (λ m. slots_view m.value.entries) in
+    let more = length-map c.in_ok-hosts.hosts.items (λ m. slots_view m.value.entries) in
     record {
       each = sym more ∙ ap length same ∙ few ∙ v.each;
       well = subst (λ (vs : List View). WellViews vs) (sym (ap (views_from (host_names (inventory_view v.inventory.now))) same)) v.well;

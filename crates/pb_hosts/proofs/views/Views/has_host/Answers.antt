@@ -12,4 +12,4 @@ returns c =
     let xs = (inventory_view v.inventory.now).hosts in
     c.is_some.ensures ∙ c.place_of.ensures.known ∙ host_among c.args.host.now xs
     ∙ view_there (host_names (inventory_view v.inventory.now)) (slots_of_each v.hosts.items) c.args.host.now
-    (length-map v.hosts.items (λ m. slots_view m.entries) ∙ v.each ∙ sym (length-map xs (λ h. h.name)))
+    (length-map v.hosts.items (λ m. slots_view m.value.entries) ∙ v.each ∙ sym (length-map xs (λ h. h.name)))

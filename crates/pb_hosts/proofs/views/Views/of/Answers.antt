@@ -1,5 +1,6 @@
-use Rattle.std.proofs.Common.{◌<◌, ◌≤◌, length, arith}
+use Rattle.std.proofs.Common.{◌∙◌, ◌<◌, ◌≤◌, Some, ap, length, sym, arith}
 use Rattle.pb_inventory.specs.Inventory.{inventory_view}
+use Rattle.pb_kind.specs.KindView.{slots_view}
 use Rattle.pb_hosts.proofs.Known.{each_known, host_known, known_agree, known_well, views_known}
 use Rattle.pb_hosts.proofs.views.Views.of.Goals as goal
 
@@ -8,7 +9,8 @@ loop-host-preserved c =
     let l = c.loop-host in
     let xs = (inventory_view c.args.inventory.now).hosts in
     let within : l.host < length xs = omega (arith, c.hosts-host-end.ensures, c.loop-host-test.true) in
-    host_known xs l.host l.hosts.items c.push.new.self.items c.in_ok-known_of.field-0 within l.invariant c.in_ok-known_of.ensures c.in_ok-push.ensures.items
+    host_known xs l.host l.hosts.items c.push.new.self.items c.in_ok-new.field-0 within l.invariant
+    (c.in_ok-known.ensures ∙ ap (λ m. Some (slots_view m.entries)) (sym c.in_ok-new.ensures.ok)) c.in_ok-push.ensures.items
 
 pub invariant_of-result : goal.invariant_of-result
 invariant_of-result c =

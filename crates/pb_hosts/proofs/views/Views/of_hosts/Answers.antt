@@ -10,5 +10,5 @@ use Rattle.pb_hosts.proofs.views.Views.of_hosts.Goals as goal
 pub invariant_of-result : goal.invariant_of-result
 invariant_of-result c = record {
   each = c.requires.each;
-  well = views_well (host_names (inventory_view c.args.inventory.now)) (slots_of_each c.args.hosts.items) (All-map (λ (us : Slots). Well (recs us)) (λ m. slots_view m.entries) c.args.hosts.items c.requires.well);
+  well = views_well (host_names (inventory_view c.args.inventory.now)) (slots_of_each c.args.hosts.items) (All-map (λ (us : Slots). Well (recs us)) (λ m. slots_view m.value.entries) c.args.hosts.items c.requires.well);
 }

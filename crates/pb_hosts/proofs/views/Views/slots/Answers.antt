@@ -17,8 +17,9 @@ returns-clause-slots c =
     let v = c.args.self.now in
     let i = inventory_view v.inventory.now in
     let size = length-map i.hosts (λ h. h.name) in
-    let few = length-map v.hosts.items (λ m. slots_view m.entries) in
+    let few = length-map v.hosts.items (λ m. slots_view m.value.entries) in
     view_slots_at (host_names i) (slots_of_each v.hosts.items) c.args.host (few ∙ v.each ∙ sym size) (omega (arith, size, c.requires)) ∙ slots_at v.hosts.items c.args.host c.index.result.now (omega (arith, v.each, c.requires)) c.index.ensures
+    ∙ ap (λ m. Some (slots_view m.entries)) (sym c.deref.ensures)
 
 pub returns-clause-named : goal.returns-clause-named
 returns-clause-named c =
@@ -27,6 +28,7 @@ returns-clause-named c =
     let size = length-map i.hosts (λ h. h.name) in
     host_there (λ n. view_of n (views_view v)) i.hosts c.args.host c.requires
     ∙ ap Some (sym (view_read (host_names i) v.hosts.items c.args.host _ c.index.result.now (apart_hosts v.inventory.now) (v.each ∙ sym size) (omega (arith, size, c.requires)) refl c.index.ensures))
+    ∙ ap (λ m. Some (slots_view m.entries)) (sym c.deref.ensures)
 
 pub returns-clause-well : goal.returns-clause-well
 returns-clause-well c =
@@ -35,4 +37,4 @@ returns-clause-well c =
     let size = length-map i.hosts (λ h. h.name) in
     let n = name_of (host_names i) c.args.host in
     let same = view_read (host_names i) v.hosts.items c.args.host n c.index.result.now (apart_hosts v.inventory.now) (v.each ∙ sym size) (omega (arith, size, c.requires)) refl c.index.ensures in
-    subst (λ (ss : Slots). Well (recs ss)) (sym same) (v.well n)
+    subst (λ (ss : Slots). Well (recs ss)) (sym (ap (λ m. slots_view m.entries) c.deref.ensures ∙ same)) (v.well n)

@@ -1,4 +1,4 @@
-use Rattle.std.proofs.Common.{◌≡◌, ◌∙◌, ◌<◌, List, ap, length, subst, sym, true}
+use Rattle.std.proofs.Common.{◌≡◌, ◌∙◌, ◌<◌, ap, length, subst, sym, true}
 use Rattle.std.specs.List.{All}
 use Rattle.pb_language.specs.Setting.{host_list}
 use Rattle.pb_inventory.specs.Graph.{is_in}

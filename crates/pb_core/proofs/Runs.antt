@@ -221,19 +221,35 @@ module _ {P : Type 0} (old : RunCore P) where
       subst (λ (q : RunPlay). AreEntries q c.members.items old.hosts.items es) (ap (λ o. unwrap_or o play) (sym f ∙ h))
       (subst (λ (d : Batch). AreEntries play d.members.items old.hosts.items es) (ap (λ o. unwrap_or o b) (sym e ∙ g)) are)
 
-  pub stops_by : Stops old (record old { is_stopped = true })
-  stops_by reading s i e =
-      by s.batches refl where
-        by : (bs : List program.Batch) → s.batches ≡ bs → IsCore reading (record old { is_stopped = true }) (step s stop)
-        by [] f = absurd (stop_none s f e)
-        by (b ∷ bs) f = subst (λ t. IsCore reading (record old { is_stopped = true }) t) (sym (ap (λ q. cond q (happened s s.batches stop) s) e ∙ ap (λ xs. happened s xs stop) f)) (record {
-          hosts = i.hosts;
-          batches = i.batches;
-          index = i.index;
-          forks = i.forks;
-          handed = i.handed;
-          stopped = refl;
-        })
+  -- a Stop
+  going_stop : (bs : List program.Batch) → false ≡ is_over bs → (s : FlatState) → is_possible s bs stop ≡ true
+  going_stop [] e s = untrue e
+  going_stop (b ∷ bs) e s = refl
+
+  stopped_before : (q : Bool) → not q && true ≡ false → q ≡ true
+  stopped_before true e = refl
+  stopped_before false e = untrue (sym e)
+
+  pub stops_by : TellsEnd old false → Stops old (record old { is_stopped = true })
+  stops_by goes reading s i = (
+    λ e. by e s.batches refl,
+    λ e.
+        let before : s.is_stopped ≡ true = stopped_before s.is_stopped (ap (λ q. not s.is_stopped && q) (sym (going_stop s.batches (goes reading s i) s)) ∙ e) in
+        ap (λ q. record old { is_stopped = q }) (sym before ∙ i.stopped),
+  ) where
+    by : enabled s stop ≡ true → (bs : List program.Batch) → s.batches ≡ bs → IsCore reading (record old { is_stopped = true }) (step s stop)
+    by e [] f = absurd (stop_none s f e)
+    by e (b ∷ bs) f = subst (λ t. IsCore reading (record old { is_stopped = true }) t) (sym (ap (λ q. cond q (happened s s.batches stop) s) e ∙ ap (λ xs. happened s xs stop) f)) (record {
+      hosts = i.hosts;
+      batches = i.batches;
+      index = i.index;
+      forks = i.forks;
+      handed = i.handed;
+      stopped = refl;
+    })
+
+  pub stays_ended : TellsEnd old true → Stops old old
+  stays_ended ends reading s i = (λ e. absurd (stop_none s (over_none old s.batches (ends reading s i)) e), λ e. refl)
 
 -- hosts before their first play
 open_idle : (ss : List flat.Step) (hs : List HostVariables) → running_in (activities ss (opening_hosts hs)) ≡ 0

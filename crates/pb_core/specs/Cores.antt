@@ -1,6 +1,6 @@
 -- The core of a run, as a state of pb_machine's machine.
-use Rattle.std.specs.Prelude.{◌≡◌, ℕ, ◌-◌, List, [], ◌∷◌, Option, Some, None, drop, length}
-use Rattle.std.specs.Prelude.{cond, map, slice_get}
+use Rattle.std.specs.Prelude.{◌≡◌, ◌≤◌, ◌⊎◌, ℕ, suc, ◌+◌, ◌-◌, ◌^◌, List, [], ◌∷◌, Option, Some}
+use Rattle.std.specs.Prelude.{None, drop, length, cond, map, slice_get}
 use Rattle.pb_language.specs.Expression.{Name}
 use Rattle.pb_language.specs.Notify.{HandlerNames, all_notified, handlers_are}
 use Rattle.pb_language.specs.Task.{Row, Task}
@@ -120,6 +120,12 @@ module _ {P : Type 0} where
   -- the attempts and the calls of a host's job that is out
   abbrev pub job_at : RunCore P → ℕ → Option (ℕ × ℕ)
   job_at c k = job_in (slice_get c.hosts.items k)
+
+  -- a job of the host is out, and with its calls made again its attempts or the calls of the run
+  -- are more than a count has room for
+  abbrev pub IsAgainPast : ℕ → RunCore P → Type 0
+  IsAgainPast k c = (j : ℕ × ℕ) × (job_at c k ≡ Some j)
+      × ((2 ^ 64 ≤ suc j.0) ⊎ (2 ^ 64 ≤ c.handed + j.1))
 
   -- the tickets of the jobs that are out, host by host
   abbrev pub tickets_of : RunCore P → List (Option ℕ)

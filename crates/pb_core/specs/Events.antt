@@ -135,7 +135,8 @@ module _ {P : Type 0} where
       → AreBatches reading.name plays batches (all_batches program)
       → IsCore reading c (flat.opening program inventory forks)
 
-  -- a Stop
+  -- a Stop where one may happen, and else nothing
   abbrev pub Stops : RunCore P → RunCore P → Type 0
   Stops old new = (reading : Reading P) (s : FlatState) → IsCore reading old s
-      → flat.enabled s stop ≡ true → IsCore reading new (flat.step s stop)
+      → (flat.enabled s stop ≡ true → IsCore reading new (flat.step s stop))
+      × (flat.enabled s stop ≡ false → new ≡ old)

@@ -1,9 +1,9 @@
 // The events of a run on its core: Starts, Gives and a Stop.
-ghost use Rattle.std.specs.Prelude.{◌+◌, ◌<◌, ◌≡◌, ◌≤◌, ◌^◌, All, IfErr, IfOk, IfSome, List, None};
+ghost use Rattle.std.specs.Prelude.{◌+◌, ◌<◌, ◌≡◌, ◌≤◌, ◌^◌, All, IfErr, IfOk, List, None};
 ghost use Rattle.std.specs.Prelude.{OnErr, OnOk, Some, slice_set, suc};
 ghost use Rattle.pb_language.specs.Give.{Answer};
 ghost use Rattle.pb_language.specs.Machine.{give, start};
-ghost use Rattle.pb_core.specs.Cores.{GoesFrom, HasGoneFrom, counts_at, job_at, tickets_of};
+ghost use Rattle.pb_core.specs.Cores.{GoesFrom, HasGoneFrom, IsAgainPast, counts_at, tickets_of};
 ghost use Rattle.pb_core.specs.Events.{Begins, HasNoJob, IsDisabled, Leaves, Repeats, Settles};
 ghost use Rattle.pb_core.specs.Events.{Stops};
 
@@ -75,8 +75,8 @@ impl<P: Drop> RunCore<P> {
     ///
     /// # Errors
     ///
-    /// `NotThere` where no job of the host is out; `Full` where a count would be past its type.
-    /// Nothing has changed then.
+    /// `NotThere` where no job of the host is out; `Full` where one is and a count would be past its
+    /// type. Nothing has changed then.
     pub fn again(&mut self, host: usize, ticket: usize) -> Result<(), CoreFault>
         ensures repeats { OnOk result (Repeats host self.old self.new) }
         ensures tickets { OnOk result
@@ -84,9 +84,7 @@ impl<P: Drop> RunCore<P> {
         ensures err { OnErr result (self.new ≡ self.old) }
         ensures there { IfErr result (λ e. e ≡ CoreFault.NotThere
             → (xs : List Answer) → IsDisabled (give host xs) self.old) }
-        ensures full { IfErr result (λ e. e ≡ CoreFault.Full
-            → IfSome (job_at self.old host)
-            (λ j. suc j.0 < 2 ^ 64 → self.old.handed + j.1 < 2 ^ 64 → ⊥)) }
+        ensures full { IfErr result (λ e. e ≡ CoreFault.Full → IsAgainPast host self.old) }
     {
         if host >= self.hosts.len() {
             return Err(CoreFault::NotThere);
@@ -176,11 +174,14 @@ impl<P: Drop> RunCore<P> {
         Ok(())
     }
 
-    /// Nothing is to happen any more.
+    /// Nothing is to happen any more; nothing changes where the run was stopped or has ended.
     pub fn stop(&mut self)
         ensures stops { Stops self.old self.new }
         ensures tickets { tickets_of self.new ≡ tickets_of self.old }
     {
+        if self.has_ended() {
+            return;
+        }
         self.is_stopped = true;
     }
 }

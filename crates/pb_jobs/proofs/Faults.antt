@@ -1,8 +1,7 @@
 -- What the faults of a scene and of a core say of the machine of a run.
-use Rattle.std.proofs.Common.{◌≡◌, ◌<◌, ◌≤◌, ◌^◌, ℕ, suc, ◌+◌, List, [], Vec, length, Bool, false, true, not, ◌&&◌, nat_lt, Option, Some, None, IfSome, String, is_some, get_or, slice_get, refl, sym, ap, ap₂, subst, ◌∙◌, arith}
+use Rattle.std.proofs.Common.{◌≡◌, ◌<◌, ◌≤◌, ◌^◌, ℕ, suc, ◌+◌, List, [], Vec, length, Bool, false, true, not, ◌&&◌, Option, Some, None, IfSome, String, is_some, unwrap_or, get_or, slice_get, ⊎_elim, refl, sym, ap, ap₂, subst, ◌∙◌, arith}
 use Rattle.std.specs.List.{All}
 use Rattle.std.specs.declared.alloc.Global.{Global}
-use Rattle.std.proofs.lemmas.Bool.{ltb-false, ltb-true}
 use Rattle.std.proofs.lemmas.List.{length-map}
 use Rattle.std.proofs.lemmas.Option.{slice_get_within}
 use Rattle.pb_semantics.proofs.Bools.{untrue}
@@ -20,7 +19,7 @@ use Rattle.pb_value.specs.View.{fields_view}
 use Rattle.pb_value.specs.declared.value.Value.{Value}
 use Rattle.pb_world.specs.Writes.{have_slots}
 use Rattle.pb_start.specs.declared.passes.Pass.{Pass}
-use Rattle.pb_core.specs.Cores.{counts_at, job_at, job_in, size_of}
+use Rattle.pb_core.specs.Cores.{IsAgainPast, counts_at, job_at, job_in, size_of}
 use Rattle.pb_core.specs.Events.{HasNoJob, IsDisabled}
 use Rattle.pb_core.specs.Hosts.{IsStage, job_of}
 use Rattle.pb_core.specs.Readings.{Reading}
@@ -194,31 +193,30 @@ module _ (m : Machine) (b : ActiveBatch) (c : RunScene) (known : m.batch ≡ Som
       let many : length cs ≡ call_count w.passes = sym (length-map cs call_data) ∙ ap length is ∙ calls_many k w.host.name (action_name (step_in w).task.action) w.passes (handed_at c k) in
       raised (get_or m.calls.items k 0) (get_or m.calls.items k 0) s.handed (length cs) (call_count w.passes) refl room.calls many more
 
-not_less : (a b : ℕ) → (a < b → ⊥) → b ≤ a
-not_less a b none = by (nat_lt a b) refl where
-  by : (q : Bool) → nat_lt a b ≡ q → b ≤ a
-  by true e = absurd (none (ltb-true a b e))
-  by false e = ltb-false a b e
-
 -- by the core
-pub core_again : (m : Machine) (k : ℕ) → IfSome (job_at m.core k) (λ j. suc j.0 < 2 ^ 64 → m.core.handed + j.1 < 2 ^ 64 → ⊥) → AgainPast k m
-core_again m k full = λ reading s machine w room. by reading s machine w (slice_get m.core.hosts.items k) refl (room.attempts) where
-  job : (reading : Reading (Vec Pass Global)) (s : FlatState) → IsMachine m reading s → (w : Works s k) → (g : Stage (Vec Pass Global)) → IsStage reading g w.host.stage → IfSome (job_of g) (λ j. suc j.0 < 2 ^ 64) → IfSome (job_of g) (λ j. suc j.0 < 2 ^ 64 → m.core.handed + j.1 < 2 ^ 64 → ⊥)
-      → 2 ^ 64 ≤ s.handed + call_count w.passes
-  job reading s machine w Waits is room past = absurd (subst (λ f. IsStage reading Waits f) w.stage is)
-  job reading s machine w (Runs t a cs ps) is room past =
-      let here = subst (λ f. IsStage reading (Runs t a cs ps) f) w.stage is in
-      let more : 2 ^ 64 ≤ m.core.handed + cs = not_less (m.core.handed + cs) (2 ^ 64) (past room) in
-      level s.handed m.core.handed cs (call_count w.passes) machine.kept.core.handed here.2 more
+pub core_again : (m : Machine) (k : ℕ) → IsAgainPast k m.core → AgainPast k m
+core_again m k full = λ reading s machine w room. by reading s machine w (slice_get m.core.hosts.items k) refl (past s room) where
+  past : (s : FlatState) → HasRoom k m s → 2 ^ 64 ≤ m.core.handed + full.0.1
+  past s room =
+      let few : suc full.0.0 < 2 ^ 64 = subst (λ o. IfSome o (λ j. suc j.0 < 2 ^ 64)) full.1 room.attempts in
+      ⊎_elim (λ many. absurd (omega (arith, many, few))) (λ many. many) full.2
 
-  by : (reading : Reading (Vec Pass Global)) (s : FlatState) → IsMachine m reading s → (w : Works s k) → (o : Option (HostState (Vec Pass Global))) → slice_get m.core.hosts.items k ≡ o → IfSome (job_at m.core k) (λ j. suc j.0 < 2 ^ 64) → 2 ^ 64 ≤ s.handed + call_count w.passes
-  by reading s machine w None e room =
+  job : (reading : Reading (Vec Pass Global)) (s : FlatState) → IsMachine m reading s → (w : Works s k) → 2 ^ 64 ≤ m.core.handed + full.0.1 → (g : Stage (Vec Pass Global)) → IsStage reading g w.host.stage → job_of g ≡ Some full.0
+      → 2 ^ 64 ≤ s.handed + call_count w.passes
+  job reading s machine w many Waits is out = absurd (subst (λ f. IsStage reading Waits f) w.stage is)
+  job reading s machine w many (Runs t a cs ps) is out =
+      let here = subst (λ f. IsStage reading (Runs t a cs ps) f) w.stage is in
+      let same : full.0.1 ≡ cs = ap (λ (o : Option (ℕ × ℕ)). (unwrap_or o full.0).1) (sym out) in
+      level s.handed m.core.handed full.0.1 (call_count w.passes) machine.kept.core.handed (same ∙ here.2) many
+
+  by : (reading : Reading (Vec Pass Global)) (s : FlatState) → IsMachine m reading s → (w : Works s k) → (o : Option (HostState (Vec Pass Global))) → slice_get m.core.hosts.items k ≡ o → 2 ^ 64 ≤ m.core.handed + full.0.1 → 2 ^ 64 ≤ s.handed + call_count w.passes
+  by reading s machine w None e many =
       let none = host_missing reading (size_of s.batches) m.core.hosts.items s.hosts k machine.kept.core.hosts e in
       let no : None ≡ Some w.host = sym none ∙ w.there in
       absurd (cc)
-  by reading s machine w (Some x) e room =
+  by reading s machine w (Some x) e many =
       let host = host_is reading m.core s machine.kept.core k (at_work w) x e in
-      job reading s machine w x.stage host.stage (subst (λ (o : Option (HostState (Vec Pass Global))). IfSome (job_in o) (λ j. suc j.0 < 2 ^ 64)) e room) (subst (λ (o : Option (HostState (Vec Pass Global))). IfSome (job_in o) (λ j. suc j.0 < 2 ^ 64 → m.core.handed + j.1 < 2 ^ 64 → ⊥)) e full)
+      job reading s machine w many x.stage host.stage (ap job_in (sym e) ∙ full.1)
 
 -- ---- the task ends
 

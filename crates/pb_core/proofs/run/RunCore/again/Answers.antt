@@ -1,4 +1,5 @@
-use Rattle.std.proofs.Common.{◌<◌, ◌≤◌, length, refl, ap, sym, ◌∙◌, arith}
+use Rattle.std.proofs.Common.{◌<◌, ◌≤◌, length, inl, inr, refl, ap, sym, ◌∙◌, arith}
+use Rattle.pb_core.specs.Cores.{job_in}
 use Rattle.pb_core.specs.Hosts.{job_of}
 use Rattle.pb_core.proofs.Hosts.{there, past, same_item}
 use Rattle.pb_core.proofs.Cores.{tickets_again, repeats_by, cannot_give, missing_runs, no_job_runs}
@@ -28,3 +29,19 @@ returns-clause-tickets g c =
     let same = same_item c.args.self.now.hosts.items c.args.host c.index_mut.result.now c.index.result.now within c.index_mut.ensures.value c.index.ensures in
     tickets_again c.args.self.now.hosts.items c.args.host c.args.ticket c.in-Some-checked_add-2.times c.index_mut.result.now.stage (c.in-Some.attempts, c.in-Some.calls) _
     (ap (λ x. job_of x.stage) same ∙ sym c.in-Some.ensures) c.repeat.ensures
+
+pub returns-in_default-checked_add-clause-full : goal.returns-in_default-checked_add-clause-full
+returns-in_default-checked_add-clause-full g c = λ e.
+    let within : c.args.host < length c.args.self.now.hosts.items = omega (arith, c.if-host-len.false, c.args.self.now.hosts.ok) in (
+      (c.in-Some.attempts, c.in-Some.calls),
+      ap job_in (there c.args.self.now.hosts.items c.args.host c.index.result.now within c.index.ensures) ∙ sym c.in-Some.ensures,
+      inr (omega (arith, c.in_default-checked_add.ensures)),
+    )
+
+pub returns-in_default-checked_add-2-clause-full : goal.returns-in_default-checked_add-2-clause-full
+returns-in_default-checked_add-2-clause-full g c = λ e.
+    let within : c.args.host < length c.args.self.now.hosts.items = omega (arith, c.if-host-len.false, c.args.self.now.hosts.ok) in (
+      (c.in-Some.attempts, c.in-Some.calls),
+      ap job_in (there c.args.self.now.hosts.items c.args.host c.index.result.now within c.index.ensures) ∙ sym c.in-Some.ensures,
+      inl (omega (arith, c.in_default-checked_add-2.ensures)),
+    )

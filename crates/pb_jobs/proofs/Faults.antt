@@ -1,5 +1,5 @@
 -- What the faults of a scene and of a core say of the machine of a run.
-use Rattle.std.proofs.Common.{◌≡◌, ◌<◌, ◌≤◌, ◌^◌, ℕ, suc, ◌+◌, List, [], Vec, length, Bool, false, true, not, ◌&&◌, Option, Some, None, IfSome, String, is_some, unwrap_or, get_or, slice_get, ⊎_elim, refl, sym, ap, ap₂, subst, ◌∙◌, arith}
+use Rattle.std.proofs.Common.{◌≡◌, ◌<◌, ◌≤◌, ◌^◌, ℕ, suc, ◌+◌, List, [], Vec, length, false, true, not, ◌&&◌, Option, Some, None, IfSome, String, is_some, unwrap_or, get_or, slice_get, ⊎_elim, refl, sym, ap, ap₂, subst, ◌∙◌, arith}
 use Rattle.std.specs.List.{All}
 use Rattle.std.specs.declared.alloc.Global.{Global}
 use Rattle.std.proofs.lemmas.List.{length-map}

@@ -5,12 +5,13 @@ import tempfile
 
 sys.dont_write_bytecode = True
 
-from measure import at_most, in_rounds, line, ms, program_of, write
+from measure import at_most, can_count, in_rounds, instructions, line, ms, program_of, write
 
 TASKS = 500
 HANDLERS = 20
 HOSTS, GROUPS = 1_000, 20
 MOST_LINES, MOST_HOSTS = 4_096, 1_024
+CLASSES, PLAYS = 50, 60
 FEW_ROUNDS = 2  # of what takes seconds
 
 # Of a block's eight tasks four call a module; the rescue part is counted too.
@@ -66,12 +67,27 @@ def most_tasks():
     return lines // LINES_OF_A_BLOCK * TASKS_OF_A_BLOCK + lines % LINES_OF_A_BLOCK
 
 
-def inventory(hosts):
-    """Hosts in groups, each with a variable of its own beside those of all."""
+def inventory(hosts, classes=1):
+    """Hosts in groups, each with a variable beside those of all; so many classes of hosts can be told apart, by a variable
+    that no other class has."""
     names = [f"web{number:04}" for number in range(hosts)]
     groups = {f"zone{g:02}": {"hosts": names[g::GROUPS], "vars": {"zone": f"zone {g}"}} for g in range(GROUPS)}
+    if classes > 1:
+        roles = {f"role{r:04}": {"hosts": names[r::classes], "vars": {f"role_{r}": r}} for r in range(classes)}
+        groups |= roles
     groups = {name: group for name, group in groups.items() if group["hosts"]}
     return groups | {"all": {"vars": {"ready": True, "port": 8080}, "children": list(groups)}}
+
+
+def with_another(plays):
+    """With one text more that reads a variable of another host."""
+    (play,) = plays
+    return [play | {"tasks": play["tasks"] + [{"debug": {"msg": "{{ hostvars['web0000'].port }}"}}]}]
+
+
+def short_plays(plays):
+    """So many plays of one task."""
+    return [{"hosts": "all", "gather_facts": False, "tasks": [{"ping": None}]} for _ in range(plays)]
 
 
 def doubling(lines):
@@ -95,11 +111,19 @@ def nested(levels):
     return [{"hosts": "all", "gather_facts": False, "tasks": [step]}]
 
 
-def check(program, folder, name, tasks, hosts):
-    """The words of the check of such a book on so many hosts, and its verdict."""
-    path = write(folder, f"{name}.json", book(tasks))
-    listed = write(folder, f"{name}_hosts.json", inventory(hosts))
+def check(program, folder, name, tasks, hosts, classes=1, made=None):
+    """The words of the check of a book on so many hosts, and its verdict; the book is the one of blocks or the one given,
+    which calls as many modules."""
+    path = write(folder, f"{name}.json", made or book(tasks))
+    listed = write(folder, f"{name}_hosts.json", inventory(hosts, classes))
     return ([program, "check", path, "-i", listed], f"accepted budget {calls(tasks, hosts)}\n")
+
+
+def check_short(program, folder, name, hosts):
+    """The same of many plays of one task."""
+    path = write(folder, f"{name}.json", short_plays(PLAYS))
+    listed = write(folder, f"{name}_hosts.json", inventory(hosts))
+    return ([program, "check", path, "-i", listed], f"accepted budget {PLAYS * hosts}\n")
 
 
 def quick(program, folder):
@@ -115,7 +139,18 @@ def large(program, folder):
     return {
         "hosts": check(program, folder, "hosts", TASKS, HOSTS),
         "half": check(program, folder, "half_the_hosts", TASKS, HOSTS // 2),
+        "classes": check(program, folder, "classes", TASKS, HOSTS, CLASSES),
         "most": check(program, folder, "most", most_tasks(), MOST_HOSTS),
+        "plays": check_short(program, folder, "plays", MOST_HOSTS),
+        "half the plays": check_short(program, folder, "half_plays", MOST_HOSTS // 2),
+    }
+
+
+def apart(program, folder):
+    shared = with_another(book(most_tasks()))
+    return {
+        "apart": check(program, folder, "apart", most_tasks(), MOST_HOSTS, MOST_HOSTS),
+        "others": check(program, folder, "others", most_tasks(), MOST_HOSTS, 1, shared),
     }
 
 
@@ -151,10 +186,33 @@ def print_quick(found):
 
 
 def print_large(found):
-    within(f"{TASKS} tasks on {HOSTS:,} hosts", found["hosts"], 3, 500)
-    ratio = found["hosts"].seconds / found["half"].seconds
-    at_most("twice the hosts", ratio, 2.2, f"{ms(found['hosts'].seconds)} over {ms(found['half'].seconds)}")
-    within(f"{MOST_LINES:,} lines on {MOST_HOSTS:,} hosts", found["most"], 30, 2_048)
+    within(f"{TASKS} tasks on {HOSTS:,} hosts that look alike", found["hosts"], 0.1, 500)
+    print_twice("twice the hosts", found["hosts"], found["half"], 2.2)
+    within(f"the same in {CLASSES} classes", found["classes"], 0.3, 500)
+    within(f"{MOST_LINES:,} lines on {MOST_HOSTS:,} hosts that look alike", found["most"], 0.5, 500)
+    print_twice(f"{PLAYS} plays of one task, twice the hosts", found["plays"], found["half plays"], 2.1)
+
+
+def print_twice(name, whole, half, bar):
+    at_most(name, whole.seconds / half.seconds, bar, f"{ms(whole.seconds)} over {ms(half.seconds)}")
+
+
+def print_apart(found):
+    within(f"{MOST_LINES:,} lines on {MOST_HOSTS:,} hosts, each apart", found["apart"], 13, 150)
+    within("the same, alike, of which a text reads another", found["others"], 20, 2_048)
+
+
+def print_instructions(program, folder):
+    """Of checks on hosts of one class, and of several, beside that on one host."""
+    wanted = {
+        "one host": check(program, folder, "one", TASKS, 1),
+        f"{HOSTS:,} hosts that look alike": check(program, folder, "alike", TASKS, HOSTS),
+        f"the same in {CLASSES} classes": check(program, folder, "in_classes", TASKS, HOSTS, CLASSES),
+    }
+    figures = {name: instructions(*command) for name, command in wanted.items()}
+    one = figures.pop("one host")
+    for (name, figure), bar in zip(figures.items(), (10, 60)):
+        at_most(f"{TASKS} tasks on {name} over one host, in instructions", figure / one, bar, f"{figure:,} over {one:,}")
 
 
 def main():
@@ -162,6 +220,9 @@ def main():
     with tempfile.TemporaryDirectory() as folder:
         print_quick(in_rounds(quick(program, folder)))
         print_large(in_rounds(large(program, folder), FEW_ROUNDS))
+        print_apart(in_rounds(apart(program, folder), 1))
+        if can_count():
+            print_instructions(program, folder)
         for name, figures in in_rounds(hostile(program, folder), FEW_ROUNDS).items():
             within(name, figures, 2, 1_024)
 

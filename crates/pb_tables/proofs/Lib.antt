@@ -12,7 +12,10 @@ pub mod Joined
 pub mod Lasted
 pub mod OnlyRound
 pub mod LaterTables
+pub mod Playing
 pub mod Putting
 pub mod Rounded
 pub mod Settling
+pub mod Sharing
+pub mod Standing
 pub mod Viewed

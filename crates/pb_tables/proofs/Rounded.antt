@@ -1,5 +1,6 @@
 -- A round, host by host, and the verdict of its last.
 use Rattle.std.proofs.Common.{◌≡◌, ◌+◌, List, [], ◌∷◌, ◌++◌, length, true, ◌&&◌, option_map, sym, ap, ap₂, subst, ◌∙◌, BTreeMap, String, Global}
+use Rattle.std.specs.declared.sync.Arc.{Arc}
 use Rattle.std.proofs.lemmas.List.{length-map, map-append}
 use Rattle.pb_semantics.specs.Data.{no_fields}
 use Rattle.pb_semantics.specs.Kind.{Slots}
@@ -33,8 +34,8 @@ use Rattle.pb_tables.proofs.Chained.{round_verdict}
 use Rattle.pb_tables.proofs.Joined.{agreeing_joined, budget_joined, named_apart, offence_joined, settled_joined, walked_joined}
 use Rattle.pb_tables.proofs.Viewed.{next_agree, next_joined, seen_all}
 
-abbrev Table : Type 0
-Table = BTreeMap (String Global) (Slot Kind)
+abbrev pub Table : Type 0
+Table = Arc (BTreeMap (String Global) (Slot Kind)) Global
 
 module _ (i : Inventory) (ps : Program) (vs : List View) (ls : List (List Later)) where
   -- no host yet
@@ -52,7 +53,7 @@ module _ (i : Inventory) (ps : Program) (vs : List View) (ls : List (List Later)
   -- one host more
   module _ (xs : List HostVariables) (x : HostVariables) (f : HostFound) (s t : SoFar) (before : AreFound i ps vs ls xs s) (here : HostFinds i ps vs ls x f) where
     module _ (fault : option_map host_offence t.fault ≡ earlier (option_map host_offence s.fault) (offence_of x.name f.find.fault)) (settled : t.is_settled ≡ s.is_settled && f.find.is_settled)
-        (same : t.is_same ≡ s.is_same && f.find.is_same) (calls : t.calls ≡ s.calls + f.calls) (next : t.next.items ≡ s.next.items ++ f.find.next ∷ []) where
+        (same : t.is_same ≡ s.is_same && f.find.is_same) (calls : t.calls ≡ s.calls + f.calls) (next : slots_of_each t.next.items ≡ slots_of_each s.next.items ++ slots_view f.find.next.entries ∷ []) where
       abbrev w : HostWalk
       w = here.walk
 
@@ -71,19 +72,16 @@ module _ (i : Inventory) (ps : Program) (vs : List View) (ls : List (List Later)
           settled ∙ ap (λ q. q && f.find.is_settled) before.settled ∙ ap (λ q. are_settled before.walks vs && q) (here.settled ∙ ap (λ n. plays_below w.plays (view_of n vs)) named)
           ∙ sym (settled_joined before.walks w vs)
 
-      slots_more : slots_of_each t.next.items ≡ slots_of_each s.next.items ++ slots_view f.find.next.entries ∷ []
-      slots_more = ap slots_of_each next ∙ map-append (λ (m : Table). slots_view m.entries) s.next.items (f.find.next ∷ [])
-
       same_more : t.is_same ≡ true → slots_of_each t.next.items ≡ seen_of vs (xs ++ x ∷ [])
       same_more e =
           let both : s.is_same && f.find.is_same ≡ true = sym same ∙ e in
-          slots_more
+          next
           ∙ ap₂ (λ (us : List Slots) (u : Slots). us ++ u ∷ []) (before.same (and-left s.is_same f.find.is_same both)) (here.same (and-right s.is_same f.find.is_same both))
           ∙ sym (map-append (λ (y : HostVariables). view_of y.name vs) xs (x ∷ []))
 
       next_more : EachNext vs (xs ++ x ∷ []) (slots_of_each t.next.items) (before.walks ++ w ∷ [])
       next_more =
-          subst (λ (us : List Slots). EachNext vs (xs ++ x ∷ []) us (before.walks ++ w ∷ [])) (sym slots_more)
+          subst (λ (us : List Slots). EachNext vs (xs ++ x ∷ []) us (before.walks ++ w ∷ [])) (sym next)
           (next_joined vs xs (slots_of_each s.next.items) before.walks x (slots_view f.find.next.entries) w before.next named
           (subst (λ n. SlotsAgree (slots_view f.find.next.entries) (with_plays w.plays (view_of n vs))) named here.next))
 
@@ -98,6 +96,10 @@ module _ (i : Inventory) (ps : Program) (vs : List View) (ls : List (List Later)
         calls = calls ∙ ap₂ (λ a b. a + b) before.calls here.calls ∙ sym (budget_joined before.walks w);
         next = next_more;
       }
+
+-- what the others see of one host more
+pub slots_pushed : (ms us : List Table) (m : Table) (ss : Slots) → us ≡ ms ++ m ∷ [] → slots_view m.value.entries ≡ ss → slots_of_each us ≡ slots_of_each ms ++ ss ∷ []
+slots_pushed ms us m ss more same = ap slots_of_each more ∙ map-append (λ (x : Table). slots_view x.value.entries) ms (m ∷ []) ∙ ap (λ t. slots_of_each ms ++ t ∷ []) same
 
 -- the verdict of a round under the fourth table
 pub round_outcome : (i : Inventory) (ps : Program) (vs : List View) (ls : List (List Later)) (r : Round) → IsRound i ps vs ls r → AlwaysNamesHandlers i ps → ViewsAgree vs (views_after 4 i ps (found_laters ps i))
@@ -117,7 +119,7 @@ module _ (j : inventory.Inventory) (v : Views) (at : v.inventory.now ≡ j) wher
   same_views = ap (λ k. views_from (host_names (inventory_view k)) (slots_of_each v.hosts.items)) at
 
   same_size : length (slots_of_each v.hosts.items) ≡ length i.hosts
-  same_size = length-map v.hosts.items (λ m. slots_view m.entries) ∙ v.each ∙ ap (λ k. length (inventory_view k).hosts) at
+  same_size = length-map v.hosts.items (λ m. slots_view m.value.entries) ∙ v.each ∙ ap (λ k. length (inventory_view k).hosts) at
 
   -- each host's own is what others see
   seen_again : views_from (host_names i) (seen_of (views_view v) i.hosts) ≡ views_view v

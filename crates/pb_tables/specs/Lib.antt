@@ -1,6 +1,7 @@
 pub mod Scenes
 pub mod Tabled
 pub mod Found
+pub mod Ends
 pub mod Played
 pub mod Outcomes
 pub mod Listed

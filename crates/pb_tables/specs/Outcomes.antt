@@ -8,18 +8,23 @@ use Rattle.pb_language.specs.Verdict.{Refusal, Verdict, code_of, offence_verdict
 use Rattle.pb_language.specs.Verdict.{settled_verdict}
 use Rattle.pb_forms.specs.FitView.{fault_view}
 use Rattle.pb_walks.specs.Alone.{plays_read_others}
+use Rattle.pb_alike.specs.Named.{plays_read_name}
 use Rattle.pb_walks.specs.Notified.{HostsNameHandlers}
 use Rattle.pb_tables.specs.declared.outcome.HostFault.{HostFault}
 use Rattle.pb_tables.specs.declared.outcome.Outcome.{Outcome}
+use Rattle.pb_tables.specs.declared.outcome.Reads.{Reads}
+use Rattle.pb_tables.specs.declared.outcome.Reads.TheVariants.{Others, Own, Nameless}
 
 -- whatever hosts see of each other, each text that notifies names a handler
 abbrev pub AlwaysNamesHandlers : Inventory → Program → Type 0
 AlwaysNamesHandlers i ps =
     (views : List View) (ls : List (List Later)) → HostsNameHandlers (all_walked i ps views ls)
 
--- where it is said that no text reads another host or who is active, none of the plays' does
-abbrev pub MayBeAlone : Bool → Program → Type 0
-MayBeAlone reads_others ps = reads_others ≡ false → plays_read_others ps ≡ false
+-- no text of the plays reads what it is said that none does
+abbrev pub ReadsNoMore : Reads → Program → Type 0
+ReadsNoMore Others ps = Unit {0}
+ReadsNoMore Own ps = plays_read_others ps ≡ false
+ReadsNoMore Nameless ps = (plays_read_others ps ≡ false) × (plays_read_name ps ≡ false)
 
 abbrev pub host_offence : HostFault → Refusal
 host_offence f = record {

@@ -119,7 +119,7 @@ struct OnWay {
 }
 
 // What the inventory says of the variables of the host at that place.
-fn known_at<'t>(stage: &'t Stage<'_, '_>, host: usize) -> &'t Slots
+pub(crate) fn known_at<'t>(stage: &'t Stage<'_, '_>, host: usize) -> &'t Slots
     requires stage { IsStage stage.now }
     requires host { host < length (inventory_view stage.now.inventory.now).hosts }
     ensures known { option_map (λ h. known_slots h.variables)

@@ -1,5 +1,5 @@
 // What the ways of all hosts come to: the first fault, whether the kinds settle, and the budget.
-ghost use Rattle.std.specs.Prelude.{◌≡◌, All, IfOk, false, option_map};
+ghost use Rattle.std.specs.Prelude.{[], ◌≡◌, All, IfOk, false, option_map};
 ghost use Rattle.pb_language.specs.Program.{Program};
 ghost use Rattle.pb_language.specs.Verdict.{flow_verdict, found_laters, offence_verdict};
 ghost use Rattle.pb_language.specs.Verdict.{settled_verdict};
@@ -8,16 +8,19 @@ ghost use Rattle.pb_inventory.specs.Words.{inventory_view};
 ghost use Rattle.pb_lattice.specs.Words.{IsAscending, names_of};
 ghost use Rattle.pb_walks.specs.Words.{ViewsAgree, plays_read_others};
 ghost use Rattle.pb_hosts.specs.Words.{views_view};
-ghost use Rattle.pb_tables.specs.Outcomes.{AlwaysNamesHandlers, MayBeAlone, host_offence};
+ghost use Rattle.pb_tables.specs.Ends.{AreShared};
+ghost use Rattle.pb_tables.specs.Outcomes.{AlwaysNamesHandlers, ReadsNoMore, host_offence};
 ghost use Rattle.pb_tables.specs.Outcomes.{outcome_verdict};
 ghost use Rattle.pb_tables.specs.Rounds.{AreAfter};
 ghost use Rattle.pb_tables.specs.Scenes.{AreScenes};
 ghost use Rattle.pb_tables.specs.Tabled.{AreTables, IsStage};
 
 use crate::laters::laters_of;
+use crate::looks::firsts_of;
 use crate::round::{Round, round_of};
 use crate::scene::Scene;
 use crate::table::{Stage, Tables};
+use pb_alike::{alike_walks_give_the_same, hosts_walk_alike};
 use pb_find::FaultAt;
 use pb_hosts::{Views, groups_kind};
 use pb_inventory::Inventory;
@@ -49,9 +52,21 @@ pub struct Outcome<'i> {
     pub views: Views<'i>,
 }
 
+/// What the texts of plays read of hosts.
+#[derive(Clone, Copy, PartialEq, Eq, Debug)]
+pub enum Reads {
+    /// Perhaps other hosts, or who is active.
+    Others,
+    /// No other host and not who is active.
+    Own,
+    /// Nor the name of their own host.
+    Nameless,
+}
+
 /// What the ways of all hosts through all plays come to, in four rounds of the kinds that hosts see
 /// of each other, or until a round changes nothing; in one alone where it is said that no text
-/// reads another host or who is active. The names are those of all variables.
+/// reads another host or who is active, which follows one of the hosts that look alike where it is
+/// said that none reads the host's name. The names are those of all variables.
 ///
 /// # Errors
 ///
@@ -61,20 +76,22 @@ pub fn outcome_of<'i>(
     inventory: &'i Inventory,
     scenes: &[Scene<'i>],
     names: Vec<String>,
-    reads_others: bool,
+    reads: Reads,
 ) -> Result<Outcome<'i>, AllocError>
     requires ascending { IsAscending (names_of names.items) }
     requires scenes { All (λ s. s.cast.inventory.now ≡ inventory.now) scenes.now }
     ensures inventory { IfOk result (λ o. o.views.inventory ≡ inventory.entry) }
     ensures verdict { IfOk result (λ o. (ps : Program)
         → AreScenes inventory.entry.now ps scenes.now
-        → AlwaysNamesHandlers (inventory_view inventory.entry.now) ps → MayBeAlone reads_others ps
+        → AlwaysNamesHandlers (inventory_view inventory.entry.now) ps → ReadsNoMore reads ps
         → outcome_verdict o ≡ flow_verdict ps (inventory_view inventory.entry.now)) }
     ensures views { IfOk result (λ o. (ps : Program)
-        → AreScenes inventory.entry.now ps scenes.now → MayBeAlone reads_others ps
+        → AreScenes inventory.entry.now ps scenes.now → ReadsNoMore reads ps
         → ViewsAgree (views_view o.views) (views_after 4 (inventory_view inventory.entry.now) ps
         (found_laters ps (inventory_view inventory.entry.now)))) }
 {
+    hosts_walk_alike();
+    alike_walks_give_the_same();
     let groups = groups_kind(alloc, inventory)?;
     let known = Views::of(alloc, inventory)?;
     let space = Environments::new(alloc, copies(alloc, &names)?)?;
@@ -86,11 +103,17 @@ pub fn outcome_of<'i>(
         names: &names,
     };
     let views = known.copy(alloc)?;
-    if !reads_others {
-        return only_round(alloc, &stage, views, space);
+    match reads {
+        Reads::Others => {
+            let (laters, space) = laters_of(alloc, &stage, space)?;
+            last_round(alloc, &stage, Tables { views, laters }, space)
+        }
+        Reads::Own => only_round(alloc, &stage, views, &[], space),
+        Reads::Nameless => {
+            let firsts = firsts_of(alloc, &stage)?;
+            only_round(alloc, &stage, views, &firsts, space)
+        }
     }
-    let (laters, space) = laters_of(alloc, &stage, space)?;
-    last_round(alloc, &stage, Tables { views, laters }, space)
 }
 
 // What the round comes to that changes nothing, or the one after the last.
@@ -120,23 +143,25 @@ fn last_round<'i>(
     let mut tables = tables;
     let mut space = space;
     for _round in 0..ROUNDS {
-        let (round, emptied) = round_of(alloc, stage, &tables, space)?;
+        let (round, emptied) = round_of(alloc, stage, &tables, &[], space)?;
         if round.is_same {
             return Ok(outcome_in(round, tables));
         }
         space = emptied;
         tables = tables_after(round, tables);
     }
-    let (round, _) = round_of(alloc, stage, &tables, space)?;
+    let (round, _) = round_of(alloc, stage, &tables, &[], space)?;
     Ok(outcome_in(round, tables))
 }
 
 // What one round comes to, from what the inventory says: where no text reads another host, no
-// round after it finds anything else, and each write is below what others see then.
+// round after it finds anything else, and each write is below what others see then. A host isn't
+// followed where an earlier one stands for it.
 fn only_round<'i>(
     alloc: Global,
     stage: &Stage<'i, '_>,
     views: Views<'i>,
+    firsts: &[usize],
     space: Environments,
 ) -> Result<Outcome<'i>, AllocError>
     requires stage { IsStage stage.now }
@@ -149,17 +174,22 @@ fn only_round<'i>(
         → AreScenes stage.now.inventory.now ps stage.now.scenes.now
         → AlwaysNamesHandlers (inventory_view stage.now.inventory.now) ps
         → plays_read_others ps ≡ false
+        → AreShared (inventory_view stage.now.inventory.now) ps (views_view views.entry) []
+        firsts.now
         → outcome_verdict o ≡ flow_verdict ps (inventory_view stage.now.inventory.now)) }
     ensures views { IfOk result (λ o. (ps : Program)
         → AreScenes stage.now.inventory.now ps stage.now.scenes.now
-        → plays_read_others ps ≡ false → ViewsAgree (views_view o.views) (views_after 4
+        → plays_read_others ps ≡ false
+        → AreShared (inventory_view stage.now.inventory.now) ps (views_view views.entry) []
+        firsts.now
+        → ViewsAgree (views_view o.views) (views_after 4
         (inventory_view stage.now.inventory.now) ps
         (found_laters ps (inventory_view stage.now.inventory.now)))) }
 {
     one_round_is_enough();
     let laters = Vec::new(alloc);
     let tables = Tables { views, laters };
-    let (round, _) = round_of(alloc, stage, &tables, space)?;
+    let (round, _) = round_of(alloc, stage, &tables, firsts, space)?;
     Ok(Outcome {
         fault: round.fault,
         is_settled: true,

@@ -4,7 +4,7 @@ ghost use Rattle.std.specs.Prelude.{option_map, slice_get};
 ghost use Rattle.pb_semantics.specs.Words.{recs};
 ghost use Rattle.pb_semantics.specs.Well.{Well};
 ghost use Rattle.pb_language.specs.Program.{Program};
-ghost use Rattle.pb_language.specs.Scope.{Later};
+ghost use Rattle.pb_language.specs.Scope.{Later, View};
 ghost use Rattle.pb_language.specs.Verdict.{earlier};
 ghost use Rattle.pb_language.specs.World.{HostVariables};
 ghost use Rattle.pb_kind.specs.Words.{slots_view};
@@ -13,12 +13,15 @@ ghost use Rattle.pb_inventory.specs.Words.{inventory_view};
 ghost use Rattle.pb_hosts.specs.Words.{views_view};
 ghost use Rattle.pb_hosts.specs.declared.views.Views.{Views};
 ghost use Rattle.pb_find.specs.Words.{offence_of};
+ghost use Rattle.pb_tables.specs.Ends.{AreEnds, AreShared, found_in};
+ghost use Rattle.pb_tables.specs.Found.{HostFinds};
 ghost use Rattle.pb_tables.specs.Outcomes.{host_offence, stands_by};
 ghost use Rattle.pb_tables.specs.Rounds.{AreFound, IsRound};
 ghost use Rattle.pb_tables.specs.Scenes.{AreScenes};
 ghost use Rattle.pb_tables.specs.Tabled.{AreTables, IsStage, laters_in};
 
-use crate::host::{HostFound, host_found};
+use crate::end::HostEnd;
+use crate::ends::ends_of;
 use crate::outcome::HostFault;
 use crate::table::{Stage, Tables};
 use pb_find::FaultAt;
@@ -27,6 +30,7 @@ use pb_inventory::Inventory;
 use pb_kind::Slots;
 use pb_lattice::Environments;
 use std::alloc::{AllocError, Global};
+use std::sync::Arc;
 
 /// What the ways of all hosts come to in a round.
 #[derive(Drop)]
@@ -50,18 +54,20 @@ pub struct SoFar {
     pub is_settled: bool,
     pub is_same: bool,
     pub calls: u64,
-    pub next: Vec<Slots>,
+    pub next: Vec<Arc<Slots>>,
 }
 
-/// What the ways of all hosts come to. The environments are made anew for each host.
+/// What the ways of all hosts come to. A host isn't followed where an earlier one stands for it,
+/// whose place is the one at its own among `firsts`.
 ///
 /// # Errors
 ///
-/// Want of memory, as of `host_found`, also where a `u64` doesn't hold the number of calls.
+/// Want of memory, as of `ends_of`, also where a `u64` doesn't hold the number of calls.
 pub fn round_of<'i>(
     alloc: Global,
     stage: &Stage<'i, '_>,
     tables: &Tables<'i>,
+    firsts: &[usize],
     space: Environments,
 ) -> Result<(Round<'i>, Environments), AllocError>
     requires stage { IsStage stage.now }
@@ -71,10 +77,27 @@ pub fn round_of<'i>(
     ensures inventory { IfOk result (λ r. r.0.next.inventory ≡ stage.now.inventory) }
     ensures round { IfOk result (λ r. (ps : Program)
         → AreScenes stage.now.inventory.now ps stage.now.scenes.now
+        → AreShared (inventory_view stage.now.inventory.now) ps (views_view tables.now.views)
+        (laters_in stage.now tables.now.laters.items) firsts.now
         → IsRound (inventory_view stage.now.inventory.now) ps (views_view tables.now.views)
         (laters_in stage.now tables.now.laters.items) r.0) }
 {
-    let mut space = space;
+    let (ends, space) = ends_of(alloc, stage, tables, firsts, space)?;
+    let found = all_taken(alloc, stage.inventory, &ends)?;
+    Ok((all_found(stage.inventory, found), space))
+}
+
+// What the ways of all hosts come to, one after the other.
+fn all_taken(alloc: Global, inventory: &Inventory, ends: &[HostEnd]) -> Result<SoFar, AllocError>
+    requires { length ends.now ≡ length (inventory_view inventory.now).hosts }
+    ensures each { IfOk result
+        (λ s. length s.next.items ≡ length (inventory_view inventory.now).hosts) }
+    ensures well { IfOk result
+        (λ s. All (λ m. Well (recs (slots_view m.value.entries))) s.next.items) }
+    ensures found { IfOk result (λ s. (ps : Program) (vs : List View) (ls : List (List Later))
+        → AreEnds (inventory_view inventory.now) ps vs ls ends.now
+        → AreFound (inventory_view inventory.now) ps vs ls (inventory_view inventory.now).hosts s) }
+{
     let mut found = SoFar {
         fault: None,
         is_settled: true,
@@ -82,47 +105,40 @@ pub fn round_of<'i>(
         calls: 0,
         next: Vec::new(alloc),
     };
-    for host in 0..stage.inventory.hosts() {
-        found = with_host(alloc, stage, tables, host, &mut space, found)?;
-        space = space.emptied(alloc)?;
+    for host in 0..inventory.hosts() {
+        found = with_host(alloc, inventory, host, &ends[host], found)?;
     }
-    Ok((all_found(stage.inventory, found), space))
+    Ok(found)
 }
 
 // With what the way of the host at that place comes to.
 fn with_host(
     alloc: Global,
-    stage: &Stage<'_, '_>,
-    tables: &Tables<'_>,
+    inventory: &Inventory,
     host: usize,
-    space: &mut Environments,
+    end: &HostEnd,
     before: SoFar,
 ) -> Result<SoFar, AllocError>
-    requires stage { IsStage stage.now }
-    requires tables { AreTables stage.now tables.now }
-    requires host { host < length (inventory_view stage.now.inventory.now).hosts }
-    requires names { space.old.names ≡ names_of stage.now.names.now }
-    requires well { All (λ m. Well (recs (slots_view m.entries))) before.next.items }
-    ensures names { space.new.names ≡ space.old.names }
+    requires host { host < length (inventory_view inventory.now).hosts }
+    requires well { All (λ m. Well (recs (slots_view m.value.entries))) before.next.items }
     ensures number { IfOk result (λ s. length s.next.items ≡ length before.next.items + 1) }
-    ensures well { IfOk result (λ s. All (λ m. Well (recs (slots_view m.entries))) s.next.items) }
-    ensures found { IfOk result (λ s. (ps : Program) (xs : List HostVariables) (x : HostVariables)
-        → AreScenes stage.now.inventory.now ps stage.now.scenes.now
-        → slice_get (inventory_view stage.now.inventory.now).hosts host ≡ Some x
-        → AreFound (inventory_view stage.now.inventory.now) ps (views_view tables.now.views)
-        (laters_in stage.now tables.now.laters.items) xs before
-        → AreFound (inventory_view stage.now.inventory.now) ps (views_view tables.now.views)
-        (laters_in stage.now tables.now.laters.items) (xs ++ x ∷ []) s) }
+    ensures well { IfOk result
+        (λ s. All (λ m. Well (recs (slots_view m.value.entries))) s.next.items) }
+    ensures found { IfOk result (λ s. (ps : Program) (vs : List View) (ls : List (List Later))
+        (xs : List HostVariables) (x : HostVariables)
+        → slice_get (inventory_view inventory.now).hosts host ≡ Some x
+        → HostFinds (inventory_view inventory.now) ps vs ls x (found_in end.now)
+        → AreFound (inventory_view inventory.now) ps vs ls xs before
+        → AreFound (inventory_view inventory.now) ps vs ls (xs ++ x ∷ []) s) }
 {
-    let HostFound { find, calls } = host_found(alloc, stage, tables, host, space)?;
-    let fault = first_of(alloc, stage.inventory, before.fault, host, find.fault)?;
-    let calls = sum(before.calls, calls)?;
+    let fault = first_of(alloc, inventory, before.fault, host, end.fault)?;
+    let calls = sum(before.calls, end.calls)?;
     let mut next = before.next;
-    next.push(find.next)?;
+    next.push(end.next.clone()?)?;
     Ok(SoFar {
         fault,
-        is_settled: before.is_settled && find.is_settled,
-        is_same: before.is_same && find.is_same,
+        is_settled: before.is_settled && end.is_settled,
+        is_same: before.is_same && end.is_same,
         calls,
         next,
     })
@@ -131,7 +147,7 @@ fn with_host(
 // What the ways of all hosts come to, once each was taken in.
 fn all_found<'i>(inventory: &'i Inventory, found: SoFar) -> Round<'i>
     requires each { length found.next.items ≡ length (inventory_view inventory.now).hosts }
-    requires well { All (λ m. Well (recs (slots_view m.entries))) found.next.items }
+    requires well { All (λ m. Well (recs (slots_view m.value.entries))) found.next.items }
     ensures inventory { result.next.inventory ≡ inventory.entry }
     ensures round { (ps : Program) (v : Views) (ls : List (List Later))
         → v.inventory.now ≡ inventory.entry.now

@@ -1,5 +1,6 @@
 use Rattle.std.proofs.Common.{◌≡◌, ◌∙◌, ◌≤◌, ap, arith}
 use Rattle.pb_tables.proofs.Settling.{after_all, after_round, after_same, same_tables, verdict_of_last, views_of_last}
+use Rattle.pb_tables.proofs.Standing.{none_shared}
 use Rattle.pb_tables.proofs.outcome.last_round.Goals as goal
 
 pub loop-round-preserved : goal.loop-round-preserved
@@ -13,7 +14,7 @@ loop-round-preserved c =
       names = c.in_ok-round.ensures.names ∙ l.invariant.names;
       inventory = kept;
       tables = same_tables stage l.tables after.result l.invariant.tables (ap (λ b. b.now) kept) after.ensures.laters;
-      all = λ ps scenes. after_round stage l.tables ps l._round r (l.invariant.all ps scenes) (c.in_ok-round.ensures.round ps scenes) after.result after.ensures.views after.ensures.laters;
+      all = λ ps scenes. after_round stage l.tables ps l._round r (l.invariant.all ps scenes) (c.in_ok-round.ensures.round ps scenes (none_shared _ ps _ _)) after.result after.ensures.views after.ensures.laters;
     }
 
 pub returns-then-round-clause-verdict : goal.returns-then-round-clause-verdict
@@ -24,7 +25,7 @@ returns-then-round-clause-verdict c =
     let few : l._round ≤ 4 = omega (arith, c.loop-round-test.true) in
     λ ps scenes always.
     let a = l.invariant.all ps scenes in
-    let is = c.in_ok-round.ensures.round ps scenes in
+    let is = c.in_ok-round.ensures.round ps scenes (none_shared _ ps _ _) in
     verdict_of_last stage l.tables ps l._round r a is (after_same stage l.tables ps l._round r a is c.if-round.true few) c.outcome_in.result always c.outcome_in.ensures.verdict
 
 pub returns-then-round-clause-views : goal.returns-then-round-clause-views
@@ -35,7 +36,7 @@ returns-then-round-clause-views c =
     let few : l._round ≤ 4 = omega (arith, c.loop-round-test.true) in
     λ ps scenes.
     let a = l.invariant.all ps scenes in
-    let is = c.in_ok-round.ensures.round ps scenes in
+    let is = c.in_ok-round.ensures.round ps scenes (none_shared _ ps _ _) in
     views_of_last stage l.tables ps l._round r a is (after_same stage l.tables ps l._round r a is c.if-round.true few) c.outcome_in.result c.outcome_in.ensures.views
 
 pub returns-clause-verdict : goal.returns-clause-verdict
@@ -46,7 +47,7 @@ returns-clause-verdict c =
     let all : l._round ≡ 4 = omega (arith, c.loop-round-test.false, l.auto._round-end) in
     λ ps scenes always.
     let a = l.invariant.all ps scenes in
-    let is = c.in_ok-round-2.ensures.round ps scenes in
+    let is = c.in_ok-round-2.ensures.round ps scenes (none_shared _ ps _ _) in
     verdict_of_last stage l.tables ps l._round r a is (after_all stage l.tables ps l._round r a is all) c.outcome_in-2.result always c.outcome_in-2.ensures.verdict
 
 pub returns-clause-views : goal.returns-clause-views
@@ -57,5 +58,5 @@ returns-clause-views c =
     let all : l._round ≡ 4 = omega (arith, c.loop-round-test.false, l.auto._round-end) in
     λ ps scenes.
     let a = l.invariant.all ps scenes in
-    let is = c.in_ok-round-2.ensures.round ps scenes in
+    let is = c.in_ok-round-2.ensures.round ps scenes (none_shared _ ps _ _) in
     views_of_last stage l.tables ps l._round r a is (after_all stage l.tables ps l._round r a is all) c.outcome_in-2.result c.outcome_in-2.ensures.views

@@ -1,6 +1,9 @@
+use Rattle.std.proofs.Common.{sym, subst}
 use Rattle.pb_inventory.specs.Inventory.{inventory_view}
 use Rattle.pb_hosts.specs.Shown.{views_view}
 use Rattle.pb_hosts.proofs.Distinct.{distinct_hosts}
+use Rattle.pb_tables.specs.Ends.{AreShared}
+use Rattle.pb_tables.specs.Tabled.{laters_in}
 use Rattle.pb_tables.proofs.OnlyRound.{only_verdict, only_views}
 use Rattle.pb_tables.proofs.outcome.only_round.Goals as goal
 
@@ -8,14 +11,14 @@ pub returns-clause-verdict : goal.returns-clause-verdict
 returns-clause-verdict c =
     let stage = c.args.stage.now in
     let i = stage.inventory.now in
-    λ ps scenes always alone.
+    λ ps scenes always alone shared.
     only_verdict c.one_round_is_enough.ensures (inventory_view i) ps (views_view c.args.views) _ c.in_ok-round.round c.requires.views (distinct_hosts i) alone
-    (c.in_ok-round.ensures.round ps scenes) always
+    (c.in_ok-round.ensures.round ps scenes (subst (λ os. AreShared (inventory_view i) ps (views_view c.args.views) (laters_in stage os) c.args.firsts.now) (sym c.new-laters.ensures.items) shared)) always
 
 pub returns-clause-views : goal.returns-clause-views
 returns-clause-views c =
     let stage = c.args.stage.now in
     let i = stage.inventory.now in
-    λ ps scenes alone.
+    λ ps scenes alone shared.
     only_views c.one_round_is_enough.ensures (inventory_view i) ps (views_view c.args.views) _ c.in_ok-round.round c.requires.views (distinct_hosts i) alone
-    (c.in_ok-round.ensures.round ps scenes)
+    (c.in_ok-round.ensures.round ps scenes (subst (λ os. AreShared (inventory_view i) ps (views_view c.args.views) (laters_in stage os) c.args.firsts.now) (sym c.new-laters.ensures.items) shared))

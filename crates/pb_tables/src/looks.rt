@@ -1,0 +1,163 @@
+// Which hosts look alike to plays whose texts read no other host and not the host's own name.
+ghost use Rattle.std.specs.Prelude.{◌≡◌, ◌<◌, IfOk, Some, length, slice_get, true};
+ghost use Rattle.pb_semantics.specs.Words.{is_among};
+ghost use Rattle.pb_language.specs.Program.{Play, Program};
+ghost use Rattle.pb_language.specs.World.{HostVariables};
+ghost use Rattle.pb_alike.specs.Words.{LookAlike, SamePlays};
+ghost use Rattle.pb_inventory.specs.Words.{inventory_view};
+ghost use Rattle.pb_tables.specs.Ends.{AreAlike};
+ghost use Rattle.pb_tables.specs.Scenes.{AreScenes, IsScene};
+ghost use Rattle.pb_tables.specs.Tabled.{IsStage};
+ghost use Rattle.pb_tables.specs.declared.scene.Scene.{Scene};
+
+use crate::host::known_at;
+use crate::table::Stage;
+use pb_kind::same::are_same_slots;
+use pb_kind::{Kind, Slots};
+use std::alloc::{AllocError, Global};
+use std::collections::BTreeMap;
+
+/// For each host, in host order, the place of the first host that is found to look like it, or its
+/// own. Hosts look alike of which the same is known, which are in equally many groups, and of which
+/// each play names both or neither.
+///
+/// # Errors
+///
+/// Want of memory.
+pub fn firsts_of(alloc: Global, stage: &Stage<'_, '_>) -> Result<Vec<usize>, AllocError>
+    requires { IsStage stage.now }
+    ensures { IfOk result (λ v. (ps : Program)
+        → AreScenes stage.now.inventory.now ps stage.now.scenes.now
+        → AreAlike (inventory_view stage.now.inventory.now) ps v.items) }
+{
+    let mut firsts = Vec::with_capacity(alloc, stage.inventory.hosts())?;
+    let mut looks: BTreeMap<String, usize> = BTreeMap::new(alloc);
+    for host in 0..stage.inventory.hosts() {
+        let look = look_of(alloc, stage, host)?;
+        let first = first_like(stage, looks.get(&look), host);
+        if first == host {
+            drop(looks.insert(look, host)?);
+        }
+        firsts.push(first)?;
+    }
+    Ok(firsts)
+}
+
+// The earlier host, where this one looks like it, or this one.
+fn first_like(stage: &Stage<'_, '_>, earlier: Option<&usize>, host: usize) -> usize
+    requires stage { IsStage stage.now }
+    requires host { host < length (inventory_view stage.now.inventory.now).hosts }
+    ensures { (ps : Program) (x y : HostVariables)
+        → AreScenes stage.now.inventory.now ps stage.now.scenes.now
+        → slice_get (inventory_view stage.now.inventory.now).hosts result ≡ Some x
+        → slice_get (inventory_view stage.now.inventory.now).hosts host ≡ Some y
+        → LookAlike (inventory_view stage.now.inventory.now) ps x y }
+{
+    match earlier {
+        Some(first) => {
+            if *first < host && look_alike(stage, *first, host) {
+                *first
+            } else {
+                host
+            }
+        }
+        None => host,
+    }
+}
+
+// Where it holds, the hosts at both places look alike.
+fn look_alike(stage: &Stage<'_, '_>, one: usize, other: usize) -> bool
+    requires stage { IsStage stage.now }
+    requires one { one < length (inventory_view stage.now.inventory.now).hosts }
+    requires other { other < length (inventory_view stage.now.inventory.now).hosts }
+    ensures { result ≡ true → (ps : Program) (x y : HostVariables)
+        → AreScenes stage.now.inventory.now ps stage.now.scenes.now
+        → slice_get (inventory_view stage.now.inventory.now).hosts one ≡ Some x
+        → slice_get (inventory_view stage.now.inventory.now).hosts other ≡ Some y
+        → LookAlike (inventory_view stage.now.inventory.now) ps x y }
+{
+    let inventory = stage.inventory;
+    inventory.group_names(one).len() == inventory.group_names(other).len()
+        && are_same_slots(known_at(stage, one), known_at(stage, other))
+        && are_in_same_plays(stage, one, other)
+}
+
+// Whether each play names both hosts or neither.
+fn are_in_same_plays(stage: &Stage<'_, '_>, one: usize, other: usize) -> bool
+    requires stage { IsStage stage.now }
+    requires one { one < length (inventory_view stage.now.inventory.now).hosts }
+    requires other { other < length (inventory_view stage.now.inventory.now).hosts }
+    ensures { result ≡ true → (ps : Program) (x y : HostVariables)
+        → AreScenes stage.now.inventory.now ps stage.now.scenes.now
+        → slice_get (inventory_view stage.now.inventory.now).hosts one ≡ Some x
+        → slice_get (inventory_view stage.now.inventory.now).hosts other ≡ Some y
+        → SamePlays ps x.name y.name }
+{
+    for play in 0..stage.scenes.len() {
+        if is_named(stage, play, one) != is_named(stage, play, other) {
+            return false;
+        }
+    }
+    true
+}
+
+// Whether the play of that number names the host at that place.
+fn is_named(stage: &Stage<'_, '_>, play: usize, host: usize) -> bool
+    requires stage { IsStage stage.now }
+    requires play { play < length stage.now.scenes.now }
+    requires host { host < length (inventory_view stage.now.inventory.now).hosts }
+    ensures { (s : Scene) (p : Play) (x : HostVariables)
+        → slice_get stage.now.scenes.now play ≡ Some s → IsScene stage.now.inventory.now p s
+        → slice_get (inventory_view stage.now.inventory.now).hosts host ≡ Some x
+        → is_among x.name p.hosts ≡ result }
+{
+    stage.scenes[play].cast.has(host)
+}
+
+// A text that differs for nearly all hosts that don't look alike: which plays name the host, in how
+// many groups it is, and what is known of it.
+fn look_of(alloc: Global, stage: &Stage<'_, '_>, host: usize) -> Result<String, AllocError>
+    requires stage { IsStage stage.now }
+    requires host { host < length (inventory_view stage.now.inventory.now).hosts }
+{
+    let mut look = stage.inventory.group_names(host).len().to_string(alloc)?;
+    for play in 0..stage.scenes.len() {
+        look.push(if is_named(stage, play, host) {
+            '+'
+        } else {
+            '-'
+        })?;
+    }
+    put_slots(alloc, &mut look, known_at(stage, host))?;
+    Ok(look)
+}
+
+// Puts the fields behind the text, each with its kind.
+#[cycle(look)]
+fn put_slots(alloc: Global, look: &mut String, slots: &Slots) -> Result<(), AllocError> {
+    look.push('{')?;
+    for (name, slot) in slots.iter() {
+        look.push_str(name.as_str())?;
+        look.push(' ')?;
+        put_kind(alloc, look, &slot.kind)?;
+    }
+    look.push('}')
+}
+
+#[cycle(look)]
+fn put_kind(alloc: Global, look: &mut String, kind: &Kind) -> Result<(), AllocError> {
+    match kind {
+        Kind::Never => look.push('n'),
+        Kind::Null => look.push('0'),
+        Kind::Bool => look.push('b'),
+        Kind::Int => look.push('i'),
+        Kind::Text | Kind::Host(_) => look.push('t'),
+        Kind::List(item, most) => {
+            look.push_str(most.to_string(alloc)?.as_str())?;
+            put_kind(alloc, look, item)
+        }
+        Kind::Rec(slots) => put_slots(alloc, look, slots),
+        Kind::Result(_, known) => put_kind(alloc, look, known),
+        Kind::Any => look.push('a'),
+    }
+}

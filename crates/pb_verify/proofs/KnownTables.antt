@@ -1,6 +1,7 @@
 -- What is kept of hosts' variables is what the verdict's table says of them.
 use Rattle.std.proofs.Common.{◌≡◌, ◌<◌, ℕ, Some, BTreeMap, String, Global, length, get_or, refl, sym, ap, subst, ◌∙◌, arith, true≢false}
 use Rattle.std.proofs.lemmas.List.{length-map}
+use Rattle.std.specs.declared.sync.Arc.{Arc}
 use Rattle.pb_semantics.specs.Kind.{Spot, nowhere, spot, slot_at}
 use Rattle.pb_language.specs.Expression.{Name}
 use Rattle.pb_language.specs.Ordered.{SpotLe}
@@ -24,7 +25,7 @@ none_there : (t : Spot) → SpotLe nowhere t → SpotLe t nowhere → t ≡ nowh
 none_there nowhere low high = refl
 none_there (spot b m) low high = absurd (true≢false (sym high))
 
-module _ (a : Accepted) (table : HasTable a) (p : ℕ) (n : Name) (m : BTreeMap (String Global) (Slot Kind)) (lt : p < length (inventory_view a.inventory).hosts) (at : m ≡ get_or a.views.items p m) where
+module _ (a : Accepted) (table : HasTable a) (p : ℕ) (n : Name) (m : Arc (BTreeMap (String Global) (Slot Kind)) Global) (lt : p < length (inventory_view a.inventory).hosts) (at : m ≡ get_or a.views.items p m) where
   abbrev name_at : Name
   name_at = name_of (host_names (inventory_view a.inventory)) p
 
@@ -32,15 +33,15 @@ module _ (a : Accepted) (table : HasTable a) (p : ℕ) (n : Name) (m : BTreeMap 
   known_by_name : known_spot a p n ≡ slot_at n (view_of name_at (table_of a))
   known_by_name = ap (λ o. slot_at n (view_at o (table_of a))) (host_there (λ h. h) (inventory_view a.inventory).hosts p lt)
 
-  kept_by_name : slots_view m.entries ≡ view_of name_at (views_with a.inventory a.views.items)
+  kept_by_name : slots_view m.value.entries ≡ view_of name_at (views_with a.inventory a.views.items)
   kept_by_name =
       let size = length-map (inventory_view a.inventory).hosts (λ h. h.name) in
       view_read (host_names (inventory_view a.inventory)) a.views.items p name_at m (apart_hosts a.inventory) (table.each ∙ sym size) (omega (arith, size, lt)) refl at
 
-  pub known_below : SpotLe (slot_at n (slots_view m.entries)) (known_spot a p n)
+  pub known_below : SpotLe (slot_at n (slots_view m.value.entries)) (known_spot a p n)
   known_below = rw (kept_by_name, known_by_name) ((table.views.slots name_at).0.at n)
 
-  pub known_above : SpotLe (known_spot a p n) (slot_at n (slots_view m.entries))
+  pub known_above : SpotLe (known_spot a p n) (slot_at n (slots_view m.value.entries))
   known_above = rw (kept_by_name, known_by_name) ((table.views.slots name_at).1.at n)
 
 pub known_found : (k : Slot Kind) (s t : Spot) → spot (is_always k.presence) (kind_view k.kind) ≡ s → SpotLe s t → SpotLe t s → IsKnownAs (Some k.kind) t

@@ -3,6 +3,7 @@ use Rattle.std.specs.Prelude.{◌≡◌, ℕ, List, true, Option, None, Some, le
 use Rattle.std.specs.Prelude.{String}
 use Rattle.std.specs.BTreeMap.{BTreeMap}
 use Rattle.std.specs.declared.alloc.Global.{Global}
+use Rattle.std.specs.declared.sync.Arc.{Arc}
 use Rattle.pb_semantics.specs.Below.{below}
 use Rattle.pb_semantics.specs.Kind.{Slots, Spot, nowhere, spot, slot_at, no_slots}
 use Rattle.pb_language.specs.Book.{Book, Registry}
@@ -33,7 +34,7 @@ table_of a = table_for (modules_of a.registry) (inventory_view a.inventory) (boo
 
 -- of each host's variables the slots say what the fourth table says
 pub record IsTable (ms : Registry) (i : inventory.Inventory) (b : Book)
-    (hosts : List (BTreeMap (String Global) (Slot Kind))) : Type 0 where
+    (hosts : List (Arc (BTreeMap (String Global) (Slot Kind)) Global)) : Type 0 where
   pub each : length hosts ≡ length (inventory_view i).hosts
   pub views : ViewsAgree (views_with i hosts) (table_for ms (inventory_view i) b)
 

@@ -5,6 +5,7 @@ use pb_kind::below::find;
 use pb_kind::{Kind, Slots};
 use pb_sig::Registry;
 use std::marker::Model;
+use std::sync::Arc;
 
 /// What was handed to the verifier, and what it found.
 #[derive(Drop)]
@@ -14,8 +15,8 @@ pub struct Accepted {
     pub registry: Registry,
     /// The most module calls that a run hands out.
     pub budget: u64,
-    /// What is known of each host's variables to others, in host order.
-    pub views: Vec<Slots>,
+    /// What is known of each host's variables to others, in host order; hosts may share it.
+    pub views: Vec<Arc<Slots>>,
 }
 
 /// A book that was accepted for an inventory. Contracts see what was accepted.

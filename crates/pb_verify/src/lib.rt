@@ -10,6 +10,7 @@
 
 pub mod checked;
 mod names;
+mod reads;
 pub mod refusal;
 pub mod scenes;
 pub mod verify;

@@ -20,6 +20,7 @@ ghost use Rattle.pb_language.specs.Words.{code_of as number_of};
 
 use crate::checked::{Accepted, Checked};
 use crate::names::names_of;
+use crate::reads::reads_of;
 use crate::refusal::{Code, Refusal};
 use crate::scenes::{gathering_tasks, scenes_of};
 use pb_book::Book;
@@ -27,11 +28,12 @@ use pb_expr::Unfit;
 use pb_inventory::Inventory;
 use pb_kind::Slots;
 use pb_play::Play;
-use pb_rules::{Broken, Rule, first_broken, reads_others};
+use pb_rules::{Broken, Rule, first_broken};
 use pb_sig::Registry;
 use pb_tables::{HostFault, Outcome, outcome_of};
-use pb_walks::{books_read_alone, handlers_are_named};
+use pb_walks::handlers_are_named;
 use std::alloc::{AllocError, Global};
+use std::sync::Arc;
 
 // The line of a refusal that stands at none.
 const NO_LINE: u32 = 0;
@@ -89,7 +91,7 @@ pub fn verify(
 pub struct Findings {
     budget: u64,
     /// What is known of each host's variables to others.
-    views: Vec<Slots>,
+    views: Vec<Arc<Slots>>,
 }
 
 // The budget of the plays, and what hosts' variables look like to others.
@@ -155,12 +157,11 @@ fn judge_ways(
         (map play_view plays.now) f.views.items) }
 {
     handlers_are_named();
-    books_read_alone();
     let gathering = gathering_tasks(alloc, registry, plays)?;
     let scenes = scenes_of(alloc, inventory, plays, gathering.as_slice())?;
     let names = names_of(alloc, inventory, plays)?;
-    let are_others_read = reads_others(alloc, plays)?;
-    let outcome = outcome_of(alloc, inventory, scenes.as_slice(), names, are_others_read)?;
+    let reads = reads_of(alloc, inventory, plays)?;
+    let outcome = outcome_of(alloc, inventory, scenes.as_slice(), names, reads)?;
     told(outcome)
 }
 

@@ -23,6 +23,5 @@ returns-clause-verdict c =
     let program = program_of ms (inventory_view i) (map play_view ps) in
     let gather = subst (AllGather ms ps) (sym c.as_slice.ensures.value) c.in_ok-gathering.ensures in
     let scenes = subst (AreScenes i program) (sym c.as_slice-2.ensures.value) (c.in_ok-scenes.ensures.scenes ms c.requires.sound gather) in
-    let verdict = c.in_ok-outcome.ensures.verdict program scenes (λ views ls. c.handlers_are_named.ensures.ruled ms (inventory_view i) (map play_view ps) views ls c.requires.ruled)
-    (λ alone. c.books_read_alone.ensures ms (inventory_view i) (map play_view ps) (sym c.in_ok-are_others_read.ensures ∙ alone)) in
+    let verdict = c.in_ok-outcome.ensures.verdict program scenes (λ views ls. c.handlers_are_named.ensures.ruled ms (inventory_view i) (map play_view ps) views ls c.requires.ruled) (c.in_ok-reads.ensures ms) in
     subst (λ (v : Verdict). Gives (λ (f : Findings). accepted f.budget) refused_verdict c.told.result v) verdict c.told.ensures.verdict

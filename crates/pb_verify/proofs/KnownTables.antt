@@ -1,20 +1,24 @@
 -- What is kept of hosts' variables is what the verdict's table says of them.
-use Rattle.std.proofs.Common.{◌≡◌, ◌<◌, ℕ, Some, BTreeMap, String, Global, length, get_or, refl, sym, ap, subst, ◌∙◌, arith, true≢false}
+use Rattle.std.proofs.Common.{◌≡◌, ◌<◌, ℕ, List, Result, Ok, Err, IfOk, Some, BTreeMap, String, Global, length, get_or, refl, sym, ap, subst, ◌∙◌, arith, true≢false}
 use Rattle.std.proofs.lemmas.List.{length-map}
 use Rattle.std.specs.declared.sync.Arc.{Arc}
 use Rattle.pb_semantics.specs.Kind.{Spot, nowhere, spot, slot_at}
 use Rattle.pb_language.specs.Expression.{Name}
 use Rattle.pb_language.specs.Ordered.{SpotLe}
-use Rattle.pb_language.specs.Scope.{view_of}
+use Rattle.pb_language.specs.Book.{Book, Registry}
+use Rattle.pb_language.specs.Scope.{View, view_of}
 use Rattle.pb_kind.specs.KindView.{is_always, kind_view, slots_view}
 use Rattle.pb_kind.specs.declared.kind.Kind.{Kind}
 use Rattle.pb_kind.specs.declared.kind.Slot.{Slot}
 use Rattle.pb_inventory.specs.Inventory.{inventory_view}
 use Rattle.pb_inventory.specs.Numbered.{name_of}
+use Rattle.pb_inventory.specs.declared.inventory.Inventory as inventory
+use Rattle.pb_walks.specs.Agree.{ViewsAgree}
 use Rattle.pb_hosts.specs.Tables.{host_names, views_with}
 use Rattle.pb_hosts.proofs.Places.{apart_hosts, host_there, view_read}
-use Rattle.pb_verify.specs.Known.{HasTable, IsKnownAs, known_spot, table_of, view_at}
+use Rattle.pb_verify.specs.Known.{HasTable, IsKnownAs, IsTable, known_spot, table_for, table_of, view_at}
 use Rattle.pb_verify.specs.declared.checked.Accepted.{Accepted}
+use Rattle.pb_verify.specs.declared.verify.Findings.{Findings}
 
 -- a slot that was found, beside what is below it and above it
 found_there : (k : Slot Kind) (t : Spot) → SpotLe (spot (is_always k.presence) (kind_view k.kind)) t → SpotLe t (spot (is_always k.presence) (kind_view k.kind)) → IsKnownAs (Some k.kind) t
@@ -49,3 +53,12 @@ known_found k s t f low high = found_there k t (subst (λ x. SpotLe x t) (sym f)
 
 pub known_nowhere : (s t : Spot) → nowhere ≡ s → SpotLe s t → SpotLe t s → t ≡ nowhere
 known_nowhere s t f low high = none_there t (subst (λ x. SpotLe x t) (sym f) low) (subst (λ x. SpotLe t x) (sym f) high)
+
+-- what is told with what was found is a table
+pub are_told : {E : Type 0} (ms : Registry) (i j : inventory.Inventory) (b : Book) (vs : List View) (r : Result Findings E) → j ≡ i → ViewsAgree vs (table_for ms (inventory_view i) b)
+    → IfOk r (λ f. length f.views.items ≡ length (inventory_view j).hosts) → IfOk r (λ f. views_with j f.views.items ≡ vs) → IfOk r (λ f. IsTable ms i b f.views.items)
+are_told ms i j b vs (Ok f) same agree each views = record {
+  each = each ∙ ap (λ k. length (inventory_view k).hosts) same;
+  views = subst (λ us. ViewsAgree us (table_for ms (inventory_view i) b)) (sym (ap (λ k. views_with k f.views.items) (sym same) ∙ views)) agree;
+}
+are_told ms i j b vs (Err e) same agree each views = tt

@@ -14,7 +14,7 @@ returns-in-Some c =
     let m = c.index-known.result.now in
     let at = subst (λ (x : Accepted). m ≡ get_or x.views.items c.args.host m) c.self.view_is c.index-known.ensures in
     let table = subst HasTable c.self.view_is c.self.invariant.table in
-    let found : spot_view (Some c.in-Some.slot) ≡ slot_at n (slots_view m.value.entries) = ap spot_view (sym c.in-Some.is) ∙ c.find.ensures in
+    let found : spot_view (Some c.in-Some.slot) ≡ slot_at n (slots_view m.value.entries) = ap spot_view (sym c.in-Some.is) ∙ c.find.ensures ∙ ap (λ k. slot_at n (slots_view k.entries)) c.deref.ensures in
     known_found c.in-Some.slot.now (slot_at n (slots_view m.value.entries)) (known_spot a c.args.host n) found (known_below a table c.args.host n m c.requires at) (known_above a table c.args.host n m c.requires at)
 
 pub returns-in-None : goal.returns-in-None
@@ -24,5 +24,5 @@ returns-in-None c =
     let m = c.index-known.result.now in
     let at = subst (λ (x : Accepted). m ≡ get_or x.views.items c.args.host m) c.self.view_is c.index-known.ensures in
     let table = subst HasTable c.self.view_is c.self.invariant.table in
-    let found : spot_view None ≡ slot_at n (slots_view m.value.entries) = ap spot_view (sym c.in-None.is) ∙ c.find.ensures in
+    let found : spot_view None ≡ slot_at n (slots_view m.value.entries) = ap spot_view (sym c.in-None.is) ∙ c.find.ensures ∙ ap (λ k. slot_at n (slots_view k.entries)) c.deref.ensures in
     known_nowhere (slot_at n (slots_view m.value.entries)) (known_spot a c.args.host n) found (known_below a table c.args.host n m c.requires at) (known_above a table c.args.host n m c.requires at)

@@ -1,5 +1,5 @@
 use denote.Ref.{Bor}
-use Rattle.std.proofs.Common.{◌∙◌, ap, map, sym, subst}
+use Rattle.std.proofs.Common.{ap, map, sym, subst}
 use Rattle.pb_semantics.specs.Gives.{Gives}
 use Rattle.pb_language.specs.Plays.{program_of}
 use Rattle.pb_language.specs.Verdict.{Verdict, accepted}

@@ -75,8 +75,8 @@ impl<P: Drop> RunCore<P> {
     ///
     /// # Errors
     ///
-    /// `NotThere` where no job of the host is out; `Full` where one is and a count would be past its
-    /// type. Nothing has changed then.
+    /// `NotThere` where no job of the host is out; `Full` where one is and a count would be past
+    /// its type. Nothing has changed then.
     pub fn again(&mut self, host: usize, ticket: usize) -> Result<(), CoreFault>
         ensures repeats { OnOk result (Repeats host self.old self.new) }
         ensures tickets { OnOk result

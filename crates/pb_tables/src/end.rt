@@ -3,6 +3,7 @@ ghost use Rattle.pb_semantics.specs.Words.{recs};
 ghost use Rattle.pb_semantics.specs.Well.{Well};
 ghost use Rattle.pb_walks.proofs.WellProp.{well_prop};
 ghost use Rattle.pb_kind.specs.Words.{slots_view};
+ghost use Rattle.pb_tables.specs.Seen.{seen_record};
 
 use crate::host::HostFound;
 use pb_find::{FaultAt, Find};
@@ -23,7 +24,7 @@ pub struct HostEnd {
     pub calls: u64,
     /// What others see next.
     pub next: Arc<Slots>,
-    ghost well: { Well (recs (slots_view next.value.entries)) } by { well_prop (recs (slots_view next.value.entries)) },
+    ghost well: { Well (seen_record next) } by { well_prop (seen_record next) },
 }
 
 impl HostEnd {

@@ -72,11 +72,10 @@ def inventory(hosts, classes=1):
     that no other class has."""
     names = [f"web{number:04}" for number in range(hosts)]
     groups = {f"zone{g:02}": {"hosts": names[g::GROUPS], "vars": {"zone": f"zone {g}"}} for g in range(GROUPS)}
-    if classes > 1:
-        roles = {f"role{r:04}": {"hosts": names[r::classes], "vars": {f"role_{r}": r}} for r in range(classes)}
-        groups |= roles
     groups = {name: group for name, group in groups.items() if group["hosts"]}
-    return groups | {"all": {"vars": {"ready": True, "port": 8080}, "children": list(groups)}}
+    own = {name: {f"role_{n % classes}": n % classes} for n, name in enumerate(names)} if classes > 1 else {}
+    common = {"vars": {"ready": True, "port": 8080}, "children": list(groups)}
+    return groups | {"all": common, "_meta": {"hostvars": own}}
 
 
 def with_another(plays):
@@ -142,7 +141,7 @@ def large(program, folder):
         "classes": check(program, folder, "classes", TASKS, HOSTS, CLASSES),
         "most": check(program, folder, "most", most_tasks(), MOST_HOSTS),
         "plays": check_short(program, folder, "plays", MOST_HOSTS),
-        "half the plays": check_short(program, folder, "half_plays", MOST_HOSTS // 2),
+        "half plays": check_short(program, folder, "half_plays", MOST_HOSTS // 2),
     }
 
 

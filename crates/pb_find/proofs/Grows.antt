@@ -54,7 +54,7 @@ module _ (n : Name) (k : KindData) (ss : Slots) (v : Well k) (w : Well (recs ss)
   abbrev here : Spot
   here = slot_at n ss
 
-  at_write : (p : Name) → slot_at p (with_spot n (written_spot here k) ss) ≡ cond (bytes_eq p n) (written_spot here k) (slot_at p ss)
+  pub at_write : (p : Name) → slot_at p (with_spot n (written_spot here k) ss) ≡ cond (bytes_eq p n) (written_spot here k) (slot_at p ss)
   at_write p = at_spot p n (written_spot here k) ss (λ e. always_there here k e)
 
   known_here : (p : Name) → is_there here ≡ true → below k (spot_kind here) ≡ true → bytes_eq p n ≡ true → SpotLe (slot_at p ss) (written_spot here k) × SpotLe (written_spot here k) (slot_at p ss)

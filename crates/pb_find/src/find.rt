@@ -14,7 +14,7 @@ ghost use Rattle.pb_kind.specs.Words.{kind_view, slots_view, spot_view};
 ghost use Rattle.pb_visit.specs.Visits.{registered};
 ghost use Rattle.pb_route.specs.Words.{IsStation, station_task};
 ghost use Rattle.pb_visit.specs.Words.{IsReached, env_of, task_there};
-ghost use Rattle.pb_visit.specs.Words.{writes_view};
+ghost use Rattle.pb_visit.specs.Words.{IsEither, writes_view};
 ghost use Rattle.pb_forms.specs.Words.{fault_view};
 ghost use Rattle.pb_find.specs.Finds.{Finds, offence_of};
 ghost use Rattle.pb_find.specs.Ways.{way_visits};
@@ -183,7 +183,7 @@ fn code(unfit: Unfit) -> u32
     }
 }
 
-// With all that the task writes.
+// With all that the task writes. Its result is joined once, of the kind that it has in either way.
 fn with_writes(
     alloc: Global,
     station: &Station<'_>,
@@ -192,13 +192,14 @@ fn with_writes(
     before: Find,
 ) -> Result<Find, AllocError>
     requires writes { WellSets (writes_view (station_task station.now).register writes) }
+    requires either { IsEither (option_map kind_view writes.going)
+        (option_map kind_view writes.failing) (option_map kind_view writes.either) }
     requires next { Well (recs (slots_view before.next.entries)) }
     ensures { IfOk result (λ f. Written (writes_view (station_task station.now).register writes)
         (slots_view view.now.entries) before f) }
 {
     let register = &station.task.register;
-    let going = with_registered(alloc, register, &writes.going, view, before)?;
-    let mut found = with_registered(alloc, register, &writes.failing, view, going)?;
+    let mut found = with_registered(alloc, register, &writes.either, view, before)?;
     for set in &writes.sets {
         found = with_write(alloc, set.name.as_str(), &set.kind, view, found)?;
     }

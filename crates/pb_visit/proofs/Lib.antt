@@ -2,5 +2,6 @@ mod Held
 mod Looped
 mod OnGround
 mod Ends
+mod Either
 mod Making
 mod Leading

@@ -1,6 +1,8 @@
 -- A way to a task: what is known there, and what is made of it.
-use Rattle.std.specs.Prelude.{◌≡◌, false, true, cond, Option, Some, None, option_map}
+use Rattle.std.specs.Prelude.{◌≡◌, ◌&&◌, false, true, cond, Option, Some, None, option_map}
 use Rattle.pb_semantics.specs.Kind.{KindData, Slots}
+use Rattle.pb_semantics.specs.Below.{below}
+use Rattle.pb_semantics.specs.Well.{Well}
 use Rattle.pb_language.specs.Cases.{Sets, no_sets, append_sets, failing_cases, going_cases}
 use Rattle.pb_language.specs.Cases.{registered_kind}
 use Rattle.pb_language.specs.Expansion.{trees}
@@ -57,6 +59,14 @@ going_kind t over =
 abbrev pub failing_kind : Task → Option KindData → Option KindData
 failing_kind t over =
     cond (has_case (failing_cases t)) (Some (registered_kind t over (failing_cases t))) None
+
+-- the kind of what is registered in either of two ways: one that is below a kind where both are
+abbrev pub IsEither : Option KindData → Option KindData → Option KindData → Type 0
+IsEither None b o = o ≡ b
+IsEither (Some j) None o = o ≡ Some j
+IsEither (Some j) (Some k) None = ⊥
+IsEither (Some j) (Some k) (Some h) =
+    Well h × ((m : KindData) → below h m ≡ below j m && below k m)
 
 -- what is registered of that kind, where there is one
 abbrev pub registered : Option Name → Option KindData → Sets

@@ -12,7 +12,7 @@ ghost use Rattle.pb_fit.specs.Words.{sets_view as found_view};
 ghost use Rattle.pb_transfer.specs.Words.{sets_view};
 ghost use Rattle.pb_route.specs.Station.{IsStation, station_task};
 ghost use Rattle.pb_visit.specs.Visits.{IsReached, env_of, failing_kind, going_kind, task_there};
-ghost use Rattle.pb_visit.specs.Visits.{writes_view};
+ghost use Rattle.pb_visit.specs.Visits.{IsEither, writes_view};
 
 use crate::footing::sets_found;
 use crate::started::{kind_of_loop, looped, started};
@@ -34,6 +34,8 @@ pub struct Writes {
     pub going: Option<Kind>,
     /// The kind of its result where it fails; none where it never does.
     pub failing: Option<Kind>,
+    /// The kind of its result in either way.
+    pub either: Option<Kind>,
     /// The names that it sets.
     pub sets: Vec<Set>,
 }
@@ -51,16 +53,46 @@ pub fn written<O: Outlook>(
 ) -> Result<Writes, AllocError>
     requires station { IsStation visit.now.station.now }
     requires reached { IsReached visit.now }
-    ensures { IfOk result (λ w. writes_view (task_there visit.now).register w
+    ensures writes { IfOk result (λ w. writes_view (task_there visit.now).register w
         ≡ task_writes (O.setting outlook.now) (task_there visit.now) (env_of visit.now)) }
+    ensures either { IfOk result (λ w. IsEither (option_map kind_view w.going)
+        (option_map kind_view w.failing) (option_map kind_view w.either)) }
 {
     let found = looped(alloc, visit, outlook)?;
     let over = kind_of_loop(&found);
+    let going = going_kind(alloc, visit.station, over)?;
+    let failing = failing_kind(alloc, visit.station, over)?;
     Ok(Writes {
-        going: going_kind(alloc, visit.station, over)?,
-        failing: failing_kind(alloc, visit.station, over)?,
+        either: either_kind(visit.station, over, &going, &failing)?,
+        going,
+        failing,
         sets: sets_there(alloc, visit, outlook, over)?,
     })
+}
+
+// The kind of its result in either way, of those where it goes on and where it fails.
+fn either_kind(
+    station: &Station<'_>,
+    over: Option<&Kind>,
+    going: &Option<Kind>,
+    failing: &Option<Kind>,
+) -> Result<Option<Kind>, AllocError>
+    requires station { IsStation station.now }
+    requires going { option_map kind_view going.now ≡ going_kind (station_task station.now)
+        (option_map (λ k. kind_view k.now) over) }
+    requires failing { option_map kind_view failing.now ≡ failing_kind (station_task station.now)
+        (option_map (λ k. kind_view k.now) over) }
+    ensures { IfOk result (λ o. IsEither (option_map kind_view going.now)
+        (option_map kind_view failing.now) (option_map kind_view o)) }
+{
+    match (going, failing) {
+        (Some(kind), Some(_)) => match over {
+            None => Ok(Some(station.ends.all.clone()?)),
+            Some(_) => Ok(Some(kind.clone()?)),
+        },
+        (Some(_), None) => copy_of(going),
+        (None, _) => copy_of(failing),
+    }
 }
 
 // The kind of the result with which the task goes on, where its loop is over that.

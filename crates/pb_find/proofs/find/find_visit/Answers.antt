@@ -17,7 +17,7 @@ pub with_writes-requires-clause-writes : goal.with_writes-requires-clause-writes
 with_writes-requires-clause-writes g c =
     let v = c.args.visit.now in
     let s = v.space.now in
-    subst (λ (r : Sets). WellSets r) (sym c.in_ok-writes.ensures)
+    subst (λ (r : Sets). WellSets r) (sym c.in_ok-writes.ensures.writes)
     (after_claim (g.O.Outlook.setting c.args.outlook.now) (c.views_are_well.ensures c.args.outlook.now) (task_there v) (env_of v) (known_well (exit_of s v.at) (stands_well s v.at c.requires.reached.stands))).2
 
 pub returns : goal.returns
@@ -28,4 +28,4 @@ returns g c =
     let now : Find = record old { fault = c.sooner-found.result } in
     IfOk-weaker c.with_writes.result _ _
     (λ f x h. one_found h view v old now f c.fault_at.result (found_there h v c.args.visit.now.station.now.task.now.line c.in_ok-unfit.unfit refl c.fault_at.result c.fault_at.ensures c.in_ok-unfit.ensures) (c.sooner-found.ensures h) refl refl refl
-    (subst (λ (r : Sets). Written r view now f) c.in_ok-writes.ensures x)) c.with_writes.ensures
+    (subst (λ (r : Sets). Written r view now f) c.in_ok-writes.ensures.writes x)) c.with_writes.ensures

@@ -11,4 +11,5 @@ pub mod InventoryNames
 pub mod TaskReads
 pub mod ScopesRound
 pub mod Nameless
+pub mod Rooted
 pub mod Denials

@@ -6,11 +6,11 @@ use Rattle.pb_alike.specs.Named.{reads_name, root_reads_name, any_reads_name, pa
 use Rattle.pb_vars.specs.Reads.{every_read, value_read, root_tested, all_every_read, parts_every_read, expanded_every_read}
 use Rattle.pb_rules.specs.Named.{reads_no_name}
 
-either : (a b c d : Bool) → a ≡ not c → b ≡ not d → a || b ≡ not (c && d)
+pub either : (a b c d : Bool) → a ≡ not c → b ≡ not d → a || b ≡ not (c && d)
 either a b true d p q = ap (λ x. x || b) p ∙ q
 either a b false d p q = ap (λ x. x || b) p
 
-twice : (a : Bool) → a ≡ not (not a)
+pub twice : (a : Bool) → a ≡ not (not a)
 twice true = refl
 twice false = refl
 

@@ -6,4 +6,5 @@ pub mod Handlers
 pub mod Sites
 pub mod Denied
 pub mod Named
+pub mod Theirs
 pub mod Words

@@ -43,8 +43,12 @@ fn add_names<'p>(names: &mut BTreeSet<&'p str>, entries: &'p [Entry]) -> Result<
     Ok(())
 }
 
-// Adds the name to those of the set.
-pub(crate) fn add_name<'p>(names: &mut BTreeSet<&'p str>, name: &'p str) -> Result<(), AllocError>
+/// Adds the name to those of the set.
+///
+/// # Errors
+///
+/// Want of memory.
+pub fn add_name<'p>(names: &mut BTreeSet<&'p str>, name: &'p str) -> Result<(), AllocError>
     ensures { OnOk result ((n : Name) → is_among n (names_in names.new)
         ≡ is_among n (names_in names.old) || bytes_eq n name.now) }
 {

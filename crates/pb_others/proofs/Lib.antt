@@ -1,0 +1,10 @@
+mod ThereSpots
+mod ThereKinds
+mod ThereFaults
+mod ThereTasks
+mod ThereVisits
+mod TherePlays
+mod ThereBudget
+mod ThereWalks
+mod LastRound
+mod RootedBooks

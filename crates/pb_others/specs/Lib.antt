@@ -1,0 +1,4 @@
+pub mod Laws
+pub mod Others
+pub mod Rooted
+pub mod Words

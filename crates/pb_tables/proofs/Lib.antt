@@ -1,4 +1,5 @@
 pub mod Chained
+pub mod Changing
 pub mod HostDrops
 pub mod HostFinds
 pub mod HostLasts
@@ -10,6 +11,7 @@ pub mod HostWays
 pub mod HostWrites
 pub mod Joined
 pub mod Lasted
+pub mod LastRead
 pub mod OnlyRound
 pub mod LaterTables
 pub mod Playing

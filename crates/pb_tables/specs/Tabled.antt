@@ -3,31 +3,15 @@ use Rattle.std.specs.Prelude.{◌≡◌, ℕ, List, [], All, Option, Some, None,
 use Rattle.std.specs.Global.{Vec}
 use Rattle.std.specs.declared.alloc.Global.{Global}
 use Rattle.std.specs.declared.sync.Arc.{Arc}
-use Rattle.pb_semantics.specs.Kind.{recs}
 use Rattle.pb_language.specs.Expression.{Name}
 use Rattle.pb_language.specs.Program.{Inventory}
 use Rattle.pb_language.specs.Scope.{Later}
-use Rattle.pb_language.specs.Setting.{group_slots}
-use Rattle.pb_language.specs.Tables.{known_views}
-use Rattle.pb_kind.specs.KindView.{kind_view}
 use Rattle.pb_lattice.specs.Arena.{names_of}
-use Rattle.pb_lattice.specs.Trees.{IsAscending}
 use Rattle.pb_inventory.specs.Inventory.{inventory_view}
-use Rattle.pb_hosts.specs.Shown.{views_view}
 use Rattle.pb_hosts.specs.Tables.{host_names, laters_from, since_view}
 use Rattle.pb_hosts.specs.declared.lasting.Lasting.{Lasting}
 use Rattle.pb_tables.specs.declared.table.Stage.{Stage}
 use Rattle.pb_tables.specs.declared.table.Tables.{Tables}
-
--- the plays are those of hosts of the inventory, what is known is what it says of them, and the
--- groups' kind is that of its groups
-pub record IsStage (s : Stage) : Type 0 where
-  pub scenes : All (λ x. x.cast.inventory.now ≡ s.inventory.now) s.scenes.now
-  pub same : s.known.now.inventory.now ≡ s.inventory.now
-  pub known : views_view s.known.now ≡ known_views (inventory_view s.inventory.now).hosts
-  pub groups : kind_view s.groups.now
-      ≡ recs (group_slots (inventory_view s.inventory.now).groups)
-  pub ascending : IsAscending (names_of s.names.now)
 
 -- of each host as many places as there are names
 abbrev pub AreBeside : ℕ → Option (Vec (Arc Lasting Global)) → Type 0

@@ -8,7 +8,7 @@ ghost use Rattle.pb_hosts.specs.Words.{views_view};
 ghost use Rattle.pb_tables.specs.Ends.{AreEnds, AreShared, found_in};
 ghost use Rattle.pb_tables.specs.Found.{HostFinds};
 ghost use Rattle.pb_tables.specs.Scenes.{AreScenes};
-ghost use Rattle.pb_tables.specs.Tabled.{AreTables, IsStage, laters_in};
+ghost use Rattle.pb_tables.specs.Tabled.{AreTables, laters_in};
 ghost use Rattle.pb_tables.specs.declared.end.HostEnd.{HostEnd};
 
 use crate::end::HostEnd;
@@ -31,7 +31,6 @@ pub fn ends_of(
     firsts: &[usize],
     space: Environments,
 ) -> Result<(Vec<HostEnd>, Environments), AllocError>
-    requires stage { IsStage stage.now }
     requires tables { AreTables stage.now tables.now }
     requires names { space.names ≡ names_of stage.now.names.now }
     ensures names { IfOk result (λ r. r.1.names ≡ space.names) }
@@ -76,7 +75,6 @@ fn end_of(
     host: usize,
     space: Environments,
 ) -> Result<(HostEnd, Environments), AllocError>
-    requires stage { IsStage stage.now }
     requires tables { AreTables stage.now tables.now }
     requires host { host < length (inventory_view stage.now.inventory.now).hosts }
     requires names { space.names ≡ names_of stage.now.names.now }

@@ -19,7 +19,7 @@ ghost use Rattle.pb_hosts.specs.Words.{since_view, views_view};
 ghost use Rattle.pb_tables.specs.Found.{HostFinds, HostLasts};
 ghost use Rattle.pb_tables.specs.Played.{PlayFinds, PlayLasts, laters_here};
 ghost use Rattle.pb_tables.specs.Scenes.{AreScenes, IsScene};
-ghost use Rattle.pb_tables.specs.Tabled.{AreTables, IsStage, laters_in};
+ghost use Rattle.pb_tables.specs.Tabled.{AreTables, laters_in};
 ghost use Rattle.pb_tables.specs.declared.scene.Scene.{Scene};
 
 use crate::table::{Stage, Tables};
@@ -55,7 +55,6 @@ pub fn host_found(
     host: usize,
     space: &mut Environments,
 ) -> Result<HostFound, AllocError>
-    requires stage { IsStage stage.now }
     requires tables { AreTables stage.now tables.now }
     requires host { host < length (inventory_view stage.now.inventory.now).hosts }
     requires names { space.old.names ≡ names_of stage.now.names.now }
@@ -88,7 +87,6 @@ pub fn host_lasting(
     host: usize,
     space: &mut Environments,
 ) -> Result<Vec<Lasting>, AllocError>
-    requires stage { IsStage stage.now }
     requires host { host < length (inventory_view stage.now.inventory.now).hosts }
     requires names { space.old.names ≡ names_of stage.now.names.now }
     ensures names { space.new.names ≡ space.old.names }
@@ -120,7 +118,6 @@ struct OnWay {
 
 // What the inventory says of the variables of the host at that place.
 pub(crate) fn known_at<'t>(stage: &'t Stage<'_, '_>, host: usize) -> &'t Slots
-    requires stage { IsStage stage.now }
     requires host { host < length (inventory_view stage.now.inventory.now).hosts }
     ensures known { option_map (λ h. known_slots h.variables)
         (slice_get (inventory_view stage.entry.now.inventory.now).hosts host)
@@ -157,7 +154,6 @@ fn found_in(
     space: &mut Environments,
     before: OnWay,
 ) -> Result<OnWay, AllocError>
-    requires stage { IsStage stage.now }
     requires tables { AreTables stage.now tables.now }
     requires play { play < length stage.now.scenes.now }
     requires host { host < length (inventory_view stage.now.inventory.now).hosts }
@@ -204,7 +200,6 @@ fn laters_at<'t>(
     tables: &'t Tables<'_>,
     play: usize,
 ) -> Option<Laters<'t>>
-    requires stage { IsStage stage.now }
     requires tables { AreTables stage.now tables.now }
     ensures { laters_here (inventory_view stage.entry.now.inventory.now) result
         ≡ first_laters (drop play (laters_in stage.entry.now tables.entry.now.laters.items)) }
@@ -276,7 +271,6 @@ fn lasting_at(
     at: Environment,
     space: &mut Environments,
 ) -> Result<(Lasting, Environment), AllocError>
-    requires stage { IsStage stage.now }
     requires play { play < length stage.now.scenes.now }
     requires host { host < length (inventory_view stage.now.inventory.now).hosts }
     requires stands { Stands space.old at }

@@ -9,7 +9,7 @@ ghost use Rattle.pb_walks.specs.Words.{LatersAgree};
 ghost use Rattle.pb_tables.specs.Listed.{lasting_lists, lasting_there, nobody_yet, put_at};
 ghost use Rattle.pb_tables.specs.Listed.{put_each, put_last};
 ghost use Rattle.pb_tables.specs.Scenes.{AreScenes};
-ghost use Rattle.pb_tables.specs.Tabled.{AreBeside, IsStage, laters_in};
+ghost use Rattle.pb_tables.specs.Tabled.{AreBeside, laters_in};
 
 use crate::host::host_lasting;
 use crate::scene::Scene;
@@ -30,7 +30,6 @@ pub fn laters_of(
     stage: &Stage<'_, '_>,
     space: Environments,
 ) -> Result<(PlayLaters, Environments), AllocError>
-    requires stage { IsStage stage.now }
     requires names { space.names ≡ names_of stage.now.names.now }
     ensures names { IfOk result (λ r. r.1.names ≡ space.names) }
     ensures beside { IfOk result

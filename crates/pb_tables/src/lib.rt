@@ -8,6 +8,7 @@
 //     }
 #![tactic(auto)]
 
+mod changed;
 mod end;
 mod ends;
 mod host;

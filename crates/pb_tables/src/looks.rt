@@ -7,7 +7,6 @@ ghost use Rattle.pb_alike.specs.Words.{LookAlike, SamePlays};
 ghost use Rattle.pb_inventory.specs.Words.{inventory_view};
 ghost use Rattle.pb_tables.specs.Ends.{AreAlike};
 ghost use Rattle.pb_tables.specs.Scenes.{AreScenes, IsScene};
-ghost use Rattle.pb_tables.specs.Tabled.{IsStage};
 ghost use Rattle.pb_tables.specs.declared.scene.Scene.{Scene};
 
 use crate::host::known_at;
@@ -25,7 +24,6 @@ use std::collections::BTreeMap;
 ///
 /// Want of memory.
 pub fn firsts_of(alloc: Global, stage: &Stage<'_, '_>) -> Result<Vec<usize>, AllocError>
-    requires { IsStage stage.now }
     ensures { IfOk result (λ v. (ps : Program)
         → AreScenes stage.now.inventory.now ps stage.now.scenes.now
         → AreAlike (inventory_view stage.now.inventory.now) ps v.items) }
@@ -45,7 +43,6 @@ pub fn firsts_of(alloc: Global, stage: &Stage<'_, '_>) -> Result<Vec<usize>, All
 
 // The earlier host, where this one looks like it, or this one.
 fn first_like(stage: &Stage<'_, '_>, earlier: Option<&usize>, host: usize) -> usize
-    requires stage { IsStage stage.now }
     requires host { host < length (inventory_view stage.now.inventory.now).hosts }
     ensures { (ps : Program) (x y : HostVariables)
         → AreScenes stage.now.inventory.now ps stage.now.scenes.now
@@ -67,7 +64,6 @@ fn first_like(stage: &Stage<'_, '_>, earlier: Option<&usize>, host: usize) -> us
 
 // Where it holds, the hosts at both places look alike.
 fn look_alike(stage: &Stage<'_, '_>, one: usize, other: usize) -> bool
-    requires stage { IsStage stage.now }
     requires one { one < length (inventory_view stage.now.inventory.now).hosts }
     requires other { other < length (inventory_view stage.now.inventory.now).hosts }
     ensures { result ≡ true → (ps : Program) (x y : HostVariables)
@@ -84,7 +80,6 @@ fn look_alike(stage: &Stage<'_, '_>, one: usize, other: usize) -> bool
 
 // Whether each play names both hosts or neither.
 fn are_in_same_plays(stage: &Stage<'_, '_>, one: usize, other: usize) -> bool
-    requires stage { IsStage stage.now }
     requires one { one < length (inventory_view stage.now.inventory.now).hosts }
     requires other { other < length (inventory_view stage.now.inventory.now).hosts }
     ensures { result ≡ true → (ps : Program) (x y : HostVariables)
@@ -103,7 +98,6 @@ fn are_in_same_plays(stage: &Stage<'_, '_>, one: usize, other: usize) -> bool
 
 // Whether the play of that number names the host at that place.
 fn is_named(stage: &Stage<'_, '_>, play: usize, host: usize) -> bool
-    requires stage { IsStage stage.now }
     requires play { play < length stage.now.scenes.now }
     requires host { host < length (inventory_view stage.now.inventory.now).hosts }
     ensures { (s : Scene) (p : Play) (x : HostVariables)
@@ -117,7 +111,6 @@ fn is_named(stage: &Stage<'_, '_>, play: usize, host: usize) -> bool
 // A text that differs for nearly all hosts that don't look alike: which plays name the host, in how
 // many groups it is, and what is known of it.
 fn look_of(alloc: Global, stage: &Stage<'_, '_>, host: usize) -> Result<String, AllocError>
-    requires stage { IsStage stage.now }
     requires host { host < length (inventory_view stage.now.inventory.now).hosts }
 {
     let mut look = stage.inventory.group_names(host).len().to_string(alloc)?;

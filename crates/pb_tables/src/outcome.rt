@@ -1,5 +1,6 @@
 // What the ways of all hosts come to: the first fault, whether the kinds settle, and the budget.
-ghost use Rattle.std.specs.Prelude.{[], ◌≡◌, All, IfOk, false, option_map};
+ghost use Rattle.std.specs.Prelude.{[], ◌≡◌, All, IfOk, List, false, map, option_map, true};
+ghost use Rattle.pb_language.specs.Words.{Name};
 ghost use Rattle.pb_language.specs.Program.{Program};
 ghost use Rattle.pb_language.specs.Verdict.{flow_verdict, found_laters, offence_verdict};
 ghost use Rattle.pb_language.specs.Verdict.{settled_verdict};
@@ -7,14 +8,17 @@ ghost use Rattle.pb_language.specs.Tables.{known_views, views_after};
 ghost use Rattle.pb_inventory.specs.Words.{inventory_view};
 ghost use Rattle.pb_lattice.specs.Words.{IsAscending, names_of};
 ghost use Rattle.pb_walks.specs.Words.{ViewsAgree, plays_read_others};
+ghost use Rattle.pb_others.specs.Words.{DifferIn, book_reads_theirs};
+ghost use Rattle.pb_play.specs.Words.{play_view};
 ghost use Rattle.pb_hosts.specs.Words.{views_view};
 ghost use Rattle.pb_tables.specs.Ends.{AreShared};
-ghost use Rattle.pb_tables.specs.Outcomes.{AlwaysNamesHandlers, ReadsNoMore, host_offence};
-ghost use Rattle.pb_tables.specs.Outcomes.{outcome_verdict};
+ghost use Rattle.pb_tables.specs.Outcomes.{AlwaysNamesHandlers, ReadsAsWritten, ReadsNoMore};
+ghost use Rattle.pb_tables.specs.Outcomes.{host_offence, outcome_verdict};
 ghost use Rattle.pb_tables.specs.Rounds.{AreAfter};
 ghost use Rattle.pb_tables.specs.Scenes.{AreScenes};
-ghost use Rattle.pb_tables.specs.Tabled.{AreTables, IsStage};
+ghost use Rattle.pb_tables.specs.Tabled.{AreTables};
 
+use crate::changed::changed_names;
 use crate::laters::laters_of;
 use crate::looks::firsts_of;
 use crate::round::{Round, round_of};
@@ -25,6 +29,9 @@ use pb_find::FaultAt;
 use pb_hosts::{Views, groups_kind};
 use pb_inventory::Inventory;
 use pb_lattice::Environments;
+use pb_others::read_round_is_last;
+use pb_play::Play;
+use pb_rules::reads_theirs;
 use pb_walks::one_round_is_enough;
 use std::alloc::{AllocError, Global};
 
@@ -53,10 +60,10 @@ pub struct Outcome<'i> {
 }
 
 /// What the texts of plays read of hosts.
-#[derive(Clone, Copy, PartialEq, Eq, Debug)]
-pub enum Reads {
-    /// Perhaps other hosts, or who is active.
-    Others,
+#[derive(Clone, Copy)]
+pub enum Reads<'p> {
+    /// Perhaps other hosts, or who is active, as these plays do.
+    Others(&'p [Play]),
     /// No other host and not who is active.
     Own,
     /// Nor the name of their own host.
@@ -64,9 +71,10 @@ pub enum Reads {
 }
 
 /// What the ways of all hosts through all plays come to, in four rounds of the kinds that hosts see
-/// of each other, or until a round changes nothing; in one alone where it is said that no text
-/// reads another host or who is active, which follows one of the hosts that look alike where it is
-/// said that none reads the host's name. The names are those of all variables.
+/// of each other, or until a round changes nothing that some text reads of another host; in one
+/// alone where it is said that no text reads another host or who is active, which follows one of
+/// the hosts that look alike where it is said that none reads the host's name. The names are those
+/// of all variables.
 ///
 /// # Errors
 ///
@@ -76,17 +84,17 @@ pub fn outcome_of<'i>(
     inventory: &'i Inventory,
     scenes: &[Scene<'i>],
     names: Vec<String>,
-    reads: Reads,
+    reads: Reads<'_>,
 ) -> Result<Outcome<'i>, AllocError>
     requires ascending { IsAscending (names_of names.items) }
     requires scenes { All (λ s. s.cast.inventory.now ≡ inventory.now) scenes.now }
     ensures inventory { IfOk result (λ o. o.views.inventory ≡ inventory.entry) }
     ensures verdict { IfOk result (λ o. (ps : Program)
         → AreScenes inventory.entry.now ps scenes.now
-        → AlwaysNamesHandlers (inventory_view inventory.entry.now) ps → ReadsNoMore reads ps
+        → AlwaysNamesHandlers (inventory_view inventory.entry.now) ps → ReadsNoMore reads.entry ps
         → outcome_verdict o ≡ flow_verdict ps (inventory_view inventory.entry.now)) }
     ensures views { IfOk result (λ o. (ps : Program)
-        → AreScenes inventory.entry.now ps scenes.now → ReadsNoMore reads ps
+        → AreScenes inventory.entry.now ps scenes.now → ReadsNoMore reads.entry ps
         → ViewsAgree (views_view o.views) (views_after 4 (inventory_view inventory.entry.now) ps
         (found_laters ps (inventory_view inventory.entry.now)))) }
 {
@@ -104,9 +112,9 @@ pub fn outcome_of<'i>(
     };
     let views = known.copy(alloc)?;
     match reads {
-        Reads::Others => {
+        Reads::Others(plays) => {
             let (laters, space) = laters_of(alloc, &stage, space)?;
-            last_round(alloc, &stage, Tables { views, laters }, space)
+            last_round(alloc, &stage, plays, Tables { views, laters }, space)
         }
         Reads::Own => only_round(alloc, &stage, views, &[], space),
         Reads::Nameless => {
@@ -116,14 +124,15 @@ pub fn outcome_of<'i>(
     }
 }
 
-// What the round comes to that changes nothing, or the one after the last.
+// What the round comes to that changes nothing that some text reads of another host, or the one
+// after the last.
 fn last_round<'i>(
     alloc: Global,
     stage: &Stage<'i, '_>,
+    plays: &[Play],
     tables: Tables<'i>,
     space: Environments,
 ) -> Result<Outcome<'i>, AllocError>
-    requires stage { IsStage stage.now }
     requires inventory { tables.views.inventory ≡ stage.now.inventory }
     requires tables { AreTables stage.now tables }
     requires names { space.names ≡ names_of stage.now.names.now }
@@ -133,13 +142,16 @@ fn last_round<'i>(
     ensures verdict { IfOk result (λ o. (ps : Program)
         → AreScenes stage.now.inventory.now ps stage.now.scenes.now
         → AlwaysNamesHandlers (inventory_view stage.now.inventory.now) ps
+        → ReadsAsWritten plays.now ps
         → outcome_verdict o ≡ flow_verdict ps (inventory_view stage.now.inventory.now)) }
     ensures views { IfOk result (λ o. (ps : Program)
         → AreScenes stage.now.inventory.now ps stage.now.scenes.now
+        → ReadsAsWritten plays.now ps
         → ViewsAgree (views_view o.views) (views_after 4
         (inventory_view stage.now.inventory.now) ps
         (found_laters ps (inventory_view stage.now.inventory.now)))) }
 {
+    read_round_is_last();
     let mut tables = tables;
     let mut space = space;
     for _round in 0..ROUNDS {
@@ -147,11 +159,30 @@ fn last_round<'i>(
         if round.is_same {
             return Ok(outcome_in(round, tables));
         }
+        if !reads_changed(alloc, plays, &tables.views, &round.next)? {
+            return Ok(outcome_after(round));
+        }
         space = emptied;
         tables = tables_after(round, tables);
     }
     let (round, _) = round_of(alloc, stage, &tables, &[], space)?;
     Ok(outcome_in(round, tables))
+}
+
+// Whether some text reads a variable of another host of which the two tables don't say the same.
+fn reads_changed(
+    alloc: Global,
+    plays: &[Play],
+    before: &Views<'_>,
+    after: &Views<'_>,
+) -> Result<bool, AllocError>
+    requires { after.now.inventory ≡ before.now.inventory }
+    ensures { IfOk result (λ b. b ≡ false → (ns : List Name)
+        × (book_reads_theirs ns (map play_view plays.now) ≡ false)
+        × DifferIn ns (views_view before.now) (views_view after.now)) }
+{
+    let names = changed_names(alloc, before, after)?;
+    reads_theirs(alloc, plays, &names)
 }
 
 // What one round comes to, from what the inventory says: where no text reads another host, no
@@ -164,7 +195,6 @@ fn only_round<'i>(
     firsts: &[usize],
     space: Environments,
 ) -> Result<Outcome<'i>, AllocError>
-    requires stage { IsStage stage.now }
     requires inventory { views.inventory ≡ stage.now.inventory }
     requires views { views_view views
         ≡ known_views (inventory_view stage.now.inventory.now).hosts }
@@ -190,12 +220,7 @@ fn only_round<'i>(
     let laters = Vec::new(alloc);
     let tables = Tables { views, laters };
     let (round, _) = round_of(alloc, stage, &tables, firsts, space)?;
-    Ok(Outcome {
-        fault: round.fault,
-        is_settled: true,
-        calls: round.calls,
-        views: round.next,
-    })
+    Ok(outcome_after(round))
 }
 
 // What is found in a round, with what others see in it.
@@ -210,6 +235,21 @@ fn outcome_in<'i>(round: Round<'i>, tables: Tables<'i>) -> Outcome<'i>
         is_settled: round.is_settled,
         calls: round.calls,
         views: tables.views,
+    }
+}
+
+// What is found in the round that is the last, with what others see after it, below which each
+// write is.
+fn outcome_after<'i>(round: Round<'i>) -> Outcome<'i>
+    ensures verdict { outcome_verdict result ≡ offence_verdict
+        (option_map host_offence round.entry.fault) (settled_verdict true round.entry.calls) }
+    ensures views { result.views ≡ round.entry.next }
+{
+    Outcome {
+        fault: round.fault,
+        is_settled: true,
+        calls: round.calls,
+        views: round.next,
     }
 }
 

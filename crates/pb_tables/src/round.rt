@@ -18,7 +18,7 @@ ghost use Rattle.pb_tables.specs.Found.{HostFinds};
 ghost use Rattle.pb_tables.specs.Outcomes.{host_offence, stands_by};
 ghost use Rattle.pb_tables.specs.Rounds.{AreFound, IsRound};
 ghost use Rattle.pb_tables.specs.Scenes.{AreScenes};
-ghost use Rattle.pb_tables.specs.Tabled.{AreTables, IsStage, laters_in};
+ghost use Rattle.pb_tables.specs.Tabled.{AreTables, laters_in};
 
 use crate::end::HostEnd;
 use crate::ends::ends_of;
@@ -70,7 +70,6 @@ pub fn round_of<'i>(
     firsts: &[usize],
     space: Environments,
 ) -> Result<(Round<'i>, Environments), AllocError>
-    requires stage { IsStage stage.now }
     requires tables { AreTables stage.now tables.now }
     requires names { space.names ≡ names_of stage.now.names.now }
     ensures names { IfOk result (λ r. r.1.names ≡ space.names) }

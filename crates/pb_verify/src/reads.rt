@@ -8,6 +8,7 @@ ghost use Rattle.pb_tables.specs.Words.{ReadsNoMore};
 
 use pb_alike::books_read_no_name;
 use pb_inventory::Inventory;
+use pb_others::books_read_theirs;
 use pb_play::Play;
 use pb_rules::{reads_name, reads_others};
 use pb_tables::Reads;
@@ -20,14 +21,19 @@ use std::alloc::{AllocError, Global};
 /// # Errors
 ///
 /// Want of memory.
-pub fn reads_of(alloc: Global, inventory: &Inventory, plays: &[Play]) -> Result<Reads, AllocError>
+pub fn reads_of<'p>(
+    alloc: Global,
+    inventory: &Inventory,
+    plays: &'p [Play],
+) -> Result<Reads<'p>, AllocError>
     ensures { IfOk result (λ r. (ms : Registry) → ReadsNoMore r
-        (program_of ms (inventory_view inventory.now) (map play_view plays.now))) }
+        (program_of ms (inventory_view inventory.now) (map play_view plays.entry.now))) }
 {
     books_read_alone();
     books_read_no_name();
+    books_read_theirs();
     if reads_others(alloc, plays)? {
-        return Ok(Reads::Others);
+        return Ok(Reads::Others(plays));
     }
     if inventory.hosts() < 2 {
         return Ok(Reads::Own);

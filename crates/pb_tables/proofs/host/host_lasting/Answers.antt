@@ -35,7 +35,7 @@ loop-play-init c =
       left = λ ps x a hx.
           let begins : known_slots x.variables ≡ known = one_of (λ (h : HostVariables). known_slots h.variables) (slice_get i.hosts c.args.host) x known c.known_at.ensures.known hx in
           subst (λ (ls : List Lasting). LeftLasting ns stage.inventory.now views stage.scenes.now x ps 0 from ls) (sym nothing)
-          (lasting_start ns stage.inventory.now views stage.scenes.now x ps from c.requires.stage.known (subst (λ (ss : Slots). ExitsAgree from (live ss)) (sym begins) c.in_ok-at.ensures.same) a);
+          (lasting_start ns stage.inventory.now views stage.scenes.now x ps from stage.said (subst (λ (ss : Slots). ExitsAgree from (live ss)) (sym begins) c.in_ok-at.ensures.same) a);
     }
 
 pub loop-play-preserved : goal.loop-play-preserved

@@ -8,13 +8,13 @@ use Rattle.pb_history.specs.Jobs.{is_out_at}
 use Rattle.pb_inventory.specs.Inventory.{inventory_view}
 use Rattle.pb_inventory.specs.Numbered.{name_of}
 use Rattle.pb_verify.specs.declared.checked.Accepted.{Accepted}
-use Rattle.pb_world.specs.Hosts.{names_of_hosts}
+use Rattle.pb_world.specs.Hosts.{AreNamed, names_of_hosts}
 use Rattle.pb_core.specs.Cores.{AreBatches}
 use Rattle.pb_core.specs.declared.batch.Schedule.{Schedule}
 use Rattle.pb_core.specs.declared.fault.CoreFault.{CoreFault}
 use Rattle.pb_core.specs.declared.fault.CoreFault.TheVariants.{Full, Memory, NotThere}
 use Rattle.pb_jobs.specs.Faults.{OpensNot}
-use Rattle.pb_schedule.specs.Schedules.{AreNamed, program_for}
+use Rattle.pb_schedule.specs.Schedules.{program_for}
 use Rattle.pb_run.specs.Calls.{Gives, HasJob, IsRefused, StaysRecorded, Takes, TakesSome}
 use Rattle.pb_run.specs.Faults.{AreSlotted, Faults}
 use Rattle.pb_run.specs.Follows.{EventView, Follows}

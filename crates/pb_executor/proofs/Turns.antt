@@ -1,6 +1,6 @@
 -- One turn of a driven run: what a Stop, a job that is taken and an answer change.
 use Rattle.std.proofs.Common.{◌≡◌, ◌≤◌, ℕ, ◌+◌, List, [], ◌∷◌, ◌++◌, Vec, length, Bool, true, false, not, ◌&&◌, ◌||◌, cond, Option, Some, None, ◌⊎◌, inl, inr, refl, sym, ap, ◌∙◌, arith}
-use Rattle.std.proofs.lemmas.List.{append-nil, length-append, map-append}
+use Rattle.std.proofs.lemmas.List.{append_assoc, append-nil, length-append, map-append}
 use Rattle.std.specs.declared.alloc.Global.{Global}
 use Rattle.pb_language.specs.Drive.{Starting, next_start}
 use Rattle.pb_language.specs.Machine as machine
@@ -19,12 +19,26 @@ use Rattle.pb_run.specs.declared.event.Given.{Given}
 use Rattle.pb_run.specs.declared.event.Given.TheVariants as given
 use Rattle.pb_run.specs.declared.event.Taken.{Taken}
 use Rattle.pb_run.specs.declared.event.Taken.TheVariants as taken
-use Rattle.pb_executor.specs.Drives.{GivesRun, IsSameRun, TakesRun, is_job}
+use Rattle.pb_executor.specs.Drives.{GivesRun, GoesOn, IsSameRun, TakesRun, is_job}
 use Rattle.pb_executor.specs.States.{RunState, opening_of, state_of}
 use Rattle.pb_executor.proofs.Driven.{moved}
 
 pub same_twice : (a b c : RunState) → IsSameRun a b → IsSameRun b c → IsSameRun a c
 same_twice a b c first then = then ∙ ap (λ (r : RunState). record r { history = c.history }) first
+
+-- a run goes on
+pub goes_nowhere : (r : RunState) → GoesOn r r
+goes_nowhere r = ([], sym (ap (λ es. record r { history = es }) (append-nil r.history)))
+
+pub goes_twice : (a b c : RunState) → GoesOn a b → GoesOn b c → GoesOn a c
+goes_twice a b c first then = (
+  first.0 ++ then.0,
+  then.1 ∙ ap (λ (r : RunState). record r { history = r.history ++ then.0 }) first.1
+      ∙ ap (λ es. record a { history = es }) (append_assoc a.history first.0 then.0),
+)
+
+pub goes_by : (old new : RunState) (es : List Event) → IsSameRun old new → new.history ≡ old.history ++ es → GoesOn old new
+goes_by old new es same more = (es, same ∙ ap (λ xs. record old { history = xs }) more)
 
 pub run_more : (s : State) (es : List machine.Event) (e : machine.Event) → run_from s (es ++ e ∷ []) ≡ step (run_from s es) e
 run_more s [] e = refl
@@ -67,6 +81,9 @@ module _ (old new : RunState) where
   pub taken_longer : (t : Taken) → TakesRun t old new → length old.history ≤ length new.history
   taken_longer t x = let n = ap length x.taken.events ∙ length-append old.history (taken_events (turns_due (state_of old)) t) in omega (arith, n)
 
+  pub goes_taken : (t : Taken) → TakesRun t old new → GoesOn old new
+  goes_taken t x = goes_by old new (taken_events (turns_due (state_of old)) t) x.same x.taken.events
+
   pub taken_handed : (j : Job) → TakesRun (taken.Job j) old new → (state_of new).handed ≡ (state_of old).handed + length j.calls.items
   taken_handed j x = ap (λ (s : State). s.handed) (moved old new x.same) ∙ x.taken.job.0.count
 
@@ -79,6 +96,9 @@ module _ (old new : RunState) where
   -- an answer
   pub given_longer : (k t : ℕ) (xs : Vec Answer Global) (g : Given) → GivesRun k t xs g old new → length new.history ≡ length old.history + 1
   given_longer k t xs g x = ap length x.given.events ∙ length-append old.history (Give k xs ∷ [])
+
+  pub goes_given : (k t : ℕ) (xs : Vec Answer Global) (g : Given) → GivesRun k t xs g old new → GoesOn old new
+  goes_given k t xs g x = goes_by old new (Give k xs ∷ []) x.same x.given.events
 
   pub again_handed : (k t : ℕ) (xs : Vec Answer Global) (j : Job) → GivesRun k t xs (given.Again j) old new → (state_of new).handed ≡ (state_of old).handed + length j.calls.items
   again_handed k t xs j x = ap (λ (s : State). s.handed) (moved old new x.same) ∙ x.given.told.1.count

@@ -1,10 +1,15 @@
 -- What a runner is asked on the way of a run, and what it answers.
-use Rattle.std.specs.Prelude.{◌≡◌, ℕ, Vec, Bool, true, false}
+use Rattle.std.specs.Prelude.{◌≡◌, ◌++◌, ◌⊎◌, ℕ, List, Vec, Bool, true, false, Result, Ok, Err}
+use Rattle.std.specs.declared.alloc.AllocError.{AllocError}
 use Rattle.std.specs.declared.alloc.Global.{Global}
+use Rattle.pb_language.specs.Machine.{State}
+use Rattle.pb_history.specs.Jobs.{is_out_at}
 use Rattle.pb_finish.specs.declared.answer.Answer.{Answer}
 use Rattle.pb_jobs.specs.declared.job.Call.{Call}
 use Rattle.pb_jobs.specs.declared.job.Job.{Job}
 use Rattle.pb_run.specs.Calls.{IsGiven, IsTaken}
+use Rattle.pb_run.specs.Recorded.{is_over}
+use Rattle.pb_run.specs.declared.event.Event.{Event}
 use Rattle.pb_run.specs.declared.event.Given.{Given}
 use Rattle.pb_run.specs.declared.event.Given.TheVariants as given
 use Rattle.pb_run.specs.declared.event.Taken.{Taken}
@@ -15,6 +20,15 @@ use Rattle.pb_executor.specs.States.{RunState, opening_of}
 -- nothing but the history is another
 abbrev pub IsSameRun : RunState → RunState → Type 0
 IsSameRun old new = new ≡ record old { history = new.history }
+
+-- the same run, in which more may have happened since
+abbrev pub GoesOn : RunState → RunState → Type 0
+GoesOn old new = (later : List Event) × (new ≡ record old { history = old.history ++ later })
+
+-- it is over; where all went well it may rest instead while somebody else's job is out
+abbrev pub HasEnded : Result Unit AllocError → State → Type 0
+HasEnded (Ok done) s = (is_over s ≡ true) ⊎ ((k : ℕ) × (is_out_at k s ≡ true))
+HasEnded (Err refused) s = is_over s ≡ true
 
 -- a run is asked what there is to do, and answers are given to the job of that host and ticket
 pub record TakesRun (t : Taken) (old new : RunState) : Type 0 where

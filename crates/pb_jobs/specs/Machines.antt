@@ -129,9 +129,11 @@ abbrev pub TurnsAs : Machine → Machine → Type 0
 TurnsAs old new = (reading : Reading (Vec Pass Global)) (s : FlatState) → IsMachine old reading s
     → flat.enabled s turn ≡ true → IsMachine new reading (flat.step s turn)
 
+-- a Stop where one may happen, and else nothing
 abbrev pub StopsAs : Machine → Machine → Type 0
 StopsAs old new = (reading : Reading (Vec Pass Global)) (s : FlatState) → IsMachine old reading s
-    → flat.enabled s stop ≡ true → IsMachine new reading (flat.step s stop)
+    → (flat.enabled s stop ≡ true → IsMachine new reading (flat.step s stop))
+    × (flat.enabled s stop ≡ false → IsSameBut old new)
 
 -- it is the run's beginning, however its values are read, where those are the program's batches
 abbrev pub OpensAs : Schedule → ℕ → Machine → Type 0

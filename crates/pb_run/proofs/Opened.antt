@@ -16,7 +16,7 @@ use Rattle.pb_inventory.specs.declared.inventory.Inventory.{Inventory}
 use Rattle.pb_slots.specs.Words.{names_of_slots}
 use Rattle.pb_start.specs.Passes.{pass_view}
 use Rattle.pb_start.specs.declared.passes.Pass.{Pass}
-use Rattle.pb_world.specs.Hosts.{names_of_hosts}
+use Rattle.pb_world.specs.Hosts.{AreNamed, names_of_hosts}
 use Rattle.pb_world.specs.Variables.{host_variables}
 use Rattle.pb_core.specs.Cores.{tickets_of}
 use Rattle.pb_core.specs.Readings.{Reading}
@@ -25,7 +25,7 @@ use Rattle.pb_jobs.specs.Machines.{IsMachine, OpensAs, kept_in}
 use Rattle.pb_jobs.specs.Scenes.{IsReading}
 use Rattle.pb_jobs.specs.declared.machine.Machine.{Machine}
 use Rattle.pb_run.specs.Openings.{Opening, state_after}
-use Rattle.pb_run.specs.Recorded.{AreNamed, IsScheduled, Stands}
+use Rattle.pb_run.specs.Recorded.{IsScheduled, Stands}
 use Rattle.pb_run.proofs.Events.{with_going}
 use Rattle.pb_run.proofs.Stories.{out_at}
 

@@ -1,5 +1,5 @@
 -- The machine of a run with its history, as a state of the run.
-use Rattle.std.specs.Prelude.{◌≡◌, ◌<◌, ◌++◌, ℕ, List, [], ◌∷◌, Vec, Bool, true, false, ◌||◌, cond}
+use Rattle.std.specs.Prelude.{◌≡◌, ◌++◌, ℕ, List, [], ◌∷◌, Vec, Bool, true, false, ◌||◌, cond}
 use Rattle.std.specs.Prelude.{get_or, map, length}
 use Rattle.std.specs.declared.alloc.Global.{Global}
 use Rattle.pb_language.specs.Expression.{Name}
@@ -8,16 +8,14 @@ use Rattle.pb_language.specs.Machine.{State, empty_recap}
 use Rattle.pb_language.specs.Program as program
 use Rattle.pb_language.specs.Program.{all_batches}
 use Rattle.pb_language.specs.Theorem.{are_distinct, host_names}
-use Rattle.pb_language.specs.World.{HostVariables}
 use Rattle.pb_history.specs.Jobs.{is_out_at}
 use Rattle.pb_inventory.specs.Inventory.{inventory_view}
-use Rattle.pb_inventory.specs.Numbered.{name_of}
 use Rattle.pb_inventory.specs.declared.inventory.Inventory.{Inventory}
 use Rattle.pb_slots.specs.Words.{names_of_slots}
 use Rattle.pb_slots.specs.declared.slots.Slots.{Slots}
 use Rattle.pb_start.specs.declared.passes.Pass.{Pass}
 use Rattle.pb_finish.specs.Answers.{answer_data}
-use Rattle.pb_world.specs.Hosts.{names_of_hosts}
+use Rattle.pb_world.specs.Hosts.{AreNamed}
 use Rattle.pb_core.specs.Cores.{AreBatches, tickets_of}
 use Rattle.pb_core.specs.Hosts.{recap_view}
 use Rattle.pb_core.specs.Readings.{Reading}
@@ -61,10 +59,6 @@ slot_names m = names_of_slots m.machine.slots
 -- it is the run after its history
 abbrev pub IsRecorded : Opening → RecordedMachine → Type 0
 IsRecorded o m = Stands o (data_of m.history.items) m.machine m.is_stopped
-
--- a name for each host of these
-abbrev pub AreNamed : (ℕ → Name) → List HostVariables → Type 0
-AreNamed name hs = (k : ℕ) → k < length hs → name k ≡ name_of (names_of_hosts hs) k
 
 -- it is what that schedule is of, on these hosts, and nothing has happened yet
 pub record IsScheduled (i : Inventory) (schedule : Schedule) (forks : ℕ) (o : Opening) : Type 0

@@ -1,2 +1,2 @@
 -- The words of this crate that the contracts of others cite, from one place.
-pub use Rattle.pb_schedule.specs.Schedules.{AreNamed, program_for}
+pub use Rattle.pb_schedule.specs.Schedules.{program_for}

@@ -34,7 +34,8 @@ impl Planned {
     ghost use Rattle.pb_steps.specs.Uses.{Among};
     ghost use Rattle.pb_plan.specs.Words.{SomePlayUses};
     ghost use Rattle.pb_core.specs.Words.{AreBatches};
-    ghost use Rattle.pb_schedule.specs.Schedules.{AreNamed, program_for};
+    ghost use Rattle.pb_world.specs.Words.{AreNamed};
+    ghost use Rattle.pb_schedule.specs.Schedules.{program_for};
 
     /// That of a book that was accepted, for its inventory: the plays in the order of the book, and
     /// the batches of each, whose members are places in host order. A variable has a slot where

@@ -1,14 +1,32 @@
-use Rattle.std.proofs.Common.{subst, arith}
+use Rattle.std.proofs.Common.{subst, sym, arith}
 use Rattle.pb_run.specs.declared.event.Taken.TheVariants as taken
-use Rattle.pb_executor.specs.Drives.{TakesRun, goes_on, rests}
-use Rattle.pb_executor.proofs.Turns.{no_job, over_or_out, rests_handed, same_twice, stopped_over, taken_handed, taken_longer}
+use Rattle.pb_executor.specs.Drives.{GoesOn, TakesRun, goes_on, rests}
+use Rattle.pb_executor.proofs.Turns.{goes_nowhere, goes_taken, goes_twice, no_job, over_or_out, rests_handed, taken_handed, taken_longer}
 use Rattle.pb_executor.proofs.drive.drive.Goals as goal
 
-pub returns-in-Err-clause-stopped : goal.returns-in-Err-clause-stopped
-returns-in-Err-clause-stopped g c = stopped_over c.take.new.self c.stop.new.self c.stop.ensures
+pub loop-turn-init : goal.loop-turn-init
+loop-turn-init g c = record {
+  made = omega arith;
+  same = goes_nowhere c.args.run.now;
+  driven = λ last s more. more;
+  long = omega arith;
+  short = omega arith;
+}
 
-pub returns-in-Err-end-clause-stopped : goal.returns-in-Err-end-clause-stopped
-returns-in-Err-end-clause-stopped g c = stopped_over c.end.new.run c.stop-in-Err-end.new.self c.stop-in-Err-end.ensures
+pub returns-in-Err-clause-book : goal.returns-in-Err-clause-book
+returns-in-Err-clause-book g c =
+    let start = c.args.run.now in
+    let same = subst (GoesOn start) (sym c.in-Err.ensures.err) c.loop-turn.invariant.same in
+    goes_twice start c.take.new.self c.give_up.new.run same c.give_up.ensures.book
+
+pub returns-in-Err-end-clause-book : goal.returns-in-Err-end-clause-book
+returns-in-Err-end-clause-book g c =
+    let start = c.args.run.now in
+    let l = c.loop-turn in
+    let begun = c.take.new.self in
+    let takes = subst (λ t. TakesRun t l.run begun) c.in-Job.is c.in-Ok.ensures.taken in
+    let before = goes_twice start l.run begun l.invariant.same (goes_taken l.run begun (taken.Job c.in-Job.job) takes) in
+    goes_twice start c.end.new.run c.give_up-in-Err-end.new.run (goes_twice start begun c.end.new.run before c.in-Err-end.ensures.book) c.give_up-in-Err-end.ensures.book
 
 pub returns-in_default : goal.returns-in_default
 returns-in_default g c =
@@ -22,8 +40,7 @@ returns-in_default g c =
     record {
       driven = i.driven new l.runner (rests t free e.taken);
       ends = over_or_out l.run new t free e.taken e.idle;
-      book = same_twice c.args.run.now l.run new i.same e.taken.same;
-      stopped = tt;
+      book = goes_twice c.args.run.now l.run new i.same (goes_taken l.run new t e.taken);
       sound = e.sound;
       made = omega (arith, handed, i.made);
     }
@@ -40,7 +57,7 @@ loop-turn-preserved g c =
     let longer = taken_longer l.run begun (taken.Job j) takes in
     record {
       made = omega (arith, handed, e.made, i.made);
-      same = same_twice c.args.run.now begun c.end.new.run (same_twice c.args.run.now l.run begun i.same takes.same) e.book;
+      same = goes_twice c.args.run.now begun c.end.new.run (goes_twice c.args.run.now l.run begun i.same (goes_taken l.run begun (taken.Job j) takes)) e.book;
       driven = λ last s more. i.driven last s (goes_on j takes e.ends more);
       long = omega (arith, longer, e.longer, i.long);
       short = omega (arith, longer, i.long, c.in-Ok.ensures.few);

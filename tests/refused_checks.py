@@ -1,5 +1,5 @@
 # Each allocation refused in turn, of the program and, where they are given, of the tests that make calls by hand: the answer, or
-# want of memory by name, and nothing else: python3 tests/refused_checks.py PROGRAM [TESTS]. Where a run makes some thousands of
+# want of memory by name, and nothing else: python3 tests/refused_checks.py PROGRAM [TESTS..]. Where a run makes some thousands of
 # them, every so many-th. And each thread of a run refused in turn: want of a thread by name, and no module was started.
 import json
 import os
@@ -115,8 +115,26 @@ WANT = Outcome(3, b"", b"playcheck: want of memory\n")
 NO_THREAD = Outcome(3, b"", b"playcheck: no thread\n")
 HANGS = Outcome(-1, b"", b"it hangs")
 
-BY_HAND = ["refusals::a_refused_give_and_a_stop"]
-GIVE_REFUSED = b"give refused\n"  # what this one says
+# Of each program of tests those that make calls by hand and judge them themselves, and what each of these may say where an
+# allocation was refused; each of it has to be said of some allocation.
+BY_HAND = {
+    "pb_tests_tests": {"refusals::a_refused_give_and_a_stop": [b"give refused\n"]},
+    "pb_pool_tests_tests": {
+        "refusals::a_board_whose_calls_are_made_again": [
+            b"open refused\n",
+            b"take refused\n",
+            b"give refused\n",
+            b"give that asks again refused\n",
+        ],
+        "refused_pools::two_workers_answer_from_a_script": [b"no runners\n", b"no memory\n", b"no thread\n"],
+        "refused_pools::an_answer_that_is_refused_fails_its_task": [
+            b"no runners\n",
+            b"no memory\n",
+            b"no thread\n",
+            b"no answer\n",
+        ],
+    },
+}
 
 
 def compiler():
@@ -239,13 +257,19 @@ def program_failures(library, folder, words, answer):
     return len(seen), said
 
 
-def by_hand_failures(library, folder, tests, name):
-    """The same of a test by hand, which judges its calls itself."""
+def is_passed(tried, sayings):
+    """A test by hand says something only where an allocation was refused."""
+    stderr = tried.outcome.stderr
+    return tried.outcome.status == 0 and (not stderr or (tried.is_refused and stderr in sayings))
+
+
+def by_hand_failures(library, folder, tests, name, sayings):
+    """The same of a test by hand."""
     seen = outcomes(library, folder, [tests, name])
-    said = [f"refused-{number} {name}\n  got: {it.outcome}" for number, it in seen if it.outcome.status != 0]
+    said = [f"refused-{number} {name}\n  got: {it.outcome}" for number, it in seen if not is_passed(it, sayings)]
     said += [f"refused {name}\n  {text}" for text in seldom_refused(seen)]
-    if name == BY_HAND[0] and not any(tried.outcome.stderr == GIVE_REFUSED for _, tried in seen):
-        said.append(f"refused {name}\n  never: a give that is refused")
+    found = {tried.outcome.stderr for _, tried in seen}
+    said += [f"refused {name}\n  never: {text}" for text in sayings if text not in found]
     return len(seen), said
 
 
@@ -278,7 +302,7 @@ def thread_failures(library, folder, program):
     return len(tried), [text for each in tried for text in threads_refused(library, folder, program, *each)]
 
 
-def refused_failures(program, tests):
+def refused_failures(program, programs_of_tests):
     """Of all of these: how many were tried, and what is to be said."""
     with tempfile.TemporaryDirectory() as folder:
         write_files(folder, FILES)
@@ -291,13 +315,15 @@ def refused_failures(program, tests):
             *(program_failures(library, folder, [program, *words], outcome) for words, outcome in runs()),
             thread_failures(library, folder, program),
         ]
-        counts += [by_hand_failures(library, folder, tests, name) for name in BY_HAND] if tests else []
+        for tests in programs_of_tests:
+            by_hand = BY_HAND[os.path.basename(tests)]
+            counts += [by_hand_failures(library, folder, tests, *each) for each in by_hand.items()]
     return sum(count for count, _ in counts), [text for _, texts in counts for text in texts]
 
 
 def main():
     program, *tests = map(os.path.abspath, sys.argv[1:])
-    tried, failures = refused_failures(program, tests[0] if tests else None)
+    tried, failures = refused_failures(program, tests)
     for said in failures[:SHOWN]:
         print(f"FAILED: {said}")
     if len(failures) > SHOWN:

@@ -43,6 +43,15 @@ CanCount of made = (opened : ℕ) (r : RunState) → IsRuled of opened r
 abbrev pub CanGoOn : OpeningRule → ℕ → ℕ → Type 0
 CanGoOn of made handed = (n : ℕ) × CanCount of n × (made ≤ n + handed)
 
+-- what the workers of a pool add up to
+pub record Totals : Type 0 where
+  -- how many they are
+  pub workers : ℕ
+  -- calls that they made
+  pub made : ℕ
+  -- calls that their seats were handed
+  pub handed : ℕ
+
 -- the run is over, and the board kept it while so many calls were handed out and so many jobs
 -- answered
 pub record IsPooled (of : OpeningRule) (told : AnswerRule) (r : RunState) : Type 0 where

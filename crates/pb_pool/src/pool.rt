@@ -12,11 +12,12 @@ use crate::board::Board;
 use crate::fault::PoolFault;
 use crate::rule::Rule;
 use crate::seat::Seat;
-use crate::threads::{Shortage, work_all};
+use crate::threads::{Crew, Shortage, work_all};
 use crate::worker::Worker;
 use pb_executor::Run;
 use pb_runner::Runner;
 use std::alloc::{AllocError, Global};
+use std::marker::PhantomData;
 use std::sync::Wait;
 use std::sync::ledger::Ledger;
 use std::thread::Threads;
@@ -26,20 +27,18 @@ fn paired<C: Ledger, G: Ledger, P: Rule, W: Runner + Drop>(
     alloc: Global,
     seats: &mut Vec<Seat<C, G>>,
     runners: &mut Vec<W>,
-) -> Result<Vec<Worker<C, G, W>>, AllocError>
+) -> Result<Crew<C, G, P, W>, AllocError>
     requires same { vec_len seats.old ≡ vec_len runners.old }
     requires told { All (MayAnswer W.answers W.short P.of P.told) runners.old.items }
+    requires few { CanCount P.of (sum_by W.calls runners.old.items) }
     ensures empty { OnOk result ((vec_len seats.new ≡ 0) × (vec_len runners.new ≡ 0)) }
-    ensures room { IfOk result (λ ws. (vec_len ws ≡ vec_len seats.old)
-        × (vec_len ws ≤ vec_capacity seats.new) × (vec_len ws ≤ vec_capacity runners.new)) }
-    ensures handed { IfOk result
-        (λ ws. sum_by (λ w. w.seat.handed) ws.items ≡ handed_sum seats.old.items) }
-    ensures made { IfOk result
-        (λ ws. sum_by (λ w. W.calls w.runner) ws.items ≡ sum_by W.calls runners.old.items) }
-    ensures told { IfOk result
-        (λ ws. All (λ w. MayAnswer W.answers W.short P.of P.told w.runner) ws.items) }
+    ensures room { IfOk result (λ c. (c.workers ≡ vec_len seats.old)
+        × (c.workers ≤ vec_capacity seats.new) × (c.workers ≤ vec_capacity runners.new)) }
+    ensures handed { IfOk result (λ c. c.handed ≡ handed_sum seats.old.items) }
+    ensures made { IfOk result (λ c. c.made ≡ sum_by W.calls runners.old.items) }
     ensures err { OnErr result (seats.new ≡ seats.old) }
 {
+    let threads = Vec::with_capacity(alloc, seats.len())?;
     let mut workers = Vec::with_capacity(alloc, seats.len())?;
     while let Some(seat) = seats.pop() {
         let Some(runner) = runners.pop() else {
@@ -51,7 +50,11 @@ fn paired<C: Ledger, G: Ledger, P: Rule, W: Runner + Drop>(
             is_short: false,
         });
     }
-    Ok(workers)
+    Ok(Crew {
+        workers,
+        threads,
+        rule: PhantomData,
+    })
 }
 
 // The seats and the runners of the workers.
@@ -110,15 +113,11 @@ where
 {
     let mut seats = seats;
     let mut runners = runners;
-    let Ok(threads) = Vec::with_capacity(alloc, seats.len()) else {
+    let Ok(crew) = paired(alloc, &mut seats, &mut runners) else {
         drop(runners);
         return Err(PoolFault::NoMemory(Some(closed(board, seats))));
     };
-    let Ok(workers) = paired::<C, G, P, W>(alloc, &mut seats, &mut runners) else {
-        drop(runners);
-        return Err(PoolFault::NoMemory(Some(closed(board, seats))));
-    };
-    let (workers, want) = work_all(rt, &board, workers, threads);
+    let (workers, want) = work_all(rt, &board, crew);
     parted(workers, &mut seats, &mut runners);
     let run = closed(board, seats);
     let Some(want) = want else {

@@ -1,5 +1,5 @@
 // A thread for each worker of a pool.
-ghost use Rattle.std.specs.Prelude.{◌+◌, ◌≡◌, ◌≤◌, All, None, false, sum_by, true, vec_capacity};
+ghost use Rattle.std.specs.Prelude.{◌+◌, ◌≡◌, ◌≤◌, None, false, sum_by, true, vec_capacity};
 ghost use Rattle.std.specs.Prelude.{vec_len};
 ghost use Rattle.pb_pool.specs.Pools.{CanCount, MayAnswer};
 
@@ -7,6 +7,7 @@ use crate::board::Board;
 use crate::rule::Rule;
 use crate::worker::{Worker, work};
 use pb_runner::Runner;
+use std::marker::{Model, PhantomData};
 use std::snapshot::Snapshot;
 use std::sync::Wait;
 use std::sync::ledger::Ledger;
@@ -37,13 +38,39 @@ impl<C: Ledger, G: Ledger, W: Runner> Promise<Worker<C, G, W>> for WorkerPromise
 
 pub(crate) type WorkerThread<C, G, W> = PromisedHandle<Worker<C, G, W>, WorkerPromise<C, G, W>>;
 
+// Workers, and room for the thread of each. What they answer is allowed, and they can count the
+// calls of any run that the rule allows. Contracts see what they add up to.
+#[derive(Drop)]
+pub(crate) struct Crew<C: Ledger, G: Ledger, P: Rule, W: Runner> {
+    pub(crate) workers: Vec<Worker<C, G, W>>,
+    pub(crate) threads: Vec<WorkerThread<C, G, W>>,
+    pub(crate) rule: PhantomData<P>,
+}
+
+impl<C: Ledger, G: Ledger, P: Rule, W: Runner> Model for Crew<C, G, P, W> {
+    ghost use Rattle.std.specs.Prelude.{◌≡◌, ◌≤◌, All, sum_by, vec_capacity, vec_len};
+    ghost use Rattle.pb_pool.specs.Pools.{CanCount, MayAnswer, Totals};
+
+    ghost Value = { Totals };
+
+    ghost view = { λ a. record {
+      workers = vec_len a.workers;
+      made = sum_by (λ w. W.calls w.runner) a.workers.items;
+      handed = sum_by (λ w. w.seat.handed) a.workers.items;
+    } };
+
+    ghost invariant = { λ a. (vec_len a.threads ≡ 0)
+        × (vec_len a.workers ≤ vec_capacity a.threads)
+        × All (λ w. MayAnswer W.answers W.short P.of P.told w.runner) a.workers.items
+        × CanCount P.of (sum_by (λ w. W.calls w.runner) a.workers.items) };
+}
+
 // Has each worker work in a thread of its own, and joins them all. They begin once all threads are
 // there; where one can't be made, nothing happens but that the run is stopped.
 pub(crate) fn work_all<C, G, P, W, R>(
     rt: &R,
     board: &Board<'_, C, G, P>,
-    workers: Vec<Worker<C, G, W>>,
-    threads: Vec<WorkerThread<C, G, W>>,
+    crew: Crew<C, G, P, W>,
 ) -> (Vec<Worker<C, G, W>>, Option<Shortage>)
 where
     C: Ledger + Send + Sync,
@@ -51,30 +78,20 @@ where
     P: Rule + Send + Sync,
     W: Runner + Send + Drop,
     R: Threads + Wait + Sync,
-    requires room { (vec_len threads ≡ 0) × (vec_len workers ≤ vec_capacity threads) }
-    requires told { All (λ w. MayAnswer W.answers W.short P.of P.told w.runner) workers.items }
-    requires few { CanCount P.of (sum_by (λ w. W.calls w.runner) workers.items) }
-    ensures all { vec_len result.0 ≡ vec_len workers }
+    ensures all { vec_len result.0 ≡ crew.workers }
     ensures made { result.1 ≡ None
-        → sum_by (λ w. W.calls w.runner) result.0.items
-        + sum_by (λ w. w.seat.handed) workers.items
-        ≡ sum_by (λ w. W.calls w.runner) workers.items
-        + sum_by (λ w. w.seat.handed) result.0.items }
+        → sum_by (λ w. W.calls w.runner) result.0.items + crew.handed
+        ≡ crew.made + sum_by (λ w. w.seat.handed) result.0.items }
 {
     thread::scope(
         thread::scope_env(),
         rt,
         move |scope| -> (Vec<Worker<C, G, W>>, Option<Shortage>)
-            requires { (vec_len threads ≡ 0) × (vec_len workers ≤ vec_capacity threads)
-                × All (λ w. MayAnswer W.answers W.short P.of P.told w.runner) workers.items
-                × CanCount P.of (sum_by (λ w. W.calls w.runner) workers.items) }
-            ensures { (vec_len result.0 ≡ vec_len workers)
+            ensures { (vec_len result.0 ≡ crew.workers)
                 × (result.1 ≡ None
-                → sum_by (λ w. W.calls w.runner) result.0.items
-                + sum_by (λ w. w.seat.handed) workers.items
-                ≡ sum_by (λ w. W.calls w.runner) workers.items
-                + sum_by (λ w. w.seat.handed) result.0.items) }
-        { work_in(scope, rt, board, workers, threads) },
+                → sum_by (λ w. W.calls w.runner) result.0.items + crew.handed
+                ≡ crew.made + sum_by (λ w. w.seat.handed) result.0.items) }
+        { work_in(scope, rt, board, crew) },
     )
 }
 
@@ -83,8 +100,7 @@ fn work_in<'s, E, C, G, P, W, R>(
     scope: &Scope<'s, E>,
     rt: &'s R,
     board: &'s Board<'_, C, G, P>,
-    workers: Vec<Worker<C, G, W>>,
-    threads: Vec<WorkerThread<C, G, W>>,
+    crew: Crew<C, G, P, W>,
 ) -> (Vec<Worker<C, G, W>>, Option<Shortage>)
 where
     C: Ledger + Send + Sync,
@@ -92,19 +108,12 @@ where
     P: Rule + Send + Sync,
     W: Runner + Send + Drop + 's,
     R: Threads + Wait + Sync,
-    requires room { (vec_len threads ≡ 0) × (vec_len workers ≤ vec_capacity threads) }
-    requires told { All (λ w. MayAnswer W.answers W.short P.of P.told w.runner) workers.items }
-    requires few { CanCount P.of (sum_by (λ w. W.calls w.runner) workers.items) }
-    ensures all { vec_len result.0 ≡ vec_len workers }
+    ensures all { vec_len result.0 ≡ crew.workers }
     ensures made { result.1 ≡ None
-        → sum_by (λ w. W.calls w.runner) result.0.items
-        + sum_by (λ w. w.seat.handed) workers.items
-        ≡ sum_by (λ w. W.calls w.runner) workers.items
-        + sum_by (λ w. w.seat.handed) result.0.items }
+        → sum_by (λ w. W.calls w.runner) result.0.items + crew.handed
+        ≡ crew.made + sum_by (λ w. w.seat.handed) result.0.items }
 {
-    let mut workers = workers;
-    let mut threads = threads;
-    let is_manned = start_all(scope, rt, board, &mut workers, &mut threads);
+    let (mut workers, threads, is_manned) = start_all(scope, rt, board, crew);
     let is_whole = join_all(rt, threads, &mut workers);
     if !is_manned {
         return (workers, Some(Shortage::Thread));
@@ -115,33 +124,33 @@ where
     (workers, None)
 }
 
-// Starts a thread for each worker, holding the run meanwhile. Where one can't be made, its worker
-// and those that are left stay, the run is stopped, and the answer is false.
+// Starts a thread for each worker, holding the run meanwhile: the workers that are left, with room
+// for all, and the threads. Where one can't be made, its worker and those that are left stay, the
+// run is stopped, and the answer is false.
 fn start_all<'s, E, C, G, P, W, R>(
     scope: &Scope<'s, E>,
     rt: &'s R,
     board: &'s Board<'_, C, G, P>,
-    workers: &mut Vec<Worker<C, G, W>>,
-    threads: &mut Vec<WorkerThread<C, G, W>>,
-) -> bool
+    crew: Crew<C, G, P, W>,
+) -> (Vec<Worker<C, G, W>>, Vec<WorkerThread<C, G, W>>, bool)
 where
     C: Ledger + Send + Sync,
     G: Ledger + Send + Sync,
     P: Rule + Send + Sync,
     W: Runner + Send + Drop + 's,
     R: Threads + Wait + Sync,
-    requires room { (vec_len threads.old ≡ 0) × (vec_len workers.old ≤ vec_capacity threads.old) }
-    requires told { All (λ w. MayAnswer W.answers W.short P.of P.told w.runner) workers.old.items }
-    requires few { CanCount P.of (sum_by (λ w. W.calls w.runner) workers.old.items) }
-    ensures all { (vec_len workers.new + vec_len threads.new ≡ vec_len workers.old)
-        × (vec_capacity workers.new ≡ vec_capacity workers.old) }
-    ensures none { result ≡ true → vec_len workers.new ≡ 0 }
-    ensures began { result ≡ true
-        → (sum_by (λ t. W.calls t.promise.worker.value.runner) threads.new.items
-        ≡ sum_by (λ w. W.calls w.runner) workers.old.items)
-        × (sum_by (λ t. t.promise.worker.value.seat.handed) threads.new.items
-        ≡ sum_by (λ w. w.seat.handed) workers.old.items) }
+    ensures all { (vec_len result.0 + vec_len result.1 ≡ crew.workers)
+        × (crew.workers ≤ vec_capacity result.0) }
+    ensures none { result.2 ≡ true → vec_len result.0 ≡ 0 }
+    ensures began { result.2 ≡ true
+        → (sum_by (λ t. W.calls t.promise.worker.value.runner) result.1.items ≡ crew.made)
+        × (sum_by (λ t. t.promise.worker.value.seat.handed) result.1.items ≡ crew.handed) }
 {
+    let Crew {
+        mut workers,
+        mut threads,
+        rule: _,
+    } = crew;
     let mut held = board.hold(rt);
     while let Some(worker) = workers.pop() {
         let begun = WorkerPromise {
@@ -161,11 +170,11 @@ where
                 drop(held);
                 // It finds the run stopped.
                 workers.push_reserved((refused.value)());
-                return false;
+                return (workers, threads, false);
             }
         }
     }
-    true
+    (workers, threads, true)
 }
 
 // Joins all threads; false where memory ran short for one of the workers.

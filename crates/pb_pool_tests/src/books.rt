@@ -28,6 +28,11 @@ pub fn checked_for(alloc: Global, book: &[u8], inventory: &[u8]) -> Option<Check
     verify(alloc, book, inventory, registry).ok()
 }
 
+/// The same, asked a second time where memory was refused the first time.
+pub fn checked_again(alloc: Global, book: &[u8], inventory: &[u8]) -> Option<Checked> {
+    checked_for(alloc, book, inventory).or_else(|| checked_for(alloc, book, inventory))
+}
+
 pub fn job_of(taken: Taken) -> Result<Job, &'static str> {
     match taken {
         Taken::Job(job) => Ok(job),

@@ -13,6 +13,10 @@ mod gates;
 #[cfg(test)]
 mod programs;
 #[cfg(test)]
+mod refusals;
+#[cfg(test)]
+mod refused_pools;
+#[cfg(test)]
 mod stops;
 #[cfg(test)]
 mod untils;

@@ -17,14 +17,14 @@ use std::sync::Wait;
 use std::sync::ledger::{Blank, Ledger};
 use std::test::Fail;
 
-// A command that is asked until it says 0.
-const ASKED_AGAIN: &[u8] =
+/// A command that is asked until it says 0.
+pub const ASKED_AGAIN: &[u8] =
     b"[{\"hosts\":\"all\",\"tasks\":[{\"command\":\"x\",\"register\":\"r\",\"until\":\"r.rc == 0\"}]}]";
 
-const NOT_YET: &[u8] =
+pub const NOT_YET: &[u8] =
     b"{\"changed\":true,\"rc\":1,\"stdout\":\"\",\"stderr\":\"\",\"stdout_lines\":[],\"stderr_lines\":[]}";
 
-const NOW: &[u8] =
+pub const NOW: &[u8] =
     b"{\"changed\":true,\"rc\":0,\"stdout\":\"\",\"stderr\":\"\",\"stdout_lines\":[],\"stderr_lines\":[]}";
 
 // The job that makes the calls again.
@@ -91,7 +91,8 @@ fn are_asked_again(events: &[Event]) -> bool {
         && matches!(events[5], Event::Turn)
 }
 
-fn told_of(run: &Run<'_>) -> (bool, Told, Told) {
+/// Whether the run's events are these, and what is told of both hosts.
+pub fn told_of(run: &Run<'_>) -> (bool, Told, Told) {
     (are_asked_again(run.history()), told(run, 0), told(run, 1))
 }
 

@@ -8,7 +8,7 @@ use Rattle.std.proofs.sync.ledger.Book.TheSendSync as book
 use Rattle.std.proofs.sync.ledger.Share.TheSendSync as share
 use denote.Param.Send.{sendable}
 use Rattle.pb_crossing.proofs.RunsCross as runs
-use Rattle.pb_pool.specs.Pools.{CanCount, MayAnswer}
+use Rattle.pb_pool.specs.Pools.{CanCount, MayAnswer, Totals}
 use Rattle.pb_pool.proofs.threads.start_all.Goals as goal
 
 pub spawn_with-requires-send-F : goal.spawn_with-requires-send-F
@@ -28,11 +28,12 @@ spawn_with-requires-clause-runs g c κs within =
     let l = c.loop-worker in
     let calls = g.W.Runner.calls in
     let may = MayAnswer g.W.Runner.answers g.W.Runner.short g.P.Rule.of g.P.Rule.told in
+    let counted = ap (λ (s : Totals). s.made) c.crew.view_is in
     let left = c.pop.new.self.items in
     let split = All-pop (λ w. may w.runner) l.workers.items left c.pop.result c.pop.ensures.items l.invariant.told in
     let popped = ap (sum_by (λ w. calls w.runner)) c.pop.ensures.items ∙ ap (λ o. sum_by (λ w. calls w.runner) (left ++ option_to_list o)) c.in-Some.is ∙ sum_by_push (λ w. calls w.runner) left c.in-Some.worker in (
       subst (λ o. IfSome o (λ w. may w.runner)) c.in-Some.is split.1,
-      λ opened r ruled. let room = c.requires.few opened r ruled in omega (arith, l.invariant.made, popped, room),
+      λ opened r ruled. let room = c.crew.invariant.3 opened r ruled in omega (arith, l.invariant.made, counted, popped, room),
     )
 
 pub part-requires : goal.part-requires
@@ -40,13 +41,14 @@ part-requires g c κs within =
     let l = c.loop-worker in
     let calls = g.W.Runner.calls in
     let may = MayAnswer g.W.Runner.answers g.W.Runner.short g.P.Rule.of g.P.Rule.told in
+    let counted = ap (λ (s : Totals). s.made) c.crew.view_is in
     let left = c.pop.new.self.items in
     let split = All-pop (λ w. may w.runner) l.workers.items left c.pop.result c.pop.ensures.items l.invariant.told in
     let popped = ap (sum_by (λ w. calls w.runner)) c.pop.ensures.items ∙ ap (λ o. sum_by (λ w. calls w.runner) (left ++ option_to_list o)) c.in-Some.is ∙ sum_by_push (λ w. calls w.runner) left c.in-Some.worker in
     let told = subst (λ o. IfSome o (λ w. may w.runner)) c.in-Some.is split.1 in
     let same : c.in-Err.refused.value.2 ≡ c.in-Some.worker = ap (λ f. f.2) c.in-Err.ensures.err in (
       search rules,
-      (search rules, (search rules, (search rules, (search rules, subst (λ w. may w.runner × CanCount g.P.Rule.of (calls w.runner)) (sym same) (told, λ opened r ruled. let room = c.requires.few opened r ruled in omega (arith, l.invariant.made, popped, room)))))),
+      (search rules, (search rules, (search rules, (search rules, subst (λ w. may w.runner × CanCount g.P.Rule.of (calls w.runner)) (sym same) (told, λ opened r ruled. let room = c.crew.invariant.3 opened r ruled in omega (arith, l.invariant.made, counted, popped, room)))))),
     )
 
 pub loop-worker-preserved : goal.loop-worker-preserved

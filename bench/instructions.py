@@ -1,4 +1,4 @@
-# Compares the instructions of three checks with those that bench/instructions lists: python3 bench/instructions.py [PROGRAM].
+# Compares the instructions of four checks with those that bench/instructions lists: python3 bench/instructions.py [PROGRAM].
 # With --record it writes the list anew.
 import sys
 import tempfile
@@ -7,7 +7,7 @@ from pathlib import Path
 sys.dont_write_bytecode = True
 
 from measure import instructions, program_of
-from verdicts import CLASSES, HOSTS, TASKS, check
+from verdicts import CLASSES, GROUPS, HOSTS, TASKS, book, check, with_another
 
 LIST = Path(__file__).with_name("instructions")
 MOST_CHANGE = 0.1  # of what is listed, more or less
@@ -18,6 +18,7 @@ def checks(program, folder):
         "one host": check(program, folder, "one", TASKS, 1),
         "hosts that look alike": check(program, folder, "alike", TASKS, HOSTS),
         "hosts in classes": check(program, folder, "classes", TASKS, HOSTS, CLASSES),
+        "hosts of which a text reads another": check(program, folder, "others", TASKS, GROUPS, 1, with_another(book(TASKS))),
     }
 
 

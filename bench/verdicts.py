@@ -146,10 +146,10 @@ def large(program, folder):
 
 
 def apart(program, folder):
-    shared = with_another(book(most_tasks()))
+    rest = most_tasks() - 1
     return {
         "apart": check(program, folder, "apart", most_tasks(), MOST_HOSTS, MOST_HOSTS),
-        "others": check(program, folder, "others", most_tasks(), MOST_HOSTS, 1, shared),
+        "others": check(program, folder, "others", rest, MOST_HOSTS, 1, with_another(book(rest))),
     }
 
 

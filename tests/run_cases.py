@@ -1,5 +1,6 @@
-# Runs the cases of tests/cases, the refusals of refusals.jsonl, the books of forks.jsonl, the hosts of alike.jsonl, the
-# worked rows of tests/semantics, and the checks of program_checks.py: python3 tests/run_cases.py [PROGRAM]
+# Runs the cases of tests/cases, the refusals of refusals.jsonl, the books of forks.jsonl, the hosts of alike.jsonl, the texts
+# of others.jsonl, the worked rows of tests/semantics, and the checks of program_checks.py:
+# python3 tests/run_cases.py [PROGRAM]
 import json
 import os
 import sys
@@ -39,7 +40,7 @@ def check_of(case):
 
 
 def cases():
-    others = ["refusals.jsonl", "forks.jsonl", "alike.jsonl", "semantics/rows.jsonl"]
+    others = ["refusals.jsonl", "forks.jsonl", "alike.jsonl", "others.jsonl", "semantics/rows.jsonl"]
     for path in [*sorted((TESTS / "cases").glob("*.jsonl")), *(TESTS / name for name in others)]:
         with open(path, encoding="utf-8") as lines:
             for line in lines:

@@ -3,6 +3,7 @@ pub mod Named
 pub mod Keys
 pub mod Grouped
 pub mod HostAt
+pub mod Based
 pub mod Listed
 pub mod Apart
 pub mod Groups

@@ -36,9 +36,13 @@ groups_above ds (suc k) =
 abbrev pub by_depth : List ℕ → List ℕ
 by_depth ds = groups_above ds (suc (length ds))
 
+-- the layers of the groups of these numbers
+abbrev pub picked : List ℕ → List Fields → List Fields
+picked is ls = map (λ i. get_or ls i no_fields) is
+
 -- the layers of those among the groups
 abbrev pub layers_where : (ℕ → Bool) → List ℕ → List Fields → List Fields
-layers_where f is ls = map (λ i. get_or ls i no_fields) (filter f is)
+layers_where f is ls = picked (filter f is) ls
 
 abbrev pub layer_views : List (Arc (BTreeMap (String Global) Value) Global) → List Fields
 layer_views ls = map (λ layer. fields_view layer.value.entries) ls

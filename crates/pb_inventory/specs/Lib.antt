@@ -12,3 +12,4 @@ pub mod Tables
 pub mod Words
 pub mod HostGroups
 pub mod Patterns
+pub mod Once

@@ -5,9 +5,10 @@ use Rattle.pb_semantics.specs.Data.{Fields}
 use Rattle.pb_language.specs.Expression.{Name}
 use Rattle.pb_language.specs.Written.{Document}
 use Rattle.pb_inventory.specs.Documents.{names_view}
-use Rattle.pb_inventory.specs.HostGroups.{by_depth, flags_of, layer_views, row_of}
+use Rattle.pb_inventory.specs.HostGroups.{by_depth, flags_of, layer_views, picked, row_of}
 use Rattle.pb_inventory.specs.Numbered.{AreFamilies}
 use Rattle.pb_inventory.specs.declared.assembly.Table.{Table}
+use Rattle.pb_inventory.specs.declared.bases.Base.{Base}
 
 -- of groups with these names, layers, members and depths, and of so many hosts
 pub record IsTable (t : Table) (ns : List Name) (ls : List Fields) (ms : List (List ℕ))
@@ -31,3 +32,7 @@ pub record HaveMembers (ns : List Name) (ms : List (List ℕ))
     (gs : List (String Global × Vec ℕ Global)) : Type 0 where
   pub names : map (λ g. string_bytes g.0) gs ≡ ns
   pub members : map (λ g. g.1.items) gs ≡ ms
+
+-- the layers of its groups
+abbrev pub IsBase : Table → Base → Type 0
+IsBase t b = layer_views b.layers.items ≡ picked b.groups.items (layer_views t.layers.items)

@@ -1,35 +1,39 @@
 // The hosts of an inventory with what they have of their groups.
 ghost use Rattle.std.specs.Prelude.{◌<◌, ◌≡◌, IfOk, length, map};
 ghost use Rattle.std.specs.List.{All};
+ghost use Rattle.pb_semantics.specs.Data.{Fields as DataFields};
 ghost use Rattle.pb_language.specs.Families.{groups_of};
 ghost use Rattle.pb_language.specs.Inventories.{host_variables, overlaid};
 ghost use Rattle.pb_language.specs.Program.{memberships_of};
 ghost use Rattle.pb_inventory.specs.Documents.{document_view, key_names, names_view, own_view};
 ghost use Rattle.pb_inventory.specs.Families.{lists_of};
-ghost use Rattle.pb_inventory.specs.HostGroups.{by_depth, flag_at, flags_of, layer_views};
-ghost use Rattle.pb_inventory.specs.HostGroups.{layers_where, names_where, row_of};
+ghost use Rattle.pb_inventory.specs.HostGroups.{flag_at, layer_views, names_where};
 ghost use Rattle.pb_inventory.specs.Tables.{IsTable, IsTableOf};
-ghost use Rattle.pb_inventory.specs.Views.{host_view, kept_groups, layered};
+ghost use Rattle.pb_inventory.specs.Views.{AreBased, base_lists, host_view, kept_groups, laid};
+ghost use Rattle.pb_inventory.specs.Views.{layered};
+ghost use Rattle.pb_value.specs.Words.{fields_view};
 
+use crate::bases::{Base, base_of};
 use crate::document::Document;
 use crate::group_layers::hostvars_of;
 use crate::inventory::Host;
-use crate::layers::{add_layer, depth_order, layers_of, member_rows, names_of};
+use crate::layers::{add_layer, depth_order, member_rows, names_of, shared_layers};
 use crate::variables::layer_of;
 use indexmap::{IndexMap, IndexSet};
 use pb_value::Fields;
 use std::alloc::{AllocError, Global};
+use std::collections::BTreeMap;
 use std::sync::Arc;
 
 // What hosts have of their groups, by the groups' numbers.
 #[derive(Drop)]
 pub(crate) struct Table {
-    names: Vec<Arc<String>>,
-    layers: Vec<Arc<Fields>>,
+    pub(crate) names: Vec<Arc<String>>,
+    pub(crate) layers: Vec<Arc<Fields>>,
     // Of each group, which of the hosts it has.
-    rows: Vec<Vec<bool>>,
+    pub(crate) rows: Vec<Vec<bool>>,
     // The groups by their depths.
-    order: Vec<usize>,
+    pub(crate) order: Vec<usize>,
 }
 
 // The table of groups with these names, layers, members and depths.
@@ -62,54 +66,80 @@ fn shared_names(alloc: Global, names: &IndexSet<String>) -> Result<Vec<Arc<Strin
     Ok(shared)
 }
 
-// The hosts in host order, each with the names of its groups and the layers of its variables.
+// The hosts in host order, each with the names of its groups and the layers of its variables, and
+// the lists of layers that their groups give them.
 pub(crate) fn known_hosts(
     alloc: Global,
     document: &Document,
     hosts: &IndexSet<String>,
     table: &Table,
-) -> Result<IndexMap<String, Host>, AllocError>
+) -> Result<(IndexMap<String, Host>, Vec<Base>), AllocError>
     requires { IsTableOf table.now (document_view document.now) (key_names hosts.now.keys) }
-    ensures hosts { IfOk result (λ known. map host_view known.entries
+    ensures hosts { IfOk result (λ known. map host_view known.0.entries
         ≡ map (host_variables (document_view document.now)) (key_names hosts.now.keys)) }
-    ensures groups { IfOk result (λ known. kept_groups known.entries
+    ensures groups { IfOk result (λ known. kept_groups known.0.entries
         ≡ map (λ n. memberships_of n (groups_of (document_view document.now).groups))
         (key_names hosts.now.keys)) }
+    ensures based { IfOk result (λ known. AreBased (base_lists known.1.items) known.0.entries) }
 {
     let mut known = IndexMap::with_capacity(alloc, hosts.len())?;
+    let mut bases = Vec::new(alloc);
+    let mut places = BTreeMap::new(alloc);
     let names = hosts.as_slice();
     for place in 0..names.len() {
         let name = names[place].as_str();
-        let host = known_host(alloc, table, place, hostvars_of(&document.hostvars, name))?;
-        let _ = known.insert(String::from_str(alloc, name)?, host)?;
+        let base = base_of(alloc, table, &mut bases, &mut places, place)?;
+        let own = own_layer(alloc, hostvars_of(&document.hostvars, name))?;
+        let host = known_host(
+            alloc,
+            table,
+            place,
+            base,
+            bases[base].layers.as_slice(),
+            own,
+        )?;
+        drop(known.insert(String::from_str(alloc, name)?, host)?);
     }
-    Ok(known)
+    Ok((known, bases))
 }
 
-// What is known of the host at that place, of which that is said besides.
+// What is said of a host besides its groups, as it may be read.
+fn own_layer(alloc: Global, own: Option<&Fields>) -> Result<Fields, AllocError>
+    ensures { IfOk result (λ layer. (vs : DataFields)
+        → laid vs (fields_view layer.entries) ≡ overlaid vs (own_view own.entry)) }
+{
+    match own {
+        None => Ok(Fields::new(alloc)),
+        Some(fields) => layer_of(alloc, fields),
+    }
+}
+
+// The host at that place, which has the layers of the base of that number, and its own over them.
 fn known_host(
     alloc: Global,
     table: &Table,
     host: usize,
-    own: Option<&Fields>,
+    base: usize,
+    given: &[Arc<Fields>],
+    own: Fields,
 ) -> Result<Host, AllocError>
     requires names { length table.now.names.items ≡ length table.now.rows.items }
-    requires layers { length table.now.rows.items ≡ length table.now.layers.items }
-    requires order { All (λ i. i < length table.now.layers.items) table.now.order.items }
     requires wide { All (λ row. host < length row.items) table.now.rows.items }
     ensures groups { IfOk result (λ known. names_view known.groups.items
         ≡ names_where (flag_at table.now.rows.items host) (names_view table.now.names.items)) }
+    ensures base { IfOk result (λ known. known.base ≡ base) }
+    ensures own { IfOk result (λ known. known.own.value ≡ own) }
     ensures layers { IfOk result (λ known. layered (layer_views known.layers.items)
-        ≡ overlaid (layered (layers_where (flag_at table.now.rows.items host)
-        table.now.order.items (layer_views table.now.layers.items))) (own_view own.entry)) }
+        ≡ laid (layered (layer_views given.now)) (fields_view own.entries)) }
 {
-    let rows = table.rows.as_slice();
-    let groups = names_of(alloc, table.names.as_slice(), rows, host)?;
-    let order = table.order.as_slice();
-    let mut layers = layers_of(alloc, table.layers.as_slice(), rows, order, host)?;
-    if let Some(own) = own {
-        let layer = Arc::new(alloc, layer_of(alloc, own)?)?;
-        add_layer(&mut layers, &layer)?;
-    }
-    Ok(Host { groups, layers })
+    let groups = names_of(alloc, table.names.as_slice(), table.rows.as_slice(), host)?;
+    let own = Arc::new(alloc, own)?;
+    let mut layers = shared_layers(alloc, given)?;
+    add_layer(&mut layers, &own)?;
+    Ok(Host {
+        groups,
+        base,
+        layers,
+        own,
+    })
 }

@@ -111,9 +111,9 @@ fn put_together(
     let layers = group_layers(alloc, groups, names)?;
     let given = members.as_slice();
     let table = table_of(alloc, names, layers, given, depths.as_slice(), hosts.len())?;
-    let known = known_hosts(alloc, document, hosts, &table)?;
+    let (known, bases) = known_hosts(alloc, document, hosts, &table)?;
     let placed = placed_groups(alloc, names, hosts, members)?;
-    Ok(Inventory::of_parts(known, placed))
+    Ok(Inventory::of_parts(known, placed, bases))
 }
 
 // The members of each group by its name.

@@ -10,6 +10,7 @@
 #![tactic(auto)]
 
 mod assembly;
+mod bases;
 mod build;
 mod document;
 mod family;

@@ -1,5 +1,5 @@
 -- What is known of layers of variables, one over the other.
-use Rattle.std.proofs.Common.{◌≡◌, ℕ, ◌≤◌, List, [], ◌∷◌, length, drop, true, Bool, false, cond, bytes_eq, Option, Some, None, option_map, slice_get, String, Global, BTreeMap, refl, sym, ap, ◌∙◌}
+use Rattle.std.proofs.Common.{◌≡◌, ℕ, ◌≤◌, List, [], ◌∷◌, length, drop, true, Bool, false, cond, bytes_eq, Option, Some, None, String, Global, BTreeMap, refl, sym, ap, ◌∙◌}
 use Rattle.std.specs.List.{fold}
 use Rattle.std.specs.declared.sync.Arc.{Arc}
 use Rattle.std.proofs.lemmas.List.{drop_all}
@@ -10,7 +10,6 @@ use Rattle.pb_language.specs.Expression.{Name}
 use Rattle.pb_language.specs.Kinds.{known_kind, known_slots}
 use Rattle.pb_language.proofs.GivenFields.{at_put_field}
 use Rattle.pb_language.proofs.WithSlot.{at_with}
-use Rattle.pb_language.specs.World.{HostVariables}
 use Rattle.pb_value.specs.declared.value.Value.{Value}
 use Rattle.pb_inventory.specs.HostGroups.{layer_views}
 use Rattle.pb_inventory.specs.Views.{laid, layered}
@@ -44,7 +43,7 @@ known_put n d fs =
           at_known p (put_field n d fs) ∙ ap spot_of (at_put_field p n d fs) ∙ sym (spot_chosen (bytes_eq p n) d (field_value p fs))
           ∙ ap (cond (bytes_eq p n) (spot true (known_kind d))) (sym (at_known p fs)) ∙ sym (at_put p n true (known_kind d) (known_slots fs))
 
-known_laid : (vs fs : Fields) → known_slots (laid vs fs) ≡ with_layer (known_slots vs) fs
+pub known_laid : (vs fs : Fields) → known_slots (laid vs fs) ≡ with_layer (known_slots vs) fs
 known_laid vs no_fields = refl
 known_laid vs (field n d fs) = known_laid (put_field n d vs) fs ∙ ap (λ ss. with_layer ss fs) (known_put n d vs)
 
@@ -62,11 +61,3 @@ known_layered ls = known_fold no_fields ls
 -- all of them
 pub layers_put : (ls : List (Arc (BTreeMap (String Global) Value) Global)) (i : ℕ) (ss ts : Slots) → length ls ≤ i → with_layers ss (layer_views (drop i ls)) ≡ ts → ss ≡ ts
 layers_put ls i ss ts le left = ap (λ xs. with_layers ss (layer_views xs)) (sym (drop_all i ls le)) ∙ left
-
--- the variables of a host are known
-pub known_variables : (xs : List HostVariables) (p : ℕ) (ls : List Fields) (ss : Slots) → option_map (λ h. h.variables) (slice_get xs p) ≡ Some (layered ls) → ss ≡ with_layers no_slots ls
-    → option_map (λ h. known_slots h.variables) (slice_get xs p) ≡ Some ss
-known_variables xs p ls ss e all = inner (slice_get xs p) e ∙ ap Some (known_layered ls ∙ sym all) where
-  inner : (o : Option HostVariables) → option_map (λ h. h.variables) o ≡ Some (layered ls) → option_map (λ h. known_slots h.variables) o ≡ Some (known_slots (layered ls))
-  inner None h = absurd (cc)
-  inner (Some x) h = let f : x.variables ≡ layered ls = cc in ap (λ v. Some (known_slots v)) f

@@ -8,3 +8,5 @@ pub mod Groups
 pub mod Casting
 pub mod Named
 pub mod Known
+pub mod Sharing
+pub mod Always

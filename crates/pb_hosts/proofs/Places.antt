@@ -24,7 +24,7 @@ use Rattle.pb_inventory.specs.Numbered.{are_apart, name_of}
 use Rattle.pb_inventory.specs.declared.inventory.Inventory.{Inventory}
 use Rattle.pb_inventory.proofs.Apart.{apart_first, apart_rest, differs, is_among-name_of}
 use Rattle.pb_inventory.proofs.HostAt.{names-of_views}
-use Rattle.pb_hosts.specs.Tables.{host_names, laters_from, since_view, slots_of_each, views_from}
+use Rattle.pb_hosts.specs.Tables.{host_names, laters_from, since_view, slots_in, slots_of_each, views_from}
 use Rattle.pb_hosts.specs.declared.lasting.Lasting.{Lasting}
 
 -- the hosts of an inventory have their own names
@@ -100,6 +100,12 @@ view_slots_at [] ss p e lt = none_below p lt
 view_slots_at (h ∷ hs) [] p e lt = absurd (omega (arith, e))
 view_slots_at (h ∷ hs) (s ∷ ss) zero e lt = refl
 view_slots_at (h ∷ hs) (s ∷ ss) (suc p) e lt = view_slots_at hs ss p (omega (arith, e)) (below_rest h hs p lt)
+
+pub slots_of_views : (hs : List Name) (ss : List Slots) → length ss ≡ length hs → slots_in (views_from hs ss) ≡ ss
+slots_of_views [] [] e = refl
+slots_of_views [] (s ∷ ss) e = absurd (omega (arith, e))
+slots_of_views (h ∷ hs) [] e = refl
+slots_of_views (h ∷ hs) (s ∷ ss) e = ap (λ ts. s ∷ ts) (slots_of_views hs ss (omega (arith, e)))
 
 -- the inventory's table
 pub known_views_from : (xs : List HostVariables) → known_views xs ≡ views_from (map (λ h. h.name) xs) (map (λ h. known_slots h.variables) xs)

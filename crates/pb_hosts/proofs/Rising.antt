@@ -32,7 +32,7 @@ through : (n m : Name) (ss : Slots) → order n m ≡ Less → Above m ss → Ab
 through n m no_slots h a = tt
 through n m (slot p b k ss) h a = (nat_list_cmp_total.trans n m p h a.0, through n m ss h a.1)
 
-above_nowhere : (n : Name) (ss : Slots) → Above n ss → slot_at n ss ≡ nowhere
+pub above_nowhere : (n : Name) (ss : Slots) → Above n ss → slot_at n ss ≡ nowhere
 above_nowhere n no_slots h = refl
 above_nowhere n (slot m a k ss) h = ap (λ b. cond b (spot a k) (slot_at n ss)) (unlike n m h.0) ∙ above_nowhere n ss h.1
 

@@ -1,10 +1,12 @@
 -- The hosts of a play.
-use Rattle.std.specs.Prelude.{List, map}
+use Rattle.std.specs.Prelude.{List, [], ◌∷◌, codes, length, map, true}
+use Rattle.pb_semantics.specs.Kind.{Slots, hosts, lists, no_slots, recs, texts}
 use Rattle.pb_language.specs.Expression.{Name}
 use Rattle.pb_language.specs.Plays.{names_of_handlers}
 use Rattle.pb_language.specs.Program.{memberships_of}
-use Rattle.pb_language.specs.Scope.{Later, View}
-use Rattle.pb_language.specs.Setting.{Setting}
+use Rattle.pb_language.specs.Scope.{Later, View, with_slot}
+use Rattle.pb_language.specs.Setting.{Setting, group_slots}
+use Rattle.pb_language.specs.World.{Group}
 use Rattle.pb_inventory.specs.Inventory.{inventory_view}
 use Rattle.pb_inventory.specs.Patterns.{names_at}
 use Rattle.pb_play.specs.Plays.{handler_view}
@@ -26,3 +28,10 @@ setting_in c views laters h = record {
   views = views;
   laters = laters;
 }
+
+-- what is known of the names that are the same in each play, of the host of that name
+abbrev pub constant_slots : List Group → Name → Slots
+constant_slots gs h =
+    with_slot (codes "inventory_hostname") true (hosts (h ∷ []))
+    (with_slot (codes "groups") true (recs (group_slots gs))
+    (with_slot (codes "group_names") true (lists texts (length (memberships_of h gs))) no_slots))

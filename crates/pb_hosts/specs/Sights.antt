@@ -19,4 +19,4 @@ laters_view i (Some l) = laters_from (host_names i)
 
 abbrev pub seen_setting : Seen → Setting
 seen_setting s = setting_in s.cast.now (views_view s.views.now)
-    (laters_view (inventory_view s.cast.now.inventory.now) s.laters) s.name.now
+    (laters_view (inventory_view s.cast.now.inventory.now) s.laters) s.constants.now.name.now

@@ -1,10 +1,11 @@
 -- What hosts' variables look like to others, and what hosts have at their later places.
-use Rattle.std.specs.Prelude.{ℕ, List, [], ◌∷◌, true, cond, map, nat_eq, Option, Some, None, String}
+use Rattle.std.specs.Prelude.{ℕ, List, [], ◌∷◌, true, cond, get_or, map, nat_eq, Option, Some, None}
+use Rattle.std.specs.Prelude.{String}
 use Rattle.std.specs.BTreeMap.{BTreeMap}
 use Rattle.std.specs.declared.alloc.Global.{Global}
 use Rattle.std.specs.declared.sync.Arc.{Arc}
 use Rattle.pb_semantics.specs.Data.{Fields, no_fields, field}
-use Rattle.pb_semantics.specs.Kind.{Slots, put_slot}
+use Rattle.pb_semantics.specs.Kind.{Slots, no_slots, put_slot, slot}
 use Rattle.pb_language.specs.Expression.{Name}
 use Rattle.pb_language.specs.Kinds.{known_kind}
 use Rattle.pb_language.specs.Program.{Inventory}
@@ -36,6 +37,18 @@ views_with i ms = views_from (host_names (inventory_view i)) (slots_of_each ms)
 abbrev pub with_layer : Slots → Fields → Slots
 with_layer ss no_fields = ss
 with_layer ss (field n d fs) = with_layer (put_slot n true (known_kind d) ss) fs
+
+-- slots with others over them
+abbrev pub with_slots : Slots → Slots → Slots
+with_slots ss no_slots = ss
+with_slots ss (slot n a k ts) = with_slots (put_slot n a k ss) ts
+
+abbrev pub slots_in : List View → List Slots
+slots_in vs = map (λ v. v.slots) vs
+
+-- of each host the slots of the one that stands for it
+abbrev pub shared_slots : List Slots → List ℕ → List Slots
+shared_slots ss firsts = map (λ f. get_or ss f no_slots) firsts
 
 -- a name without a place
 abbrev pub never_lasts : ℕ

@@ -2,16 +2,17 @@
 ghost use Rattle.std.specs.Prelude.{◌≡◌, ◌<◌, EachIndex, IfOk, false, length, slice_index_or, true};
 ghost use Rattle.std.specs.List.{All};
 ghost use Rattle.std.proofs.Props.{props};
+ghost use Rattle.pb_semantics.specs.Words.{spot};
 ghost use Rattle.pb_language.specs.Setting.{host_list};
 ghost use Rattle.pb_inventory.specs.Graph.{is_in};
 ghost use Rattle.pb_inventory.specs.Words.{inventory_view, names_at};
-ghost use Rattle.pb_kind.specs.Words.{kind_view};
-ghost use Rattle.pb_hosts.specs.Equal.{same_kind};
+ghost use Rattle.pb_kind.specs.Words.{is_always, kind_view};
+ghost use Rattle.pb_hosts.specs.Equal.{same_spot};
 ghost use Rattle.pb_hosts.specs.Tables.{host_names};
 
 use crate::names::hosts_list;
 use pb_inventory::{Inventory, PatternFault};
-use pb_kind::Kind;
+use pb_kind::{Kind, Slot};
 use pb_play::Play;
 use std::alloc::{AllocError, Global};
 
@@ -22,13 +23,13 @@ pub struct Cast<'s> {
     pub play: &'s Play,
     /// Their places in host order, in the order in which the play's pattern finds them.
     pub places: Vec<usize>,
-    // The kind of a list of them.
-    list: Kind,
+    // What is known of the list of them.
+    batch: Slot<Kind>,
     // Of each host of the inventory whether it is one of them.
     flags: Vec<bool>,
     ghost placed: { All (λ p. p < length (inventory_view inventory.now).hosts) places.items },
-    ghost listed: { same_kind (kind_view list)
-        (host_list (names_at (host_names (inventory_view inventory.now)) places.items)) ≡ true },
+    ghost listed: { same_spot (spot (is_always batch.presence) (kind_view batch.kind)) (spot true
+        (host_list (names_at (host_names (inventory_view inventory.now)) places.items))) ≡ true },
     ghost count: { length flags.items ≡ length (inventory_view inventory.now).hosts },
     ghost flagged: { EachIndex flags.items
         (λ k. slice_index_or flags.items k false ≡ is_in k places.items) } by { Prim.hlevel props },
@@ -79,22 +80,23 @@ impl<'s> Cast<'s> {
         ensures hosts { IfOk result (λ c. cast_hosts c
             ≡ names_at (host_names (inventory_view inventory.entry.now)) places.items) }
     {
-        let list = hosts_list(alloc, inventory, &places)?;
+        let batch = Slot::always(hosts_list(alloc, inventory, &places)?);
         let flags = flags_at(alloc, inventory.hosts(), &places)?;
         Ok(Cast {
             inventory,
             play,
             places,
-            list,
+            batch,
             flags,
         })
     }
 
-    /// The kind of a list of them.
-    pub fn list(&self) -> &Kind
-        ensures { kind_view result.now ≡ host_list (cast_hosts self.now) }
+    /// What is known of the list of them.
+    pub fn batch(&self) -> &Slot<Kind>
+        ensures { spot (is_always result.now.presence) (kind_view result.now.kind)
+            ≡ spot true (host_list (cast_hosts self.now)) }
     {
-        &self.list
+        &self.batch
     }
 
     /// Whether the host at that place is one of them.

@@ -8,18 +8,14 @@ ghost use Rattle.pb_walks.proofs.WellProp.{well_views_prop};
 ghost use Rattle.pb_kind.specs.Words.{slots_view};
 ghost use Rattle.pb_value.specs.Words.{fields_view};
 ghost use Rattle.pb_inventory.specs.Words.{inventory_view};
-ghost use Rattle.pb_hosts.specs.Tables.{slots_of_each, views_with, with_layer};
+ghost use Rattle.pb_hosts.specs.Tables.{slots_of_each, views_with};
 
-use pb_forms::literal_kind;
+use crate::given::known_of_each;
 use pb_inventory::Inventory;
 use pb_kind::below::find;
-use pb_kind::{Kind, Slot, Slots, put_slot};
-use pb_value::Fields;
+use pb_kind::{Kind, Slot, Slots};
 use std::alloc::{AllocError, Global};
 use std::sync::Arc;
-
-/// The most variables that are known of all hosts together, each as often as a host has it.
-pub const MOST_VARIABLES: usize = 1_048_576;
 
 /// What is known of the variables of each host of an inventory, as other hosts see them.
 #[derive(Drop)]
@@ -39,30 +35,26 @@ impl<'i> Views<'i> {
     ghost use Rattle.pb_kind.specs.Words.{spot_view};
     ghost use Rattle.pb_walks.specs.Words.{ViewsAgree};
     ghost use Rattle.pb_hosts.specs.Shown.{views_view};
-    ghost use Rattle.pb_hosts.specs.Tables.{host_names, views_from};
+    ghost use Rattle.pb_hosts.specs.Tables.{host_names, shared_slots, slots_in, views_from};
 
-    /// What the inventory says.
+    /// What the inventory says, and for each host the first of which it says the same: these share
+    /// what is known.
     ///
     /// # Errors
     ///
-    /// Want of memory, also where the layers of all hosts have more than `MOST_VARIABLES`
-    /// variables.
-    pub fn of(alloc: Global, inventory: &'i Inventory) -> Result<Views<'i>, AllocError>
-        ensures inventory { IfOk result (λ v. v.inventory ≡ inventory.entry) }
-        ensures known { IfOk result (λ v. ViewsAgree (views_view v)
-            (known_views (inventory_view inventory.entry.now).hosts)) }
-        ensures views { IfOk result (λ v. views_view v
+    /// Want of memory.
+    pub fn of(
+        alloc: Global,
+        inventory: &'i Inventory,
+    ) -> Result<(Views<'i>, Vec<usize>), AllocError>
+        ensures inventory { IfOk result (λ r. r.0.inventory ≡ inventory.entry) }
+        ensures views { IfOk result (λ r. views_view r.0
             ≡ known_views (inventory_view inventory.entry.now).hosts) }
+        ensures firsts { IfOk result (λ r. shared_slots (slots_in (views_view r.0)) r.1.items
+            ≡ slots_in (views_view r.0)) }
     {
-        if variables_in(inventory) > MOST_VARIABLES {
-            return Err(AllocError);
-        }
-        let mut hosts = Vec::with_capacity(alloc, inventory.hosts())?;
-        for host in 0..inventory.hosts() {
-            let known = known_of(alloc, inventory, host)?;
-            hosts.push(Arc::new(alloc, known)?)?;
-        }
-        Ok(Views { inventory, hosts })
+        let (hosts, firsts) = known_of_each(alloc, inventory)?;
+        Ok((Views { inventory, hosts }, firsts))
     }
 
     /// What is known where the slots are those of each host, in host order. Hosts may share them.
@@ -140,50 +132,4 @@ fn copies(alloc: Global, hosts: &[Arc<Slots>]) -> Result<Vec<Arc<Slots>>, AllocE
         copies.push(slots.clone()?)?;
     }
     Ok(copies)
-}
-
-// How many variables the layers of all hosts have; those of a layer count for each host.
-fn variables_in(inventory: &Inventory) -> usize {
-    let mut count: usize = 0;
-    for host in 0..inventory.hosts() {
-        count = count.saturating_add(variables_of(inventory.vars_of(host)));
-    }
-    count
-}
-
-fn variables_of(layers: &[Arc<Fields>]) -> usize {
-    let mut count: usize = 0;
-    for layer in layers {
-        count = count.saturating_add(layer.len());
-    }
-    count
-}
-
-/// What the inventory says of the variables of the host.
-///
-/// # Errors
-///
-/// Want of memory.
-pub fn known_of(alloc: Global, inventory: &Inventory, host: usize) -> Result<Slots, AllocError>
-    requires { host < length (inventory_view inventory.now).hosts }
-    ensures { IfOk result (λ m. option_map (λ h. known_slots h.variables)
-        (slice_get (inventory_view inventory.now).hosts host) ≡ Some (slots_view m.entries)) }
-{
-    let mut known = Slots::new(alloc);
-    for layer in inventory.vars_of(host) {
-        put_layer(alloc, &mut known, layer)?;
-    }
-    Ok(known)
-}
-
-// Puts the kinds of the layer's values over what is known.
-fn put_layer(alloc: Global, known: &mut Slots, layer: &Fields) -> Result<(), AllocError>
-    ensures { OnOk result (slots_view known.new.entries
-        ≡ with_layer (slots_view known.old.entries) (fields_view layer.now.entries)) }
-{
-    for (name, value) in layer.iter() {
-        let kind = literal_kind(alloc, value)?;
-        put_slot(known, name.clone()?, Slot::always(kind))?;
-    }
-    Ok(())
 }

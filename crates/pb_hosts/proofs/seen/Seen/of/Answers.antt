@@ -1,5 +1,5 @@
-use Rattle.pb_hosts.proofs.Sames.{slots_same, spot_same}
+use Rattle.pb_hosts.proofs.Sames.{slots_same}
 use Rattle.pb_hosts.proofs.seen.Seen.of.Goals as goal
 
 pub invariant_of-result : goal.invariant_of-result
-invariant_of-result c = record { known = slots_same _ _ c.in_ok-always.ensures; failing = spot_same _ _ c.in_ok-failure.ensures }
+invariant_of-result c = record { known = slots_same _ _ c.requires.known }

@@ -1,5 +1,5 @@
 use Rattle.pb_hosts.proofs.Sames.{spot_is}
-use Rattle.pb_hosts.proofs.seen.SeenOutlook.failure.Goals as goal
+use Rattle.pb_hosts.proofs.constants.Constants.failure.Goals as goal
 
 pub returns : goal.returns
 returns c = spot_is _ _ c.args.self.now.failing

@@ -2,7 +2,7 @@ use Rattle.std.proofs.Common.{◌≡◌}
 use Rattle.pb_kind.specs.KindView.{slots_view}
 use Rattle.pb_value.specs.View.{fields_view}
 use Rattle.pb_hosts.specs.Tables.{with_layer}
-use Rattle.pb_hosts.proofs.views.put_layer.Given as goal
+use Rattle.pb_hosts.proofs.given.put_layer.Given as goal
 
 abbrev pub invariant-loop-name : goal.invariant-loop-name
 invariant-loop-name l =

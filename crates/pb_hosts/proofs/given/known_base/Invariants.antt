@@ -3,7 +3,7 @@ use Rattle.pb_semantics.specs.Kind.{no_slots}
 use Rattle.pb_kind.specs.KindView.{slots_view}
 use Rattle.pb_inventory.specs.HostGroups.{layer_views}
 use Rattle.pb_hosts.proofs.Layers.{with_layers}
-use Rattle.pb_hosts.proofs.views.known_of.Given as goal
+use Rattle.pb_hosts.proofs.given.known_base.Given as goal
 
 abbrev pub invariant-loop-layer : goal.invariant-loop-layer
 invariant-loop-layer l =

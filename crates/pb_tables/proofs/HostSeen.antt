@@ -23,6 +23,7 @@ use Rattle.pb_hosts.specs.Casts.{cast_hosts}
 use Rattle.pb_hosts.specs.Shown.{views_view}
 use Rattle.pb_hosts.specs.Sights.{laters_view, seen_setting}
 use Rattle.pb_hosts.specs.declared.cast.Cast.{Cast}
+use Rattle.pb_hosts.specs.declared.constants.Constants.{Constants}
 use Rattle.pb_hosts.specs.declared.lasting.Lasting.{Lasting}
 use Rattle.pb_hosts.specs.declared.seen.Laters.{Laters}
 use Rattle.pb_hosts.specs.declared.seen.Seen.{Seen}
@@ -62,15 +63,16 @@ same_made : (i j : Inventory) (hosts hosts-too : List Name) (handlers handlers-t
 same_made i j hosts hosts-too handlers handlers-too views ls ms h g a b d e f =
     ap (λ x. made x hosts handlers views ls h) a ∙ ap (λ x. made j x handlers views ls h) b ∙ ap (λ x. made j hosts-too x views ls h) d ∙ ap (λ x. made j hosts-too handlers-too views x h) e ∙ ap (λ x. made j hosts-too handlers-too views ms x) f
 
-pub seen_there : (s : Seen) (scene : Scene) (cast : Bor Cast) (views : Bor Views) (laters : Option (Bor Laters)) (i : read.Inventory) (p : Play) (h : Name) (ls : List Later) → s.cast ≡ cast → s.views ≡ views → s.laters ≡ laters → s.name.now ≡ h
-    → cast.now ≡ scene.cast → IsScene i p scene → laters_view (inventory_view i) laters ≡ ls → seen_setting s ≡ setting_of (inventory_view i) p (views_view views.now) ls h
-seen_there s scene cast views laters i p h ls a b d e f is known =
+pub seen_there : (s : Seen) (scene : Scene) (cast : Bor Cast) (constants : Bor Constants) (views : Bor Views) (laters : Option (Bor Laters)) (i : read.Inventory) (p : Play) (h : Name) (ls : List Later)
+    → s.cast ≡ cast → s.constants ≡ constants → s.views ≡ views → s.laters ≡ laters → constants.now.name.now ≡ h → cast.now ≡ scene.cast → IsScene i p scene → laters_view (inventory_view i) laters ≡ ls
+    → seen_setting s ≡ setting_of (inventory_view i) p (views_view views.now) ls h
+seen_there s scene cast constants views laters i p h ls a k b d e f is known =
     let c = s.cast.now in
     let same : c ≡ scene.cast = ap (λ (x : Bor Cast). x.now) a ∙ f in
     let its : inventory_view c.inventory.now ≡ inventory_view i = ap (λ (x : Cast). inventory_view x.inventory.now) same ∙ ap inventory_view is.inventory in
-    same_made (inventory_view c.inventory.now) (inventory_view i) (cast_hosts c) p.hosts (names_of_handlers (map handler_view c.play.now.handlers.items)) p.handlers (views_view s.views.now) (laters_view (inventory_view c.inventory.now) s.laters) ls s.name.now h its
+    same_made (inventory_view c.inventory.now) (inventory_view i) (cast_hosts c) p.hosts (names_of_handlers (map handler_view c.play.now.handlers.items)) p.handlers (views_view s.views.now) (laters_view (inventory_view c.inventory.now) s.laters) ls s.constants.now.name.now h its
     (ap cast_hosts same ∙ is.hosts) (ap (λ (x : Cast). names_of_handlers (map handler_view x.play.now.handlers.items)) same ∙ is.handlers)
-    (ap (λ j. laters_view j s.laters) its ∙ ap (laters_view (inventory_view i)) d ∙ known) e
+    (ap (λ j. laters_view j s.laters) its ∙ ap (laters_view (inventory_view i)) d ∙ known) (ap (λ (x : Bor Constants). x.now.name.now) k ∙ e)
     ∙ ap (λ (v : Bor Views). setting_of (inventory_view i) p (views_view v.now) ls h) b
 
 pub laters_lent : (i : Inventory) (o : Option (Bor Laters)) → laters_view i o ≡ laters_here i (option_copied o)

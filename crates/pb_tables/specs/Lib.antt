@@ -1,6 +1,5 @@
 pub mod Scenes
 pub mod Tabled
-pub mod Once
 pub mod Seen
 pub mod Found
 pub mod Ends

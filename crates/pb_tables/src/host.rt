@@ -15,7 +15,7 @@ ghost use Rattle.pb_lattice.specs.Words.{IsKept, Stands, exit_of, names_of};
 ghost use Rattle.pb_inventory.specs.Words.{inventory_view};
 ghost use Rattle.pb_kind.specs.Words.{slots_view};
 ghost use Rattle.pb_route.specs.Words.{ArePathsOf};
-ghost use Rattle.pb_hosts.specs.Words.{since_view, views_view};
+ghost use Rattle.pb_hosts.specs.Words.{AreConstants, since_view, views_view};
 ghost use Rattle.pb_tables.specs.Found.{HostFinds, HostLasts};
 ghost use Rattle.pb_tables.specs.Played.{PlayFinds, PlayLasts, laters_here};
 ghost use Rattle.pb_tables.specs.Scenes.{AreScenes, IsScene};
@@ -25,7 +25,7 @@ ghost use Rattle.pb_tables.specs.declared.scene.Scene.{Scene};
 use crate::table::{Stage, Tables};
 use pb_find::{Find, calls_in, entry_of, find_play};
 use pb_hosts::lasting::NEVER;
-use pb_hosts::{Lasting, Laters, Seen, Views};
+use pb_hosts::{Constants, Lasting, Laters, Seen, Views};
 use pb_kind::{Slots, copy_slots};
 use pb_lasting::lasting_in;
 use pb_lattice::{Environment, Environments};
@@ -68,9 +68,10 @@ pub fn host_found(
 {
     let at = entry_of(alloc, known_at(stage, host), space)?;
     let found = nothing_found(tables.views.slots(host))?;
+    let constants = Constants::of(alloc, stage.inventory, stage.groups, host)?;
     let mut way = OnWay { found, at };
     for play in 0..stage.scenes.len() {
-        way = found_in(alloc, stage, tables, play, host, space, way)?;
+        way = found_in(alloc, stage, tables, play, &constants, space, way)?;
     }
     Ok(way.found)
 }
@@ -100,9 +101,10 @@ pub fn host_lasting(
         ls.items) }
 {
     let mut at = entry_of(alloc, known_at(stage, host), space)?;
+    let constants = Constants::of(alloc, stage.inventory, stage.groups, host)?;
     let mut lastings = Vec::with_capacity(alloc, stage.scenes.len())?;
     for play in 0..stage.scenes.len() {
-        let (lasting, end) = lasting_at(alloc, stage, stage.known, play, host, at, space)?;
+        let (lasting, end) = lasting_at(alloc, stage, stage.known, play, &constants, at, space)?;
         lastings.push(lasting)?;
         at = end;
     }
@@ -117,7 +119,7 @@ struct OnWay {
 }
 
 // What the inventory says of the variables of the host at that place.
-pub(crate) fn known_at<'t>(stage: &'t Stage<'_, '_>, host: usize) -> &'t Slots
+fn known_at<'t>(stage: &'t Stage<'_, '_>, host: usize) -> &'t Slots
     requires host { host < length (inventory_view stage.now.inventory.now).hosts }
     ensures known { option_map (λ h. known_slots h.variables)
         (slice_get (inventory_view stage.entry.now.inventory.now).hosts host)
@@ -150,13 +152,13 @@ fn found_in(
     stage: &Stage<'_, '_>,
     tables: &Tables<'_>,
     play: usize,
-    host: usize,
+    constants: &Constants<'_>,
     space: &mut Environments,
     before: OnWay,
 ) -> Result<OnWay, AllocError>
     requires tables { AreTables stage.now tables.now }
     requires play { play < length stage.now.scenes.now }
-    requires host { host < length (inventory_view stage.now.inventory.now).hosts }
+    requires constants { AreConstants (inventory_view stage.now.inventory.now) constants.now }
     requires stands { Stands space.old before.at }
     requires next { Well (recs (slots_view before.found.find.next.entries)) }
     ensures kept { IsKept space.old space.new }
@@ -164,7 +166,8 @@ fn found_in(
     ensures next { IfOk result (λ w. Well (recs (slots_view w.found.find.next.entries))) }
     ensures named { IfOk result (λ w. (s : Scene) (p : Play) (x : HostVariables)
         → slice_get stage.now.scenes.now play ≡ Some s → IsScene stage.now.inventory.now p s
-        → slice_get (inventory_view stage.now.inventory.now).hosts host ≡ Some x
+        → slice_get (inventory_view stage.now.inventory.now).hosts constants.now.host
+        ≡ Some x
         → is_among x.name p.hosts ≡ true
         → PlayFinds x.name (setting_of (inventory_view stage.now.inventory.now) p
         (views_view tables.now.views)
@@ -173,25 +176,26 @@ fn found_in(
         (exit_of space.new w.at) before.found w.found) }
     ensures others { IfOk result (λ w. (s : Scene) (p : Play) (x : HostVariables)
         → slice_get stage.now.scenes.now play ≡ Some s → IsScene stage.now.inventory.now p s
-        → slice_get (inventory_view stage.now.inventory.now).hosts host ≡ Some x
+        → slice_get (inventory_view stage.now.inventory.now).hosts constants.now.host
+        ≡ Some x
         → is_among x.name p.hosts ≡ false
         → (w.found ≡ before.found) × (exit_of space.new w.at ≡ exit_of space.old before.at)) }
 {
     let scene = &stage.scenes[play];
-    if !scene.cast.has(host) {
+    if !scene.cast.has(constants.host) {
         return Ok(before);
     }
     let views = &tables.views;
     let laters = laters_at(stage, tables, play);
-    let seen = Seen::of(
+    let seen = Seen::of(&scene.cast, constants, views, laters.as_ref());
+    play_found(
         alloc,
-        &scene.cast,
-        stage.groups,
-        views,
-        laters.as_ref(),
-        host,
-    )?;
-    play_found(alloc, &scene.route, &seen, views.slots(host), space, before)
+        &scene.route,
+        &seen,
+        views.slots(constants.host),
+        space,
+        before,
+    )
 }
 
 // What hosts have at their later places in the play of that number; nothing under `free`.
@@ -267,12 +271,12 @@ fn lasting_at(
     stage: &Stage<'_, '_>,
     views: &Views<'_>,
     play: usize,
-    host: usize,
+    constants: &Constants<'_>,
     at: Environment,
     space: &mut Environments,
 ) -> Result<(Lasting, Environment), AllocError>
     requires play { play < length stage.now.scenes.now }
-    requires host { host < length (inventory_view stage.now.inventory.now).hosts }
+    requires constants { AreConstants (inventory_view stage.now.inventory.now) constants.now }
     requires stands { Stands space.old at }
     requires names { space.old.names ≡ names_of stage.now.names.now }
     ensures kept { IsKept space.old space.new }
@@ -280,31 +284,26 @@ fn lasting_at(
     ensures beside { IfOk result (λ r. length r.0.from.items ≡ length stage.now.names.now) }
     ensures named { IfOk result (λ r. (s : Scene) (p : Play) (x : HostVariables)
         → slice_get stage.now.scenes.now play ≡ Some s → IsScene stage.now.inventory.now p s
-        → slice_get (inventory_view stage.now.inventory.now).hosts host ≡ Some x
+        → slice_get (inventory_view stage.now.inventory.now).hosts constants.now.host
+        ≡ Some x
         → is_among x.name p.hosts ≡ true
         → PlayLasts (names_of stage.now.names.now)
         (setting_of (inventory_view stage.now.inventory.now) p (views_view views.now) [] x.name)
         p.row (exit_of space.old at) (exit_of space.new r.1) r.0) }
     ensures others { IfOk result (λ r. (s : Scene) (p : Play) (x : HostVariables)
         → slice_get stage.now.scenes.now play ≡ Some s → IsScene stage.now.inventory.now p s
-        → slice_get (inventory_view stage.now.inventory.now).hosts host ≡ Some x
+        → slice_get (inventory_view stage.now.inventory.now).hosts constants.now.host
+        ≡ Some x
         → is_among x.name p.hosts ≡ false
         → (since_view (names_of stage.now.names.now) r.0 ≡ every_name 0 no_since)
         × (exit_of space.new r.1 ≡ exit_of space.old at)) }
 {
     let scene = &stage.scenes[play];
-    if !scene.cast.has(host) {
+    if !scene.cast.has(constants.host) {
         return Ok((everything(alloc, stage.names.len())?, at));
     }
     let laters: Option<Laters<'_>> = None;
-    let seen = Seen::of(
-        alloc,
-        &scene.cast,
-        stage.groups,
-        views,
-        laters.as_ref(),
-        host,
-    )?;
+    let seen = Seen::of(&scene.cast, constants, views, laters.as_ref());
     let stations = scene.route.stations();
     let values = walk(alloc, &scene.route, &seen, at, space)?;
     let lasting = lasting_in(alloc, stations, &values, space)?;

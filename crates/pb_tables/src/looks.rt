@@ -9,10 +9,7 @@ ghost use Rattle.pb_tables.specs.Ends.{AreAlike};
 ghost use Rattle.pb_tables.specs.Scenes.{AreScenes, IsScene};
 ghost use Rattle.pb_tables.specs.declared.scene.Scene.{Scene};
 
-use crate::host::known_at;
 use crate::table::Stage;
-use pb_kind::same::are_same_slots;
-use pb_kind::{Kind, Slots};
 use std::alloc::{AllocError, Global};
 use std::collections::BTreeMap;
 
@@ -74,7 +71,7 @@ fn look_alike(stage: &Stage<'_, '_>, one: usize, other: usize) -> bool
 {
     let inventory = stage.inventory;
     inventory.group_names(one).len() == inventory.group_names(other).len()
-        && are_same_slots(known_at(stage, one), known_at(stage, other))
+        && first_of(stage, one) == first_of(stage, other)
         && are_in_same_plays(stage, one, other)
 }
 
@@ -108,8 +105,8 @@ fn is_named(stage: &Stage<'_, '_>, play: usize, host: usize) -> bool
     stage.scenes[play].cast.has(host)
 }
 
-// A text that differs for nearly all hosts that don't look alike: which plays name the host, in how
-// many groups it is, and what is known of it.
+// A text that differs for all hosts that don't look alike: which plays name the host, in how many
+// groups it is, and the first host of which the same is known.
 fn look_of(alloc: Global, stage: &Stage<'_, '_>, host: usize) -> Result<String, AllocError>
     requires host { host < length (inventory_view stage.now.inventory.now).hosts }
 {
@@ -121,36 +118,14 @@ fn look_of(alloc: Global, stage: &Stage<'_, '_>, host: usize) -> Result<String, 
             '-'
         })?;
     }
-    put_slots(alloc, &mut look, known_at(stage, host))?;
+    look.push_str(first_of(stage, host).to_string(alloc)?.as_str())?;
     Ok(look)
 }
 
-// Puts the fields behind the text, each with its kind.
-#[cycle(look)]
-fn put_slots(alloc: Global, look: &mut String, slots: &Slots) -> Result<(), AllocError> {
-    look.push('{')?;
-    for (name, slot) in slots.iter() {
-        look.push_str(name.as_str())?;
-        look.push(' ')?;
-        put_kind(alloc, look, &slot.kind)?;
-    }
-    look.push('}')
-}
-
-#[cycle(look)]
-fn put_kind(alloc: Global, look: &mut String, kind: &Kind) -> Result<(), AllocError> {
-    match kind {
-        Kind::Never => look.push('n'),
-        Kind::Null => look.push('0'),
-        Kind::Bool => look.push('b'),
-        Kind::Int => look.push('i'),
-        Kind::Text | Kind::Host(_) => look.push('t'),
-        Kind::List(item, most) => {
-            look.push_str(most.to_string(alloc)?.as_str())?;
-            put_kind(alloc, look, item)
-        }
-        Kind::Rec(slots) => put_slots(alloc, look, slots),
-        Kind::Result(_, known) => put_kind(alloc, look, known),
-        Kind::Any => look.push('a'),
-    }
+// The first host of which the same is known.
+fn first_of(stage: &Stage<'_, '_>, host: usize) -> usize
+    requires host { host < length (inventory_view stage.now.inventory.now).hosts }
+    ensures { slice_get stage.now.firsts.now host ≡ Some result }
+{
+    stage.firsts[host]
 }

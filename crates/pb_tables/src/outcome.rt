@@ -101,12 +101,13 @@ pub fn outcome_of<'i>(
     hosts_walk_alike();
     alike_walks_give_the_same();
     let groups = groups_kind(alloc, inventory)?;
-    let known = Views::of(alloc, inventory)?;
+    let (known, shared) = Views::of(alloc, inventory)?;
     let space = Environments::new(alloc, copies(alloc, &names)?)?;
     let stage = Stage {
         inventory,
         scenes,
         known: &known,
+        firsts: &shared,
         groups: &groups,
         names: &names,
     };

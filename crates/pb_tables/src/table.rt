@@ -7,9 +7,9 @@ ghost use Rattle.pb_language.specs.Tables.{known_views};
 ghost use Rattle.pb_kind.specs.Words.{kind_view};
 ghost use Rattle.pb_lattice.specs.Words.{IsAscending, names_of};
 ghost use Rattle.pb_inventory.specs.Words.{inventory_view};
-ghost use Rattle.pb_hosts.specs.Words.{views_view};
+ghost use Rattle.pb_hosts.specs.Words.{shared_slots, slots_in, views_view};
 ghost use Rattle.pb_hosts.proofs.Sames.{kind_is, own_kind, own_slots, slots_are};
-ghost use Rattle.pb_tables.specs.Once.{told_set};
+ghost use Rattle.pb_inventory.specs.Once.{told_set};
 
 use crate::scene::Scene;
 use pb_hosts::{Lasting, Views};
@@ -24,6 +24,8 @@ pub struct Stage<'i, 's> {
     pub scenes: &'s [Scene<'i>],
     /// What the inventory says of the variables of hosts.
     pub known: &'s Views<'i>,
+    /// For each host the first of which it says the same.
+    pub firsts: &'s [usize],
     /// The kind of all groups.
     pub groups: &'s Kind,
     /// The names of all variables, in the order of their bytes.
@@ -32,6 +34,9 @@ pub struct Stage<'i, 's> {
     ghost same: { known.now.inventory.now ≡ inventory.now },
     ghost said: { views_view known.now
         ≡ known_views (inventory_view inventory.now).hosts } by { Prim.hlevel
+            (props, told_set slots_are own_slots) },
+    ghost shared: { shared_slots (slots_in (views_view known.now)) firsts.now
+        ≡ slots_in (views_view known.now) } by { Prim.hlevel
             (props, told_set slots_are own_slots) },
     ghost grouped: { kind_view groups.now
         ≡ recs (group_slots (inventory_view inventory.now).groups) } by { told_set

@@ -28,7 +28,7 @@ returns-clause-named c =
     let i = inventory_view inv in
     let views = c.args.tables.now.views in
     let scene = get_or stage.scenes.now c.args.play c.index-stage-play.result in
-    let seen = c.in_ok-seen.seen in
+    let seen = c.of-seen.result in
     let ls = first_laters (drop c.args.play (laters_in stage c.args.tables.now.laters.items)) in
     IfOk-weaker c.play_found.result _ _
     (λ w f s p x is a hx named.
@@ -36,11 +36,10 @@ returns-clause-named c =
     let this : IsScene inv p scene = subst (IsScene inv p) (sym same) a in
     let row = this.row in
     let paths : ArePathsOf (play_row row.0 row.1) scene.route = subst (λ (r : Row). ArePathsOf r scene.route) row.2 this.paths in
-    let name : x.name ≡ seen.name.now = one_of (λ (h : HostVariables). h.name) (slice_get (inventory_view scene.cast.inventory.now).hosts c.args.host) x seen.name.now c.in_ok-seen.ensures.name
-    (ap (λ (j : read.Inventory). slice_get (inventory_view j).hosts c.args.host) this.inventory ∙ hx) in
-    let view : view_of x.name (views_view views) ≡ slots_view c.slots.result.now.entries = one_of (λ (h : HostVariables). view_of h.name (views_view views)) (slice_get (inventory_view views.inventory.now).hosts c.args.host) x (slots_view c.slots.result.now.entries) c.slots.ensures.named
-    (ap (λ (j : read.Inventory). slice_get (inventory_view j).hosts c.args.host) c.requires.tables.inventory ∙ hx) in
-    let setting : seen_setting seen ≡ setting_of i p (views_view views) ls x.name = seen_there seen scene _ _ _ inv p x.name ls c.in_ok-seen.ensures.cast c.in_ok-seen.ensures.views c.in_ok-seen.ensures.laters (sym name) refl this (laters_lent i c.as_ref.result ∙ ap (λ o. laters_here i o) c.as_ref.ensures.value ∙ c.laters_at-laters.ensures) in
+    let name : x.name ≡ c.args.constants.now.name.now = one_of (λ (h : HostVariables). h.name) (slice_get i.hosts c.args.constants.now.host) x c.args.constants.now.name.now c.requires.constants.named hx in
+    let view : view_of x.name (views_view views) ≡ slots_view c.slots.result.now.entries = one_of (λ (h : HostVariables). view_of h.name (views_view views)) (slice_get (inventory_view views.inventory.now).hosts c.args.constants.now.host) x (slots_view c.slots.result.now.entries) c.slots.ensures.named
+    (ap (λ (j : read.Inventory). slice_get (inventory_view j).hosts c.args.constants.now.host) c.requires.tables.inventory ∙ hx) in
+    let setting : seen_setting seen ≡ setting_of i p (views_view views) ls x.name = seen_there seen scene _ _ _ _ inv p x.name ls c.of-seen.ensures.cast c.of-seen.ensures.constants c.of-seen.ensures.views c.of-seen.ensures.laters (sym name) refl this (laters_lent i c.as_ref.result ∙ ap (λ o. laters_here i o) c.as_ref.ensures.value ∙ c.laters_at-laters.ensures) in
     finds_as x.name (seen_setting seen) (setting_of i p (views_view views) ls x.name) (play_row row.0 row.1) p.row (slots_view c.slots.result.now.entries) (view_of x.name (views_view views)) (exit_of c.args.space.now c.args.before.at) (exit_of c.play_found.new.space w.at) c.args.before.found w.found
     setting (sym row.2) (sym view) (f x.name row.0 row.1 paths)) c.play_found.ensures.found
 
@@ -53,5 +52,5 @@ returns-clause-others c =
     (λ w f s p x is a hx others.
     let same : scene ≡ s = one_there stage.scenes.now c.args.play c.index-stage-play.result s c.requires.play is in
     let this : IsScene inv p scene = subst (IsScene inv p) (sym same) a in
-    let named : is_among x.name p.hosts ≡ c.has.result = named_in inv p scene c.args.host x c.has.result this c.has.ensures hx in
+    let named : is_among x.name p.hosts ≡ c.has.result = named_in inv p scene c.args.constants.now.host x c.has.result this c.has.ensures hx in
     untrue (sym others ∙ named ∙ c.if-not-has.false)) c.play_found.ensures.found

@@ -1,4 +1,4 @@
-use Rattle.std.proofs.Common.{◌≡◌, ◌+◌, ◌<◌, ◌≤◌, ap, length, slice_get, subst, suc, sym, ◌∙◌, arith}
+use Rattle.std.proofs.Common.{◌≡◌, ◌+◌, ◌<◌, ◌≤◌, Some, ap, length, slice_get, subst, suc, sym, ◌∙◌, arith}
 use Rattle.pb_semantics.specs.Kind.{Slots, recs}
 use Rattle.pb_semantics.specs.Well.{Well}
 use Rattle.pb_language.specs.Judgement.{live}
@@ -60,9 +60,10 @@ loop-play-preserved c =
       stands = c.in_ok-way.ensures.stands;
       next = c.in_ok-way.ensures.next;
       left = λ ps x a hx.
+          let at : slice_get (inventory_view stage.inventory.now).hosts c.in_ok-constants.constants.host ≡ Some x = ap (slice_get (inventory_view stage.inventory.now).hosts) c.in_ok-constants.ensures.host ∙ hx in
           subst (λ n. Left stage.inventory.now views ls stage.scenes.now x ps n to now.found) next
           (next_left stage.inventory.now views ls stage.scenes.now x tables.views.well ps l.play from to l.way.found now.found within (stands_well l.space l.way.at l.invariant.stands) l.invariant.next
-          (record { named = λ s p is b n. c.in_ok-way.ensures.named s p x is b hx n; others = λ s p is b n. c.in_ok-way.ensures.others s p x is b hx n }) (l.invariant.left ps x a hx));
+          (record { named = λ s p is b n. c.in_ok-way.ensures.named s p x is b at n; others = λ s p is b n. c.in_ok-way.ensures.others s p x is b at n }) (l.invariant.left ps x a hx));
     }
 
 pub returns-clause-found : goal.returns-clause-found

@@ -1,4 +1,4 @@
-use Rattle.std.proofs.Common.{◌≡◌, ◌+◌, ◌++◌, ◌∷◌, ◌<◌, ◌≤◌, List, [], ap, length, slice_get, subst, suc, sym, ◌∙◌, arith}
+use Rattle.std.proofs.Common.{◌≡◌, ◌+◌, ◌++◌, ◌∷◌, ◌<◌, ◌≤◌, List, [], Some, ap, length, slice_get, subst, suc, sym, ◌∙◌, arith}
 use Rattle.std.proofs.lemmas.List.{length_push}
 use Rattle.std.proofs.lemmas.List.Elements.{All-nil, All-push}
 use Rattle.std.specs.List.{All}
@@ -58,10 +58,11 @@ loop-play-preserved c =
       beside = subst (λ (ls : List Lasting). All (λ x. length x.from.items ≡ length stage.names.now) ls) (sym more)
           (All-push (λ (x : Lasting). length x.from.items ≡ length stage.names.now) done lasting l.invariant.beside c.in_ok-lasting.ensures.beside);
       left = λ ps x a hx.
+          let at : slice_get (inventory_view stage.inventory.now).hosts c.in_ok-constants.constants.host ≡ Some x = ap (slice_get (inventory_view stage.inventory.now).hosts) c.in_ok-constants.ensures.host ∙ hx in
           subst (λ (ls : List Lasting). LeftLasting ns stage.inventory.now views stage.scenes.now x ps (l.play + 1) to ls) (sym more)
           (subst (λ n. LeftLasting ns stage.inventory.now views stage.scenes.now x ps n to (done ++ lasting ∷ [])) next
           (next_lasting ns stage.inventory.now views stage.scenes.now x c.args.stage.now.known.now.well ps l.play from to done lasting within (stands_well l.space l.at l.invariant.stands)
-          (record { named = λ s p is b n. c.in_ok-lasting.ensures.named s p x is b hx n; others = λ s p is b n. c.in_ok-lasting.ensures.others s p x is b hx n }) (l.invariant.left ps x a hx)));
+          (record { named = λ s p is b n. c.in_ok-lasting.ensures.named s p x is b at n; others = λ s p is b n. c.in_ok-lasting.ensures.others s p x is b at n }) (l.invariant.left ps x a hx)));
     }
 
 pub returns-clause-lasts : goal.returns-clause-lasts

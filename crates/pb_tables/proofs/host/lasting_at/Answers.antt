@@ -9,7 +9,6 @@ use Rattle.pb_lattice.specs.Arena.{names_of}
 use Rattle.pb_lattice.specs.Environments.{Stands, exit_of}
 use Rattle.pb_lattice.specs.declared.environment.Environment.{Environment}
 use Rattle.pb_inventory.specs.Inventory.{inventory_view}
-use Rattle.pb_inventory.specs.declared.inventory.Inventory as read
 use Rattle.pb_route.specs.declared.station.Station.{Station}
 use Rattle.pb_find.specs.Ways.{nothing_known, value_at, way_visits}
 use Rattle.pb_find.proofs.Entering.{kept_through}
@@ -43,13 +42,12 @@ returns-clause-named c = λ s p x is a hx named.
     let i = inventory_view inv in
     let views = views_view c.args.views.now in
     let scene = get_or stage.scenes.now c.args.play c.index-stage-play.result in
-    let seen = c.in_ok-seen.seen in
+    let seen = c.of-seen.result in
     let st = seen_setting seen in
     let same : scene ≡ s = one_there stage.scenes.now c.args.play c.index-stage-play.result s c.requires.play is in
     let this : IsScene inv p scene = subst (IsScene inv p) (sym same) a in
-    let name : x.name ≡ seen.name.now = one_of (λ (h : HostVariables). h.name) (slice_get (inventory_view scene.cast.inventory.now).hosts c.args.host) x seen.name.now c.in_ok-seen.ensures.name
-    (ap (λ (j : read.Inventory). slice_get (inventory_view j).hosts c.args.host) this.inventory ∙ hx) in
-    let setting : st ≡ setting_of i p views [] x.name = seen_there seen scene _ _ _ inv p x.name [] c.in_ok-seen.ensures.cast c.in_ok-seen.ensures.views c.in_ok-seen.ensures.laters (sym name) refl this
+    let name : x.name ≡ c.args.constants.now.name.now = one_of (λ (h : HostVariables). h.name) (slice_get i.hosts c.args.constants.now.host) x c.args.constants.now.name.now c.requires.constants.named hx in
+    let setting : st ≡ setting_of i p views [] x.name = seen_there seen scene _ _ _ _ inv p x.name [] c.of-seen.ensures.cast c.of-seen.ensures.constants c.of-seen.ensures.views c.of-seen.ensures.laters (sym name) refl this
     (laters_lent i c.as_ref.result ∙ ap (λ o. laters_here i o) c.as_ref.ensures.value) in
     let r = scene.route in
     let space = c.walk.new.space in
@@ -83,5 +81,5 @@ returns-clause-others c = λ s p x is a hx others.
     let scene = get_or stage.scenes.now c.args.play c.index-stage-play.result in
     let same : scene ≡ s = one_there stage.scenes.now c.args.play c.index-stage-play.result s c.requires.play is in
     let this : IsScene inv p scene = subst (IsScene inv p) (sym same) a in
-    let named : is_among x.name p.hosts ≡ c.has.result = named_in inv p scene c.args.host x c.has.result this c.has.ensures hx in
+    let named : is_among x.name p.hosts ≡ c.has.result = named_in inv p scene c.args.constants.now.host x c.has.result this c.has.ensures hx in
     untrue (sym others ∙ named ∙ c.if-not-has.false)

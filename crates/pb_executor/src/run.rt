@@ -35,6 +35,7 @@ pub struct Run<'c> {
 impl<'c> Model for Run<'c> {
     ghost use Rattle.pb_executor.specs.Inside.{IsRun, run_state};
     ghost use Rattle.pb_executor.specs.States.{RunState};
+    ghost use Rattle.pb_inventory.specs.contracts.inventory.Inventory as inventory;
     ghost use Rattle.pb_value.specs.contracts.value.Value as value;
     ghost use Rattle.pb_kind.specs.contracts.kind.Kind as kind;
     ghost use Rattle.pb_syntax.specs.contracts.expr.Expr as expr;
@@ -49,6 +50,7 @@ impl<'c> Model for Run<'c> {
       codes,
       btree_map_code,
       hash_map_code,
+      inventory.the_row.coded,
       value.the_row.coded,
       kind.the_row.coded,
       expr.the_row.coded,

@@ -31,6 +31,7 @@ pub(crate) struct SharedRun<'c, C: Ledger, G: Ledger, P: Rule> {
 impl<'c, C: Ledger, G: Ledger, P: Rule> Model for SharedRun<'c, C, G, P> {
     ghost use Rattle.pb_executor.specs.States.{RunState};
     ghost use Rattle.pb_pool.specs.Kept.{IsKept};
+    ghost use Rattle.pb_inventory.specs.contracts.inventory.Inventory as inventory;
     ghost use Rattle.pb_value.specs.contracts.value.Value as value;
     ghost use Rattle.pb_kind.specs.contracts.kind.Kind as kind;
     ghost use Rattle.pb_syntax.specs.contracts.expr.Expr as expr;
@@ -45,6 +46,7 @@ impl<'c, C: Ledger, G: Ledger, P: Rule> Model for SharedRun<'c, C, G, P> {
       codes,
       btree_map_code,
       hash_map_code,
+      inventory.the_row.coded,
       value.the_row.coded,
       kind.the_row.coded,
       expr.the_row.coded,

@@ -28,6 +28,7 @@ pub struct Checked {
 impl Model for Checked {
     ghost use Rattle.pb_verify.specs.Judges.{IsChecked};
     ghost use Rattle.pb_verify.specs.declared.checked.Accepted.{Accepted};
+    ghost use Rattle.pb_inventory.specs.contracts.inventory.Inventory as inventory;
     ghost use Rattle.pb_value.specs.contracts.value.Value as value;
     ghost use Rattle.pb_kind.specs.contracts.kind.Kind as kind;
     ghost use Rattle.pb_syntax.specs.contracts.expr.Expr as expr;
@@ -42,6 +43,7 @@ impl Model for Checked {
       codes,
       btree_map_code,
       hash_map_code,
+      inventory.the_row.coded,
       value.the_row.coded,
       kind.the_row.coded,
       expr.the_row.coded,

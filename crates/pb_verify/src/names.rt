@@ -1,11 +1,11 @@
 // The names of all variables that hosts can have.
-ghost use Rattle.std.specs.Prelude.{◌<◌, ◌≡◌, IfOk, length};
-ghost use Rattle.pb_inventory.specs.Words.{inventory_view};
+ghost use Rattle.std.specs.Prelude.{◌≡◌, IfOk};
 ghost use Rattle.pb_lattice.specs.Words.{IsAscending, names_of};
 
 use pb_inventory::Inventory;
 use pb_play::{Play, Step};
 use pb_task::{Task, Work};
+use pb_value::Fields;
 use std::alloc::{AllocError, Global};
 use std::collections::BTreeSet;
 
@@ -37,8 +37,14 @@ pub(crate) fn names_of(
     for name in FACTS {
         names.insert(name)?;
     }
+    for base in 0..inventory.bases() {
+        for layer in inventory.layers_of(base) {
+            put_layer(layer, &mut names)?;
+        }
+    }
     for host in 0..inventory.hosts() {
-        put_variables(inventory, host, &mut names)?;
+        let (_, own) = inventory.base_of(host);
+        put_layer(own, &mut names)?;
     }
     for play in plays {
         put_play(play, &mut names)?;
@@ -46,17 +52,9 @@ pub(crate) fn names_of(
     listed(alloc, &names)
 }
 
-fn put_variables<'n>(
-    inventory: &'n Inventory,
-    host: usize,
-    names: &mut BTreeSet<&'n str>,
-) -> Result<(), AllocError>
-    requires { host < length (inventory_view inventory.now).hosts }
-{
-    for layer in inventory.vars_of(host) {
-        for (name, _) in layer.iter() {
-            names.insert(name.as_str())?;
-        }
+fn put_layer<'n>(layer: &'n Fields, names: &mut BTreeSet<&'n str>) -> Result<(), AllocError> {
+    for (name, _) in layer.iter() {
+        names.insert(name.as_str())?;
     }
     Ok(())
 }

@@ -12,6 +12,7 @@ HANDLERS = 20
 HOSTS, GROUPS = 1_000, 20
 MOST_LINES, MOST_HOSTS = 4_096, 1_024
 CLASSES, PLAYS = 50, 60
+VARIABLES = 4_096  # of one group
 FEW_ROUNDS = 2  # of what takes seconds
 
 # Of a block's eight tasks four call a module; the rescue part is counted too.
@@ -125,6 +126,16 @@ def check_short(program, folder, name, hosts):
     return ([program, "check", path, "-i", listed], f"accepted budget {PLAYS * hosts}\n")
 
 
+def check_given(program, folder, name, hosts):
+    """The check of one task on so many hosts, which have many variables of one group and each one of its own."""
+    names = [f"web{number:04}" for number in range(hosts)]
+    group = {"hosts": names, "vars": {f"variable_{number}": number for number in range(VARIABLES)}}
+    own = {host: {"address": f"10.0.0.{number}"} for number, host in enumerate(names)}
+    book_of_one = write(folder, f"{name}.json", [{"hosts": "all", "gather_facts": False, "tasks": [{"ping": None}]}])
+    listed = write(folder, f"{name}_hosts.json", {"web": group, "_meta": {"hostvars": own}})
+    return ([program, "check", book_of_one, "-i", listed], f"accepted budget {hosts}\n")
+
+
 def quick(program, folder):
     empty = write(folder, "empty.json", [])
     return {
@@ -142,6 +153,7 @@ def large(program, folder):
         "most": check(program, folder, "most", most_tasks(), MOST_HOSTS),
         "plays": check_short(program, folder, "plays", MOST_HOSTS),
         "half plays": check_short(program, folder, "half_plays", MOST_HOSTS // 2),
+        "given": check_given(program, folder, "given", MOST_HOSTS),
     }
 
 
@@ -190,6 +202,7 @@ def print_large(found):
     within(f"the same in {CLASSES} classes", found["classes"], 0.3, 500)
     within(f"{MOST_LINES:,} lines on {MOST_HOSTS:,} hosts that look alike", found["most"], 0.5, 500)
     print_twice(f"{PLAYS} plays of one task, twice the hosts", found["plays"], found["half plays"], 2.1)
+    within(f"{VARIABLES:,} variables of one group on {MOST_HOSTS:,} hosts, each with one of its own", found["given"], 0.1, 50)
 
 
 def print_twice(name, whole, half, bar):

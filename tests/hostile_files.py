@@ -56,6 +56,7 @@ def hostile_files():
     yield from repeated_keys()
     yield from deep_inventories()
     yield from tangled_inventories()
+    yield from shared_variables()
 
 
 # What is wanted.
@@ -698,3 +699,30 @@ def followed(count, *last):
     names = [f"g{number}" for number in range(count)]
     groups = {name: {"children": names[number + 1 :]} for number, name in enumerate(names[:-1])}
     return {**groups, names[-1]: {"hosts": ["h1"], "children": list(last)}}
+
+
+def shared_variables():
+    """Many variables that groups give many hosts, with and without own ones, and some that deeper groups hide."""
+    many = named_variables(4 * MOST_HOSTS)
+    hosts_of_all = [f"h{number}" for number in range(MOST_HOSTS)]
+    own = {host: {"own": number} for number, host in enumerate(hosts_of_all)}
+    hidden = {f"g{number}": {"hosts": hosts_of_all[:100], "vars": named_variables(100)} for number in range(106)}
+    rows = [
+        ("variables of one group on all hosts", {"g": {"hosts": hosts_of_all, "vars": many}}, MOST_HOSTS),
+        ("the same with own ones", {"g": {"hosts": hosts_of_all, "vars": many}, "_meta": {"hostvars": own}}, MOST_HOSTS),
+        ("variables that 106 groups set", hidden, 100),
+        ("variables of 500 groups in a chain", with_variables(chained(500), 20, 100), 100),
+    ]
+    for name, inventory, budget in rows:
+        yield hostile(name, accepted(budget), book=TASKS + PING + END, inventory=json.dumps(inventory, separators=(",", ":")))
+
+
+def named_variables(count):
+    return {f"v{number}": number for number in range(count)}
+
+
+def with_variables(groups, count, hosts):
+    """Each group with so many variables of its own, and the last with so many hosts."""
+    given = {name: {**group, "vars": {f"{name}_{n}": n for n in range(count)}} for name, group in groups.items()}
+    *_, last = given
+    return {**given, last: {**given[last], "hosts": [f"h{number}" for number in range(hosts)]}}

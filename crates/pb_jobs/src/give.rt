@@ -13,6 +13,7 @@ use crate::active::ActiveBatch;
 use crate::finish::Finished;
 use crate::job::Call;
 use crate::machine::{Answered, Machine};
+use crate::share::shared_values;
 use pb_core::{CoreFault, RunCore, TaskOutcome};
 use pb_finish::Answer;
 use pb_position::Location;
@@ -129,6 +130,7 @@ impl Machine<'_> {
         let Some(placed) = slots_of_writes(alloc, &self.slots, writes)? else {
             return Err(CoreFault::NotThere);
         };
+        let placed = shared_values(&self.facts, host, placed)?;
         self.core.settle(host, outcome)?;
         forget(&mut self.batch, has_left(&self.core, host));
         write_all(&mut self.facts, host, placed);

@@ -16,6 +16,7 @@ pub mod job;
 pub mod machine;
 mod open;
 pub mod scene;
+mod share;
 pub mod start;
 mod turn;
 

@@ -47,10 +47,10 @@ returns-clause-settles c = λ reading s is w xs e.
     let fs = written_variables t ended w.host.variables in
     let new = with_variables k fs reading in
     let core = c.in_ok-settle.ensures.settles reading s is.kept.core w xs e.results e.comes e.last e.notified e.outcome in
-    let named : slot_fields names c.in-Some.placed.items ≡ fields_view c.args.writes.items =
-    subst (λ o. IfSome o (λ ws. slot_fields names ws.items ≡ fields_view c.args.writes.items)) c.in-Some.is c.in_ok-placed.ensures.named in
+    let named : slot_fields names c.in_ok-placed-2.placed.items ≡ fields_view c.args.writes.items =
+    c.in_ok-placed-2.ensures.named names ∙ subst (λ o. IfSome o (λ ws. slot_fields names ws.items ≡ fields_view c.args.writes.items)) c.in-Some.is c.in_ok-placed.ensures.named in
     let had : before k ≡ w.host.variables = sym (is.kept.reads.variables k) ∙ sym (host_is (kept_in x) reading s is.kept k w.host w.there).1 in
-    let puts : put_all (slot_fields names c.in-Some.placed.items) (before k) ≡ fs = ap (λ ws. put_all ws (before k)) named ∙ e.writes (before k) ∙ ap (written_variables t ended) had in
+    let puts : put_all (slot_fields names c.in_ok-placed-2.placed.items) (before k) ≡ fs = ap (λ ws. put_all ws (before k)) named ∙ e.writes (before k) ∙ ap (written_variables t ended) had in
     let reads = reads_written (kept_in x) c.write_all.new.facts reading k fs is.kept.reads (λ j. c.write_all.ensures.variables x.slots i.hosts j (sym x.each_slot) ∙ ap (λ v. cond (nat_eq j k) v (before j)) puts) in
     let stays : c.has_left.result ≡ false → (b : ActiveBatch) → IsActiveBatch reading i s b → IsActiveBatch new i after b =
     λ here. active_stays reading new i s after refl

@@ -703,7 +703,7 @@ def followed(count, *last):
 
 def shared_variables():
     """Many variables that groups give many hosts, with and without own ones, and some that deeper groups hide."""
-    many = named_variables(4 * MOST_HOSTS)
+    many = named_variables(64 * MOST_HOSTS)  # which hosts have to share: each with its own they take gigabytes
     hosts_of_all = [f"h{number}" for number in range(MOST_HOSTS)]
     own = {host: {"own": number} for number, host in enumerate(hosts_of_all)}
     hidden = {f"g{number}": {"hosts": hosts_of_all[:100], "vars": named_variables(100)} for number in range(106)}

@@ -64,6 +64,18 @@ def measured(words, wanted=None, ended=0):
     return Run(seconds, usage.ru_utime + usage.ru_stime, usage.ru_maxrss, printed)
 
 
+def memory_of(words, wanted=None, ended=0):
+    """The most memory that one process takes, in KiB. What is spawned from here counts this process's own until it begins, so
+    GNU time stands between, where it is there."""
+    between = shutil.which("time")
+    if not between:
+        return measured(words, wanted, ended).memory
+    with tempfile.NamedTemporaryFile("r") as told:
+        done = subprocess.run([between, "-f", "%M", "-o", told.name, *words], capture_output=True, text=True)
+        judge(words, done.returncode, done.stdout, wanted, ended)
+        return int(told.read().split()[-1])
+
+
 def judge(words, status, printed, wanted, ended):
     if status != ended or wanted not in (None, printed):
         sys.exit(f"{' '.join(words)}: status {status}, printed {printed[:300]!r}")
@@ -79,17 +91,17 @@ def in_rounds(commands, rounds=ROUNDS):
     for _ in range(rounds):
         for name, command in commands.items():
             taken[name] += [measured(*command), measured(*command)]
-    return {name: Figures(runs) for name, runs in taken.items()}
+    return {name: Figures(runs, memory_of(*commands[name])) for name, runs in taken.items()}
 
 
 class Figures:
-    """The median time and memory of every second run of one command, with what it printed; and the processor's time of
-    each of its runs."""
+    """The median time of every second run of one command, with what it printed; the processor's time of each of its runs;
+    and the memory of one more."""
 
-    def __init__(self, every):
+    def __init__(self, every, memory):
         runs = every[1::2]
         self.seconds = median(run.seconds for run in runs)
-        self.memory = median(run.memory for run in runs)
+        self.memory = memory
         self.printed = [run.printed for run in runs]
         self.processor = [run.processor for run in every]
 

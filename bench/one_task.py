@@ -5,7 +5,7 @@ import tempfile
 
 sys.dont_write_bytecode = True
 
-from measure import Profile, at_most, can_count, instructions, line, measured, program_of
+from measure import Profile, at_most, can_count, instructions, line, memory_of, program_of
 from steps import ANSWER, CALLED, MOST_ITEMS, Scene, asking, book, conditional, loop, printing, recap
 
 TASKS = 1000  # and twice as many
@@ -91,7 +91,7 @@ def print_readers(program, folder):
     size = len(printing(MOST_ITEMS)["stdout"])
     detail = f"{count_text(each)} over {count_text(first)} of one alone"
     at_most(f"each of {READERS} tasks that read a register of {size:,} bytes, instructions", each / first, 1.1, detail)
-    more = measured(*many.run(program)).memory - measured(*one.run(program)).memory
+    more = memory_of(*many.run(program)) - memory_of(*one.run(program))
     line(f"{READERS} of them, memory", f"{more:,} KiB more than one", f"at most {MEMORY:,} KiB", more <= MEMORY)
 
 

@@ -3,7 +3,7 @@
 import functools
 from statistics import median
 
-from measure import at_most, can_count, in_rounds, instructions, line, measured, ms, write
+from measure import at_most, can_count, in_rounds, instructions, line, memory_of, ms, write
 
 LARGE = 4094  # tasks on one host
 FEW, HOSTS = 40, 1_000  # tasks on many hosts
@@ -357,7 +357,7 @@ def print_copies(program, folder, made):
     size = len(printing(MOST_ITEMS)["stdout"])
     name = f"a task that reads a register of {size:,} bytes over one that reads one of a line, instructions"
     at_most(name, each / least, 1.1, f"{each:,.0f} over {least:,.0f}")
-    many, none = (measured(*scene.run(program)).memory for scene in reversed(large))
+    many, none = (memory_of(*scene.run(program)) for scene in reversed(large))
     line(f"{READERS} of them, memory", f"{many - none:,} KiB more than none", "at most 1,024 KiB", many - none <= 1024)
 
 

@@ -24,15 +24,6 @@ impl Book {
         self.plays.as_slice()
     }
 
-    /// The plays themselves.
-    pub fn into_plays(self) -> Vec<Play>
-        ensures plays { result.items ≡ plays_of self }
-        ensures counted { is_counted (map play_view (plays_of self)) ≡ true }
-        ensures ordered { are_in_order (all_tasks (plays_of self)) ≡ true }
-    {
-        self.plays
-    }
-
     // The book of these plays.
     pub(crate) fn of_plays(plays: Vec<Play>) -> Book
         requires counted { is_counted (map play_view plays.items) ≡ true }

@@ -138,7 +138,7 @@ programs_for (Modules name) forks = max forks 1
 
 abbrev pub most_programs : Options → ℕ
 most_programs (Check s) = 0
-most_programs (Run s forks source) = programs_for source forks
+most_programs (Run s forks source calling) = programs_for source forks
 
 -- by what is said of runners, which have made no calls yet
 module _ {R : Type 0} (answers : R → Call → Answer → R → Type 0) (short : R → Bool)
@@ -167,4 +167,4 @@ module _ {R : Type 0} (answers : R → Call → Answer → R → Type 0) (short 
   -- what the options and the files come to
   abbrev pub IsOutcome : Options → Bytes → Outcome → Type 0
   IsOutcome (Check s) b o = ChecksAs b o
-  IsOutcome (Run s forks source) b o = RunsBy source forks b o
+  IsOutcome (Run s forks source calling) b o = RunsBy source forks b o

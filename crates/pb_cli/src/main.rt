@@ -3,6 +3,7 @@
 
 mod files;
 mod judge;
+mod machine;
 mod outcome;
 mod program;
 mod texts;

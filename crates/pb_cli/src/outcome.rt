@@ -140,7 +140,9 @@ fn answered<W: Runner + Send + Drop, R: Threads + Wait + Sync>(
     }
 }
 
-fn checked(alloc: Global, bytes: &Bytes) -> Result<Outcome, Want>
+/// What comes of `check` and the bytes of the files that it names: the verdict. Nothing for want of
+/// memory.
+pub fn checked(alloc: Global, bytes: &Bytes) -> Result<Outcome, Want>
     ensures { IfOk result (ChecksAs bytes.now) }
 {
     let verdict = verdict_of(alloc, bytes);

@@ -3,22 +3,28 @@ ghost use Rattle.std.specs.Prelude.{◌≡◌, ◌≤◌, IfOk, sum_by, vec_len}
 ghost use Rattle.pb_cli.specs.Outcomes.{most_programs};
 
 use crate::files::read_bounded;
-use crate::outcome::{Bytes, Outcome, Stream, USAGE, WANTING, line_outcome, outcome_of};
+use crate::machine::{has_room, look_into, loses_ends, most_workers};
+use crate::outcome::{Bytes, Outcome, Stream, USAGE, WANTING, checked, line_outcome, outcome_of};
 use crate::want::Want;
 use pb_book::BOOK_LIMIT;
 use pb_inventory::INVENTORY_LIMIT;
 use pb_options::input::{is_input, names_input_twice};
 use pb_options::options::options;
-use pb_options::{LineFault, Options, Source, Subject};
-use pb_process::ProcessRunner;
+use pb_options::{Calling, Handover, LineFault, Options, Source, Subject};
+use pb_process::{Manner, ProcessRunner, Reason, Visible, Watchdog};
 use pb_runner::ANSWERS_LIMIT;
 use pb_sig::SIGNATURES_LIMIT;
 use std::alloc::AllocError;
-use std::process::Processes;
+use std::os::fd::AsRawFd;
+use std::process::{OpenProcess, Processes};
 use std::rt::Files;
 use std::sync::Wait;
 use std::thread::Threads;
+use std::time::{Clock, Duration};
 use std::{fs, io};
+
+// What is said where the ends of programs can't be seen.
+const LOST: &str = "playcheck: SIGCHLD is ignored here: try env --default-signal=CHLD before it\n";
 
 /// Does what the words say; the answer is the program's status. `host` starts the programs: they go
 /// to threads, where a handle that is known by its bounds alone doesn't.
@@ -27,23 +33,84 @@ where
     R: Files + AllocGlobal + Print + Eprint + Input + Threads + Wait + Sync,
 {
     match options(rt.alloc(), words) {
-        Ok(options) => act(rt, host, &options),
+        Ok(options) => match act(rt, host, options) {
+            Ok(status) => status,
+            Err(status) => status,
+        },
         Err(fault) => say(rt, line_said(fault)),
     }
 }
 
-fn act<R>(rt: &R, host: &HostRuntime, options: &Options) -> u8
+// What `check` comes to needs no handle that may wait.
+fn act<R>(rt: &R, host: &HostRuntime, options: Options) -> Result<u8, u8>
 where
     R: Files + AllocGlobal + Print + Eprint + Input + Threads + Wait + Sync,
 {
-    match read_all(rt, options) {
-        Ok(bytes) => say(rt, come_to(rt, host, options, &bytes)),
-        Err(status) => status,
+    let options = fit(rt, options)?;
+    let bytes = read_all(rt, &options)?;
+    match &options {
+        Options::Check(_) => Ok(say(rt, checked(rt.alloc(), &bytes))),
+        Options::Run { .. } => Ok(say(rt, come_to(rt, host, &options, &bytes))),
     }
 }
 
 fn line_said(fault: LineFault) -> Result<Outcome, Want> {
     Ok(line_outcome(fault)?)
+}
+
+// The options as this machine allows them: programs are called by no more workers than it has room
+// for. Where their folder can't be read, or their ends can't be seen, nothing is done.
+fn fit<R: Files + AllocGlobal + Eprint>(rt: &R, options: Options) -> Result<Options, u8> {
+    let Some(folder) = folder_of(&options) else {
+        return Ok(options);
+    };
+    if let Err(e) = look_into(rt.alloc(), folder) {
+        return Err(unread(rt, folder, &e));
+    }
+    if loses_ends(rt) {
+        return Err(tell(rt, LOST, USAGE));
+    }
+    Ok(with_fit_forks(rt, options))
+}
+
+// The folder of the programs, if programs are called.
+fn folder_of(options: &Options) -> Option<&str> {
+    match options {
+        Options::Run {
+            source: Source::Modules(folder),
+            ..
+        } => Some(folder.as_str()),
+        _ => None,
+    }
+}
+
+fn with_fit_forks<R: Eprint>(rt: &R, options: Options) -> Options {
+    match options {
+        Options::Run {
+            subject,
+            forks,
+            source,
+            calling,
+        } => Options::Run {
+            subject,
+            forks: fit_forks(rt, forks),
+            source,
+            calling,
+        },
+        check => check,
+    }
+}
+
+// As many workers as were asked for, or as there is room for; where these are fewer it is told.
+fn fit_forks<R: Eprint>(rt: &R, forks: u16) -> u16 {
+    let most = most_workers();
+    if most >= forks {
+        return forks;
+    }
+    let _ = eprintln!(rt;
+        "playcheck: {most} workers: this machine's limits leave no room for {forks}"
+    );
+    most
 }
 
 // What the options and the files come to; without a file of answers, programs answer the calls.
@@ -53,15 +120,47 @@ fn come_to<R: AllocGlobal + Threads + Wait + Sync>(
     options: &Options,
     bytes: &Bytes,
 ) -> Result<Outcome, Want> {
-    let programs = programs_of(host, options)?;
-    outcome_of(rt, rt.alloc(), options, bytes, programs)
+    let watchdog = watchdog_for(host, options)?;
+    let programs = programs_of(host, options, &watchdog)?;
+    let outcome = outcome_of(rt, rt.alloc(), options, bytes, programs);
+    if let Some(watchdog) = watchdog {
+        watchdog.leave();
+    }
+    outcome
+}
+
+// Whoever ends programs where this process is ended, if programs are called. Where there can't be
+// one it is told, and the run goes on without.
+fn watchdog_for<R: AllocGlobal + Processes + Clock + Eprint>(
+    rt: &R,
+    options: &Options,
+) -> Result<Option<Watchdog<R::Started>>, AllocError>
+where
+    <R::Started as OpenProcess>::Stdin: AsRawFd,
+{
+    if folder_of(options).is_none() {
+        return Ok(None);
+    }
+    match Watchdog::start(rt.alloc(), rt) {
+        Ok(watchdog) => Ok(Some(watchdog)),
+        Err(e) => {
+            let reason = Reason(&e);
+            let _ = eprintln!(rt;
+                "playcheck: cannot start /bin/sh: {reason}: programs may outlive this process"
+            );
+            Ok(None)
+        }
+    }
 }
 
 // A runner of the programs for each worker that there may be.
 fn programs_of<'r, R: AllocGlobal + Processes>(
     rt: &'r R,
     options: &Options,
+    watchdog: &Option<Watchdog<R::Started>>,
 ) -> Result<Vec<ProcessRunner<&'r R>>, AllocError>
+where
+    <R::Started as OpenProcess>::Stdin: AsRawFd,
     ensures enough { IfOk result (λ ps. most_programs options.now ≤ vec_len ps) }
     ensures none { IfOk result (λ ps. sum_by (λ p. p.made) ps.items ≡ 0) }
 {
@@ -69,29 +168,56 @@ fn programs_of<'r, R: AllocGlobal + Processes>(
         Options::Run {
             forks,
             source: Source::Modules(folder),
+            calling,
             ..
-        } => programs_in(rt, folder.as_str(), (*forks as usize).max(1)),
+        } => {
+            let first = ProcessRunner::new(rt.alloc(), rt, folder.as_str())?;
+            programs_like(&first, *calling, watchdog, (*forks).max(1))
+        }
         _ => Ok(Vec::new(rt.alloc())),
     }
 }
 
-fn programs_in<'r, R: AllocGlobal + Processes>(
-    rt: &'r R,
-    folder: &str,
-    count: usize,
+fn programs_like<'r, R: AllocGlobal + Processes>(
+    first: &ProcessRunner<&'r R>,
+    calling: Calling,
+    watchdog: &Option<Watchdog<R::Started>>,
+    count: u16,
 ) -> Result<Vec<ProcessRunner<&'r R>>, AllocError>
+where
+    <R::Started as OpenProcess>::Stdin: AsRawFd,
     ensures count { IfOk result (λ ps. vec_len ps ≡ count) }
     ensures none { IfOk result (λ ps. sum_by (λ p. p.made) ps.items ≡ 0) }
 {
-    let mut programs = Vec::with_capacity(rt.alloc(), count)?;
-    for _worker in 0..count {
-        programs.push(ProcessRunner::new(rt.alloc(), rt, folder)?)?;
+    let mut programs = Vec::with_capacity(first.allocator(), count as usize)?;
+    for worker in 0..count {
+        programs.push(first.share(manner_of(calling, watchdog, worker))?)?;
     }
     Ok(programs)
 }
 
+// How that worker calls programs.
+fn manner_of<P: OpenProcess + Drop>(
+    calling: Calling,
+    watchdog: &Option<Watchdog<P>>,
+    worker: u16,
+) -> Manner
+where
+    P::Stdin: AsRawFd,
+{
+    Manner {
+        by_input: calling.handover == Handover::Input,
+        timeout: calling
+            .timeout
+            .map(|seconds| Duration::from_secs(seconds as u64)),
+        watch: watchdog
+            .as_ref()
+            .map(|watchdog| watchdog.watch(worker as u32)),
+    }
+}
+
 /// The status where the words of the command line can't be had.
-pub fn status_of_fault<R: Eprint>(rt: &R, e: io::Error) -> u8 {
+pub fn status_of_fault<R: Files + Eprint>(rt: &R, e: io::Error) -> u8 {
     if e.kind() == io::ErrorKind::OutOfMemory {
         return wanting(rt, Want::Memory);
     }
@@ -99,7 +225,7 @@ pub fn status_of_fault<R: Eprint>(rt: &R, e: io::Error) -> u8 {
 }
 
 // Prints what was come to; the answer is the status.
-fn say<R: Print + Eprint>(rt: &R, said: Result<Outcome, Want>) -> u8 {
+fn say<R: Files + Print + Eprint>(rt: &R, said: Result<Outcome, Want>) -> u8 {
     match said {
         Ok(outcome) => match outcome.stream {
             Stream::Output => print_text(rt, outcome.text.as_str(), outcome.status),
@@ -110,21 +236,24 @@ fn say<R: Print + Eprint>(rt: &R, said: Result<Outcome, Want>) -> u8 {
 }
 
 // Says something on standard error, as well as that goes.
-fn tell<R: Eprint>(rt: &R, text: &str, status: u8) -> u8 {
-    let _ = eprint!(rt; "{text}");
+fn tell<R: Files + Eprint>(rt: &R, text: &str, status: u8) -> u8 {
+    if has_room(rt, true, text.len()) {
+        let _ = eprint!(rt; "{text}");
+    }
     status
 }
 
-fn wanting<R: Eprint>(rt: &R, want: Want) -> u8 {
+fn wanting<R: Files + Eprint>(rt: &R, want: Want) -> u8 {
     tell(rt, want.text(), WANTING)
 }
 
-// Prints on standard output, which has to take all of it.
-fn print_text<R: Print + Eprint>(rt: &R, text: &str, status: u8) -> u8 {
-    match print!(rt; "{text}") {
-        Ok(()) => status,
-        Err(_) => tell(rt, "playcheck: the output cannot be written\n", USAGE),
+// Prints on standard output, which has to take all of it; else it is said on standard error.
+fn print_text<R: Files + Print + Eprint>(rt: &R, text: &str, status: u8) -> u8 {
+    if has_room(rt, false, text.len()) && print!(rt; "{text}").is_ok() {
+        return status;
     }
+    tell(rt, text, status);
+    tell(rt, "playcheck: the output cannot be written\n", USAGE)
 }
 
 // The files in the order book, inventory, signatures, answers, of which one may be standard input;
@@ -175,14 +304,19 @@ fn read_named<R: Files + AllocGlobal + Eprint + Input>(
 ) -> Result<Vec<u8>, u8> {
     match open_bounded(rt, name, most) {
         Ok(bytes) => Ok(bytes),
-        Err(e) => {
-            if e.kind() == io::ErrorKind::OutOfMemory {
-                return Err(wanting(rt, Want::Memory));
-            }
-            let _ = eprintln!(rt; "playcheck: cannot read {name}");
-            Err(USAGE)
-        }
+        Err(e) => Err(unread(rt, name, &e)),
     }
+}
+
+// The status where a file or a folder can't be read, or there is no memory for it.
+fn unread<R: Files + Eprint>(rt: &R, name: &str, e: &io::Error) -> u8 {
+    if e.kind() == io::ErrorKind::OutOfMemory {
+        return wanting(rt, Want::Memory);
+    }
+    let name = Visible(name);
+    let reason = Reason(e);
+    let _ = eprintln!(rt; "playcheck: cannot read {name}: {reason}");
+    USAGE
 }
 
 fn open_bounded<R: Files + AllocGlobal + Input>(

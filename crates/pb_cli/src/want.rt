@@ -12,6 +12,11 @@ pub enum Want {
 }
 
 impl From<AllocError> for Want {
+    ghost use Rattle.std.specs.Prelude.{◌≡◌};
+    ghost use Rattle.pb_cli.specs.declared.want.Want.TheVariants.{Memory};
+
+    ghost from_gives = { λ _ w. w ≡ Memory };
+
     fn from(_: AllocError) -> Want {
         Want::Memory
     }

@@ -10,6 +10,8 @@ pub enum Why {
     TooLong,
     /// There is no answer.
     NoAnswer,
+    /// The program had no more time.
+    TooSlow,
 }
 
 /// One answer of a module.

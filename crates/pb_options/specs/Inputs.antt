@@ -31,4 +31,4 @@ source_inputs (Modules name) = 0
 -- how many of the files that the options name are standard input
 abbrev pub inputs_of : Options → ℕ
 inputs_of (Check s) = inputs_in (subject_names s)
-inputs_of (Run s n a) = source_inputs a + inputs_in (subject_names s)
+inputs_of (Run s n a c) = source_inputs a + inputs_in (subject_names s)

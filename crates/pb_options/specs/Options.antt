@@ -1,6 +1,6 @@
 -- What a command line says, read as `clap` reads it.
 use Rattle.std.specs.Prelude.{◌≡◌, ◌≤◌, ◌⊎◌, ℕ, [], List, codes, Option, Some, None, Bool, true}
-use Rattle.std.specs.Prelude.{false, unwrap_or, option_map, string_bytes}
+use Rattle.std.specs.Prelude.{false, is_some, unwrap_or, option_map, string_bytes}
 use Rattle.std.specs.Str.Parse.{IsNumeral, digits_value, without_leading_plus}
 use Rattle.clap.specs.Words.{App, IsAmong, Kinds, Row, Rule, Text, app_of, first_of, new_app}
 use Rattle.clap.specs.Words.{new_rule, with_rule, with_subcommand}
@@ -10,6 +10,9 @@ use Rattle.clap.specs.declared.builder.action.ArgAction.TheVariants.{Set}
 use Rattle.clap.specs.declared.error.kind.ErrorKind.{ErrorKind}
 use Rattle.clap.specs.declared.error.kind.ErrorKind.TheVariants.{DisplayHelp, DisplayVersion}
 use Rattle.clap.specs.declared.error.kind.ErrorKind.TheVariants.{OutOfMemory}
+use Rattle.pb_options.specs.declared.words.Calling.{Calling}
+use Rattle.pb_options.specs.declared.words.Handover.{Handover}
+use Rattle.pb_options.specs.declared.words.Handover.TheVariants.{Word, Input}
 use Rattle.pb_options.specs.declared.words.LineFault.{LineFault}
 use Rattle.pb_options.specs.declared.words.LineFault.TheVariants.{Help, Version, Line, NoMemory}
 use Rattle.pb_options.specs.declared.words.Options.{Options}
@@ -52,17 +55,26 @@ answers_rule = option_rule (codes "answers")
 abbrev pub modules_rule : Rule
 modules_rule = option_rule (codes "modules")
 
+abbrev pub arguments_rule : Rule
+arguments_rule = option_rule (codes "arguments")
+
+abbrev pub timeout_rule : Rule
+timeout_rule = option_rule (codes "timeout")
+
 abbrev pub with_files : App → App
 with_files a = with_rule (with_rule (with_rule a book_rule) inventory_rule) signatures_rule
 
 abbrev pub with_sources : App → App
 with_sources a = with_rule (with_rule (with_rule a forks_rule) answers_rule) modules_rule
 
+abbrev pub with_callings : App → App
+with_callings a = with_rule (with_rule a arguments_rule) timeout_rule
+
 abbrev pub check_app : App
 check_app = with_files (new_app (codes "check"))
 
 abbrev pub run_app : App
-run_app = with_sources (with_files (new_app (codes "run")))
+run_app = with_callings (with_sources (with_files (new_app (codes "run"))))
 
 -- a command is wanted, or the version
 abbrev pub top_app : App
@@ -101,18 +113,46 @@ NamesSource rows (Answers s) = (first_of (codes "answers") rows ≡ Some (string
 NamesSource rows (Modules s) = (first_of (codes "modules") rows ≡ Some (string_bytes s))
     × (first_of (codes "answers") rows ≡ None)
 
+-- as a word where nothing is said of it
+abbrev pub NamesHandover : Option Text → Handover → Type 0
+NamesHandover None h = h ≡ Word
+NamesHandover (Some t) Word = t ≡ codes "word"
+NamesHandover (Some t) Input = t ≡ codes "stdin"
+
+-- a week
+abbrev pub most_seconds : ℕ
+most_seconds = 604800
+
+-- the number of seconds that the numeral writes, none where there is no numeral
+abbrev pub IsTimeout : Option Text → Option ℕ → Type 0
+IsTimeout None o = o ≡ None
+IsTimeout (Some t) None = ⊥
+IsTimeout (Some t) (Some n) = IsNumeral 10 (without_leading_plus t)
+    × ((n ≡ digits_value 10 (without_leading_plus t)) × ((1 ≤ n) × (n ≤ most_seconds)))
+
+-- of calls something is said only where programs are called
+abbrev pub MaySayCalling : List Row → Type 0
+MaySayCalling rows = (is_some (first_of (codes "modules") rows) ≡ true)
+    ⊎ ((first_of (codes "arguments") rows ≡ None) × (first_of (codes "timeout") rows ≡ None))
+
+pub record SaysCalling (rows : List Row) (c : Calling) : Type 0 where
+  pub may : MaySayCalling rows
+  pub handover : NamesHandover (first_of (codes "arguments") rows) c.handover
+  pub timeout : IsTimeout (first_of (codes "timeout") rows) c.timeout
+
 -- the options are the values that were found for the command that was named
 abbrev pub Says : Option (Text × List Row) → Options → Type 0
 Says None o = ⊥
 Says (Some found) (Check s) = (found.0 ≡ codes "check") × NamesFiles found.1 s
-Says (Some found) (Run s n a) =
+Says (Some found) (Run s n a c) =
     (found.0 ≡ codes "run") × (NamesFiles found.1 s
-    × (IsForkCount (first_of (codes "forks") found.1) n × NamesSource found.1 a))
+    × (IsForkCount (first_of (codes "forks") found.1) n
+    × (NamesSource found.1 a × SaysCalling found.1 c)))
 
 -- a run has a fork at least, and not too many
 abbrev pub HasForks : Options → Type 0
 HasForks (Check s) = Unit {0}
-HasForks (Run s n a) = (1 ≤ n) × (n ≤ most_forks)
+HasForks (Run s n a c) = (1 ≤ n) × (n ≤ most_forks)
 
 -- neither help nor the version is asked for, and memory is there
 abbrev pub is_mistake : ErrorKind → Bool
@@ -135,13 +175,16 @@ IsMistakeWhere P (Version text) = ⊥
 IsMistakeWhere P (Line text) = P
 IsMistakeWhere P NoMemory = Unit {0}
 
--- no number of forks, and no source of answers, is named
+-- no number of forks, no source of answers and no way to call is named
 abbrev pub NamesNoForks : List Row → Type 0
 NamesNoForks rows =
     (n : ℕ) → IsForkCount (first_of (codes "forks") rows) n → 1 ≤ n → n ≤ most_forks → ⊥
 
 abbrev pub NamesNoSource : List Row → Type 0
 NamesNoSource rows = (s : Source) → NamesSource rows s → ⊥
+
+abbrev pub SaysNoCalling : List Row → Type 0
+SaysNoCalling rows = (c : Calling) → SaysCalling rows c → ⊥
 
 -- what was found for the command that was named, if one was, says no options
 abbrev pub SaysNone : Option (Text × List Row) → Type 0

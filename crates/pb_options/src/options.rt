@@ -4,24 +4,28 @@ ghost use Rattle.std.specs.Prelude.{false, map, option_map, string_bytes, unwrap
 ghost use Rattle.clap.specs.Words.{app_of, fault_of as kinds_of, first_of, found_of, kind_of};
 ghost use Rattle.clap.specs.Words.{rows_of, rule_of, subcommand_of, subcommand_rows_of};
 ghost use Rattle.pb_options.specs.Options.{Extends, HasForks, IsForkCount, IsLocal, IsOfKind};
-ghost use Rattle.pb_options.specs.Options.{IsMistakeWhere, IsRefusal, NamesFiles, NamesNoForks};
-ghost use Rattle.pb_options.specs.Options.{NamesNoSource, NamesSource, Says, SaysNone};
-ghost use Rattle.pb_options.specs.Options.{check_app, most_forks, option_rule, playcheck_app};
-ghost use Rattle.pb_options.specs.Options.{run_app, top_app, with_files, with_sources};
+ghost use Rattle.pb_options.specs.Options.{IsMistakeWhere, IsRefusal, IsTimeout, NamesFiles};
+ghost use Rattle.pb_options.specs.Options.{NamesHandover, NamesNoForks, NamesNoSource, NamesSource};
+ghost use Rattle.pb_options.specs.Options.{Says, SaysCalling, SaysNoCalling, SaysNone, check_app};
+ghost use Rattle.pb_options.specs.Options.{most_forks, option_rule, playcheck_app, run_app};
+ghost use Rattle.pb_options.specs.Options.{top_app, with_callings, with_files, with_sources};
 
-use crate::words::{LineFault, Options, Source, Subject};
+use crate::words::{Calling, Handover, LineFault, Options, Source, Subject};
 use clap::error::ErrorKind;
 use clap::{Arg, ArgAction, ArgMatches, Command, Error};
 use std::alloc::{AllocError, Global};
 
 // The version that the program tells of itself.
-const VERSION: &str = "0.2.0";
+const VERSION: &str = "0.3.0";
 
 // The most workers of a run.
 const MOST_FORKS: u16 = 256;
 
 // The workers of a run where the words name no number.
 const DEFAULT_FORKS: u16 = 5;
+
+// The most seconds of a call: a week.
+const MOST_SECONDS: u32 = 604_800;
 
 /// Reads the words of the command line, the program's name first: the values are those that `clap`
 /// finds in them.
@@ -65,6 +69,7 @@ fn chosen(alloc: Global, matches: &ArgMatches<'_>) -> Result<Options, LineFault>
             forks: forks_of(alloc, found)?,
             subject: subject_of(alloc, found)?,
             source: source_of(alloc, found)?,
+            calling: calling_of(alloc, found)?,
         }),
         _ => Err(LineFault::Line(String::from_str(
             alloc,
@@ -157,6 +162,58 @@ fn source_of(alloc: Global, found: &ArgMatches<'_>) -> Result<Source, LineFault>
     }
 }
 
+// How programs are called. Where there are none, nothing may be said of it.
+fn calling_of(alloc: Global, found: &ArgMatches<'_>) -> Result<Calling, LineFault>
+    ensures calling { IfOk result (SaysCalling (rows_of (found_of found.now))) }
+    ensures refused { IfErr result (IsMistakeWhere (SaysNoCalling (rows_of (found_of found.now)))) }
+{
+    let arguments = value_of(found, "arguments");
+    let timeout = value_of(found, "timeout");
+    let modules = value_of(found, "modules");
+    if modules.is_none() && (arguments.is_some() || timeout.is_some()) {
+        return Err(LineFault::Line(String::from_str(
+            alloc,
+            "playcheck: --arguments and --timeout go with --modules\n",
+        )?));
+    }
+    Ok(Calling {
+        handover: handover_of(alloc, arguments)?,
+        timeout: timeout_of(alloc, timeout)?,
+    })
+}
+
+fn handover_of(alloc: Global, text: Option<&str>) -> Result<Handover, LineFault>
+    ensures named { IfOk result (NamesHandover (option_map (λ t. t.now) text.entry)) }
+    ensures refused { IfErr result
+        (IsMistakeWhere ((h : _) → NamesHandover (option_map (λ t. t.now) text.entry) h → ⊥)) }
+{
+    match text {
+        None | Some("word") => Ok(Handover::Word),
+        Some("stdin") => Ok(Handover::Input),
+        _ => Err(LineFault::Line(String::from_str(
+            alloc,
+            "playcheck: arguments are handed over as word or by stdin\n",
+        )?)),
+    }
+}
+
+fn timeout_of(alloc: Global, text: Option<&str>) -> Result<Option<u32>, LineFault>
+    ensures numeral { IfOk result (IsTimeout (option_map (λ t. t.now) text.entry)) }
+    ensures refused { IfErr result
+        (IsMistakeWhere ((n : _) → IsTimeout (option_map (λ t. t.now) text.entry) n → ⊥)) }
+{
+    let Some(text) = text else {
+        return Ok(None);
+    };
+    match text.parse::<u32>().ok() {
+        Some(n) if n >= 1 && n <= MOST_SECONDS => Ok(Some(n)),
+        _ => Err(LineFault::Line(String::from_str(
+            alloc,
+            "playcheck: a timeout is a whole number of seconds from 1 to 604800\n",
+        )?)),
+    }
+}
+
 fn command_of<'a>(alloc: Global) -> Result<Command<'a>, AllocError>
     ensures { IfOk result (λ c. app_of c ≡ playcheck_app) }
 {
@@ -193,7 +250,7 @@ fn run_command<'a>(alloc: Global) -> Result<Command<'a>, AllocError>
     let command = Command::new(alloc, "run").about(
         "Runs a playbook that is accepted, and prints the recap",
     );
-    with_workers(alloc, with_subject(alloc, command)?)
+    with_calling(alloc, with_workers(alloc, with_subject(alloc, command)?)?)
 }
 
 // How many work, and what answers their calls.
@@ -208,6 +265,17 @@ fn with_workers<'a>(alloc: Global, command: Command<'a>) -> Result<Command<'a>, 
         )?
         .arg(option(alloc, "answers").help("A file of answers, in place of modules"))?
         .arg(option(alloc, "modules").help("A folder of programs, one for each module"))
+}
+
+// How programs are called.
+fn with_calling<'a>(alloc: Global, command: Command<'a>) -> Result<Command<'a>, AllocError>
+    ensures { IfOk result (Extends with_callings command.entry) }
+{
+    command
+        .arg(option(alloc, "arguments").help(
+            "How programs get their arguments: as word, or by stdin",
+        ))?
+        .arg(option(alloc, "timeout").help("How many seconds a call may take at most"))
 }
 
 fn with_subject<'a>(alloc: Global, command: Command<'a>) -> Result<Command<'a>, AllocError>

@@ -18,6 +18,23 @@ pub enum Source {
     Modules(String),
 }
 
+/// How the arguments of a call come to its program.
+#[derive(Clone, Copy, PartialEq, Eq, Debug)]
+pub enum Handover {
+    /// As its second word, which whoever is on this machine can see.
+    Word,
+    /// On its standard input.
+    Input,
+}
+
+/// How programs are called.
+#[derive(Clone, Copy)]
+pub struct Calling {
+    pub handover: Handover,
+    /// How many seconds a call may take, from 1 to 604,800; none stands for no end.
+    pub timeout: Option<u32>,
+}
+
 /// What the program is to do.
 #[derive(Drop)]
 pub enum Options {
@@ -27,6 +44,8 @@ pub enum Options {
         /// From 1 to 256.
         forks: u16,
         source: Source,
+        /// Of answers from a file, as where nothing is said of it.
+        calling: Calling,
     },
 }
 

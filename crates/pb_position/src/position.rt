@@ -73,16 +73,6 @@ impl Position {
         self.location
     }
 
-    /// Whether the handler of that number is notified.
-    pub fn has_mark(&self, handler: usize) -> bool
-        ensures { (h : FlatHost) → IsAs self.now h → result ≡ is_marked handler h.marks }
-    {
-        match self.marks.get(handler) {
-            Some(mark) => *mark,
-            None => false,
-        }
-    }
-
     /// The text of the last failure; none stands for the empty one.
     pub fn failure(&self) -> Option<&Arc<String>>
         ensures { (h : FlatHost) → IsAs self.now h

@@ -2,7 +2,7 @@
 ghost use Rattle.std.specs.Prelude.{[], ◌∷◌, ◌≡◌, IfOk, codes, false, string_bytes, true};
 ghost use Rattle.pb_semantics.specs.Words.{booleans, is_listed, join, no_cases, ok_shape, one};
 ghost use Rattle.pb_semantics.specs.Words.{put_slot, recs, results, skipped_shape};
-ghost use Rattle.pb_language.specs.Words.{ended_kind, failure_case, results_of, skipped_slots};
+ghost use Rattle.pb_language.specs.Words.{ended_kind, results_of, skipped_slots};
 ghost use Rattle.pb_kind.specs.Words.{cases_view, kind_view, shape_view, slots_view};
 ghost use Rattle.pb_sig.specs.Results.{result_cases, result_kind};
 
@@ -52,19 +52,6 @@ impl Results {
             &self.ran
         }
     }
-}
-
-/// The kind of the result of a task that fails, of a module of that name with these fields in its
-/// failed shape, which has no `failed`.
-pub fn failed_kind(alloc: Global, action: &str, failure: &Slots) -> Result<Kind, AllocError>
-    requires { is_listed (codes "failed") (slots_view failure.now.entries) ≡ false }
-    ensures { IfOk result (λ k. kind_view k
-        ≡ results_of (failure_case action.now (slots_view failure.now.entries))) }
-{
-    let action = shared_name(alloc, action)?;
-    let ended = ended_record(alloc, failure)?;
-    let failed = case_of(&action, Shape::Failure, true, &ended)?;
-    result_of_case(alloc, failed)
 }
 
 // The result of a task that always runs and ends with that record.

@@ -1,7 +1,7 @@
 -- The codes of refusals as they are printed.
 use Rattle.std.specs.Prelude.{ℕ, List, codes}
 use Rattle.pb_verify.specs.declared.refusal.Code.{Code}
-use Rattle.pb_verify.specs.declared.refusal.Code.TheVariants.{N00, S01, S02, S03, S04, S05, P01}
+use Rattle.pb_verify.specs.declared.refusal.Code.TheVariants.{S01, S02, S03, S04, S05, P01}
 use Rattle.pb_verify.specs.declared.refusal.Code.TheVariants.{P02, P03, P04, P05, P06, P07, P08}
 use Rattle.pb_verify.specs.declared.refusal.Code.TheVariants.{P09, I01, I02, I03, I04, I05, A01}
 use Rattle.pb_verify.specs.declared.refusal.Code.TheVariants.{A02, A03, V01, V02, V03, V04, V05}
@@ -9,7 +9,6 @@ use Rattle.pb_verify.specs.declared.refusal.Code.TheVariants.{V06, V07, V08, V09
 use Rattle.pb_verify.specs.declared.refusal.Code.TheVariants.{V13}
 
 abbrev pub code_text : Code → List ℕ
-code_text N00 = codes "N00"
 code_text S01 = codes "S01"
 code_text S02 = codes "S02"
 code_text S03 = codes "S03"

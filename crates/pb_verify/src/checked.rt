@@ -128,12 +128,4 @@ impl Checked {
             None => None,
         }
     }
-
-    /// What was accepted, by itself.
-    pub fn into_accepted(self) -> Accepted
-        ensures accepted { result ≡ self }
-        ensures checked { IsChecked self }
-    {
-        self.accepted
-    }
 }

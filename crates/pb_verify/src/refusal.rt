@@ -5,8 +5,6 @@ ghost use Rattle.pb_verify.specs.Codes.{code_text};
 /// The code of a refusal.
 #[derive(Clone, Copy, PartialEq, Eq, Debug)]
 pub enum Code {
-    /// A form that isn't built yet.
-    N00,
     /// The signatures aren't JSON.
     S01,
     /// A signature is malformed.
@@ -85,7 +83,6 @@ impl Code {
         ensures { result.now ≡ code_text self }
     {
         match self {
-            Code::N00 => "N00",
             Code::S01 => "S01",
             Code::S02 => "S02",
             Code::S03 => "S03",

@@ -1,3 +1,4 @@
+# SPDX-License-Identifier: MIT OR Apache-2.0
 # A book as plays, blocks and tasks: what its nodes are, whatever file they stand in.
 from dataclasses import dataclass, field
 
@@ -39,6 +40,10 @@ class Task:
     may_ignore: "Scalar | None" = None  # a template in the place of `ignore_errors`
     facts: list = field(default_factory=list)  # what sets the further facts that it gathers
     has_no_bound: bool = False  # how often it is tried isn't known, or more often than the profile has it
+    is_outlived: bool = False  # where it fails its host's play may go on: it is ignored or rescued, or more always runs
+    is_free: bool = False  # hosts run it in no order
+    comes_with: str = ""  # of a handler: the folder of the role whose inclusion makes it known
+    folder: str = ""  # of a handler: that of its role
 
     def __post_init__(self):
         self.written = self.words.copy()
@@ -65,11 +70,12 @@ class Block:
     place: Place
     parts: dict  # block, rescue, always to their steps
     asked: list = field(default_factory=list)
-    defaults: dict = field(default_factory=dict)  # what a role gives where nothing else does
+    given: list = field(default_factory=list)  # what it gives to the tasks in it, beside `vars` of its own
     is_role: bool = False  # the collections of its play aren't its
     is_include: bool = False  # it has tags of its own, and where its condition is false it sets nothing
     is_asked_once: bool = False  # an include whose condition is asked before its tasks, and not by each of them
     lost: dict = field(default_factory=dict)  # names of `vars` that the profile can't have, with the reason
+    folder: str = ""  # of the role that it stands for
 
     def __post_init__(self):
         self.written = self.words.copy()
@@ -99,7 +105,9 @@ class Play:
     sections: dict  # pre_tasks, tasks, post_tasks, handlers to their steps
     asked: list = field(default_factory=list)
     reason: str = ""  # why none of its tasks is judged
-    defaults: dict = field(default_factory=dict)  # what roles give where nothing else does
+    has_no_host: bool = False  # the inventory has no host of its `hosts`
+    given: list = field(default_factory=list)  # what all of its tasks are given, with the sources
+    late: dict = field(default_factory=dict)  # names that roles give from some task on, with their source and the reason
     unseen_files: list = field(default_factory=list)  # files of variables that couldn't be read
     lost: dict = field(default_factory=dict)  # names of `vars` that the profile can't have, with the reason
     prompted: set = field(default_factory=set)  # names whose values are asked for at the start

@@ -1,8 +1,11 @@
+# SPDX-License-Identifier: MIT OR Apache-2.0
 # Checks one book: reads it, runs the passes, asks the program, and puts its answer into the words of the files.
-from dataclasses import dataclass, field
+from dataclasses import dataclass, field, replace
 
-from .books import Block, Play, Raw
+from .ansible_core import Trust
+from .books import Play, Raw
 from .codes import OWN_TITLES, TITLES
+from .connections import connection_variables
 from .facts import trust_facts
 from .further_facts import further_facts
 from .hosts import host_patterns, with_localhost
@@ -13,9 +16,12 @@ from .magic import magic_variables
 from .plays import leave_all, run_book_passes
 from .problems import Place
 from .program import Asker
-from .roles import put_defaults
+from .reserved_names import lose_reserved, mistaken_names
+from .returns import measured
+from .settling import Settler
 from .tags import leave_out
-from .unjudged import CUT, Settler
+from .unjudged import CUT
+from .variables import put_variables
 
 
 # What a counted line that no file has is called.
@@ -75,25 +81,28 @@ class Options:
     trusts_facts: bool = False
     tags: tuple = ()
     skip_tags: tuple = ()
+    trust: Trust = Trust()  # what of the repository that is checked may be run
 
 
 def prepared(path, options, book):
     """The book with its passes run, and the inventory that it is judged with."""
-    inventory = read_inventories(options.inventories, path)
+    inventory = read_inventories(options.inventories, path, options.trust)
     leave_out(book, options.tags, options.skip_tags)
     plays = [play for play in book.plays if isinstance(play, Play)]
     for play in plays:
-        for holder in [play, *(step for step in play.steps() if isinstance(step, Block))]:
-            put_defaults(holder, play, inventory)
+        put_variables(play, inventory)
     run_book_passes(book, options.modules, options.extra)
+    connection_variables(book, inventory)
     further_facts(book, options.trusts_facts)
     run_literal_passes(book, inventory)
     if options.trusts_facts:
         trust_facts(book)
     added = with_localhost(inventory, plays)
+    lose_reserved(book, inventory, options.extra)
+    mistaken_names(book)
     magic_variables(book, inventory, options.tags, options.skip_tags)
     for play in plays:
-        host_patterns(play, inventory, added)
+        host_patterns(play, inventory, added, bool(options.inventories))
         if play.reason:
             leave_all(play.tasks(), play.reason)
     return book, inventory
@@ -101,6 +110,7 @@ def prepared(path, options, book):
 
 def settled(path, options, book=None):
     """The book as it was judged last, with the inventory that it was judged with."""
+    options = replace(options, modules=measured(options.modules))
     book, inventory = prepared(path, options, book or load_book(path))
     with Asker(inventory.json(), options.modules.signatures(book)) as asker:
         settler = Settler(book, options.modules, inventory, asker)

@@ -1,12 +1,13 @@
+# SPDX-License-Identifier: MIT OR Apache-2.0
 # The titles of the codes, as the pages have them (a test compares), and the section of a code.
-import os
 import re
 
-from .problems import TOP, Problem
+from .places import page
+from .problems import Problem
 
-PAGE = os.path.join(TOP, "docs", "REFUSALS.md")
+PAGE = "REFUSALS.md"
 # The page of the codes that the front end itself tells.
-OWN_PAGE = os.path.join(TOP, "docs", "FROM_ANSIBLE.md")
+OWN_PAGE = "FROM_ANSIBLE.md"
 TITLES = {
     "S01": "the signatures aren't JSON",
     "S02": "the signatures have another form",
@@ -47,18 +48,19 @@ TITLES = {
 OWN_TITLES = {
     "A-alias": "a parameter that is given by two names",
     "A-choice": "a value that is none of the parameter's choices",
+    "A-name": "a name that no variable can have",
     "A-required": "a parameter that has to be there",
 }
 
 
-def section_of(code):
+def section_of(code: str) -> str:
     """The section of a page on a code."""
-    page = OWN_PAGE if code.startswith("A-") else PAGE
+    path = page(OWN_PAGE if code.startswith("A-") else PAGE)
     try:
-        with open(page, encoding="utf-8") as file:
+        with open(path, encoding="utf-8") as file:
             text = file.read()
     except OSError as error:
-        raise Problem(None, f"{page} can't be read: {error.strerror}") from None
+        raise Problem(None, f"{path} can't be read: {error.strerror}") from None
     found = re.search(rf"^### {re.escape(code)}: .*?(?=^##|\Z)", text, re.M | re.S | re.I)
     if not found:
         raise Problem(None, f"there is no code {code}; there are {' '.join([*TITLES, *OWN_TITLES])}")

@@ -1,36 +1,48 @@
+# SPDX-License-Identifier: MIT OR Apache-2.0
 # The command line: which words there are, and the status with which it ends.
 import argparse
+import errno
 import json
 import os
 import sys
+import traceback
+from typing import List
 
+from . import __version__
+from .ansible_core import RUN, TRUST, passed_over, trust_of
 from .checking import Options, check_book, settled
 from .codes import section_of
 from .formats import FORMATS
+from .limits import ALLOWANCE, OutOfTime, reason_of
 from .loading import load_book
 from .looking_up import NOT_INSTALLED, looked_up, used_modules
 from .modules import PROFILE, UNKNOWN, read_signatures, short_name
 from .nodes import Mapping, is_nothing, made
 from .positions import node_of, read_file
+from .printing import told
 from .problems import Place, Problem
 from .processes import on_path
 from .values import arguments_of
 
 BAD_WORDS = 64
 NO_MEMORY = 3
+INTERNAL = 70
+INTERRUPTED = 130
 SUFFIXES = (".yml", ".yaml", ".json")
 EPILOG = """status: 0 all books are accepted, 1 a refusal (or, with --strict, a task that isn't judged),
-3 want of memory, 64 a bad command line or a file that can't be read"""
+3 want of memory or of time, 64 a bad command line or a file that can't be read, 70 a fault of this program"""
 
 
 class Words(argparse.ArgumentParser):
     def error(self, message):
-        self.exit(BAD_WORDS, f"playcheck-ansible: {message}; --help tells more\n")
+        told(f"{message}; --help tells more")
+        self.exit(BAD_WORDS)
 
 
-def parser():
+def parser() -> argparse.ArgumentParser:
     words = Words(prog="playcheck-ansible", description="Judges Ansible playbooks in YAML.", epilog=EPILOG,
                   formatter_class=argparse.RawDescriptionHelpFormatter)
+    words.add_argument("-V", "--version", action="version", version=f"playcheck-ansible {__version__}")
     commands = words.add_subparsers(prog=words.prog, dest="command", required=True, metavar="COMMAND",
                                     parser_class=Words)
     check = commands.add_parser("check", help="judges playbooks, or all of a folder")
@@ -47,12 +59,13 @@ def parser():
     signatures = commands.add_parser("signatures", help="writes signatures out of Ansible's documentation")
     signatures.add_argument("names", nargs="+", metavar="MODULE",
                             help="a module, or a playbook whose modules are meant")
+    add_trust(signatures)
     explain = commands.add_parser("explain", help="prints what a code means")
     explain.add_argument("code", metavar="CODE")
     return words
 
 
-def add_inputs(words):
+def add_inputs(words: argparse.ArgumentParser) -> None:
     words.add_argument("-i", "--inventory", action="append", default=[], nargs="+", metavar="INVENTORY",
                        help="a file in YAML or JSON, what ansible-inventory reads, or a list of hosts with a comma")
     words.add_argument("-s", "--signatures", action="append", default=[], metavar="FILE", help="declared modules")
@@ -67,32 +80,72 @@ def add_inputs(words):
                        help="all fields that a module's documentation names are there in each answer")
     words.add_argument("--no-lookup", action="store_true",
                        help="looks no modules up by ansible-doc, where ansible-core is installed")
+    words.add_argument(RUN, action="store_true",
+                       help="runs inventories that are programs or that name a plugin; else nothing of them is run")
+    add_trust(words)
     words.add_argument("--vars", action="append", default=[], metavar="FILE", help="a file of variables")
 
 
-def main(arguments):
+def add_trust(words: argparse.ArgumentParser) -> None:
+    words.add_argument(TRUST, action="store_true",
+                       help="lets Ansible's programs take ansible.cfg, modules, plugins and collections of the "
+                            "repository, and run them; else nothing of it is run")
+
+
+def main(arguments: List[str]) -> int:
     words = parser().parse_args(arguments)
     try:
-        return COMMANDS[words.command](words)
+        status: int = COMMANDS[words.command](words)
+        return status
     except Problem as problem:
         told(problem)
         return problem.status
     except RecursionError:
         told("a file nests too deep")
         return BAD_WORDS
-    except MemoryError:
-        told("there is no more memory")
+    except (MemoryError, OutOfTime) as end:
+        told(reason_of(end))
         return NO_MEMORY
-    except BrokenPipeError:
-        return BAD_WORDS
 
 
-def told(what):
-    print(f"playcheck-ansible: {what}", file=sys.stderr)
+def run(arguments: List[str]) -> int:
+    """What the launcher calls: a command within its limits. What nobody thought of has a status of its own."""
+    keep_streams_open()
+    ALLOWANCE.set()
+    try:
+        return main(arguments)
+    except KeyboardInterrupt:
+        return INTERRUPTED
+    except Exception as error:
+        at = traceback.extract_tb(error.__traceback__)[-1]
+        told(f"internal error: {type(error).__name__}: {error} ({os.path.basename(at.filename)}:{at.lineno})")
+        return INTERNAL
+
+
+def keep_streams_open() -> None:
+    """Opens what the caller has closed of the three streams, so that no other file gets its number."""
+    for number in range(3):
+        try:
+            os.fstat(number)
+        except OSError:
+            os.open(os.devnull, os.O_RDWR)  # it gets the lowest number that is free
+
+
+def write_out(text: str) -> None:
+    """Writes to standard output, all of it."""
+    try:
+        if sys.stdout is None:
+            raise OSError(errno.EBADF, os.strerror(errno.EBADF))
+        sys.stdout.reconfigure(errors="backslashreplace")  # type: ignore[union-attr]
+        sys.stdout.write(text)
+        sys.stdout.flush()
+    except OSError as error:
+        os.dup2(os.open(os.devnull, os.O_WRONLY), 1)  # what is left of it isn't tried again at the end
+        raise Problem(None, f"the output can't be written: {error.strerror}") from None
 
 
 def explain(words):
-    sys.stdout.write(section_of(words.code.upper()))
+    write_out(section_of(words.code.upper()))
     return 0
 
 
@@ -102,8 +155,7 @@ def convert(words):
     options = options_of(words)
     settler, inventory = settled(words.book, options, *with_lookup([words.book], options, words))
     write_converted(words.output, settler, inventory)
-    warning = warning_of(settler.numbered.lines)
-    if warning:
+    if warning := warning_of(settler.numbered.lines):
         told(warning)
     return 0
 
@@ -116,13 +168,13 @@ def signatures(words):
     for name in words.names:
         names += used_modules(load_book(name)) if name.endswith(SUFFIXES) else [short_name(name)]
     names = sorted(set(names) - set(PROFILE))
-    declared, left = signatures_of(documentation(names)) if names else ([], {})
+    trust = trust_of(False, words.trust_repository, words.names)
+    declared, left = signatures_of(documentation(names, trust)) if names else ([], {})
     found = {module["ansible"]["name"] for module in declared}
     for name in names:
         if name not in found:
             told(f"the module {name} isn't declared: {left.get(name, UNKNOWN)}")
-    json.dump([without_file(module) for module in declared], sys.stdout, indent=1)
-    sys.stdout.write("\n")
+    write_out(json.dumps([without_file(module) for module in declared], indent=1) + "\n")
     return 0 if declared or not names else BAD_WORDS
 
 
@@ -134,8 +186,16 @@ def options_of(words):
     for path in words.vars:
         extra.update(variables_in(read_file(path), path))
     modules = read_signatures(words.signatures)
+    trust = trust_of(words.run_inventory, words.trust_repository, [*books_in(words), *inventories])
+    for what in passed_over(trust):
+        told(what)
     return Options(inventories, modules, extra, getattr(words, "go_on", False), words.trust_facts,
-                   divided(words.tags), divided(words.skip_tags))
+                   divided(words.tags), divided(words.skip_tags), trust)
+
+
+def books_in(words: argparse.Namespace) -> List[str]:
+    """The books that a command line names."""
+    return [words.book] if "book" in words else list(words.books)
 
 
 def divided(texts):
@@ -171,12 +231,13 @@ def with_lookup(paths, options, words):
     else:
         names = []
         for path in paths:
+            ALLOWANCE.begin()
             try:
                 read = [load_book(path)]
-            except Problem:
+            except (Problem, MemoryError, OutOfTime):
                 continue  # it is told when the book is checked
             names += used_modules(read[0])
-        options.modules = looked_up(names, options.modules, told)
+        options.modules = looked_up(names, options.modules, told, options.trust)
     if words.trust_returns:
         options.modules = options.modules.trusting()
     return read if len(paths) == 1 else []
@@ -188,17 +249,21 @@ def check(words):
     paths = list(books_of(words.books))
     book = with_lookup(paths, options, words)
     for path in paths:
+        ALLOWANCE.begin()
         try:
             report = check_book(path, options, *book)
         except Problem as problem:
             told(problem)
             statuses.append(problem.status)
             continue
+        except (MemoryError, OutOfTime) as end:
+            told(f"{path}: {reason_of(end)}")
+            statuses.append(NO_MEMORY)
+            continue
         report.is_strict = words.strict
         reports.append(report)
         statuses.append(0 if report.is_accepted else 1)
-    sys.stdout.write(FORMATS[words.format](reports, has_colour(words.color)))
-    sys.stdout.flush()
+    write_out(FORMATS[words.format](reports, has_colour(words.color)))
     return max(statuses)
 
 
@@ -217,6 +282,7 @@ def is_book(path):
     """Whether a file of a folder is a playbook: a list with an item that has `hosts` or `import_playbook`."""
     if not path.endswith(SUFFIXES):
         return False
+    ALLOWANCE.begin()
     try:
         node = read_file(path)
     except Problem:
@@ -228,7 +294,7 @@ def is_book(path):
 def has_colour(choice):
     if choice != "auto":
         return choice == "always"
-    return sys.stdout.isatty() and not os.environ.get("NO_COLOR")
+    return sys.stdout is not None and sys.stdout.isatty() and not os.environ.get("NO_COLOR")
 
 
 COMMANDS = {"check": check, "convert": convert, "explain": explain, "signatures": signatures}

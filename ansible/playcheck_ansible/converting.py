@@ -1,4 +1,6 @@
+# SPDX-License-Identifier: MIT OR Apache-2.0
 # Writes what the program is asked: the book, the inventory and the signatures in JSON, and what each line is.
+import contextlib
 import json
 import os
 
@@ -17,10 +19,18 @@ def write_converted(folder, settler, inventory):
         raise Problem(Place(folder), error.strerror or str(error)) from None
 
 
-def write(folder, name, value):
-    with open(os.path.join(folder, name), "w", encoding="utf-8") as file:
-        json.dump(value, file, indent=2)
-        file.write("\n")
+def write(folder: str, name: str, value: object) -> None:
+    """Writes a file anew and gives it its name then: a link of this name is no way to another file."""
+    made = os.path.join(folder, f".{name}.{os.getpid()}")
+    try:
+        with open(made, "x", encoding="utf-8") as file:
+            json.dump(value, file, indent=2)
+            file.write("\n")
+        os.replace(made, os.path.join(folder, name))
+    except BaseException:
+        with contextlib.suppress(FileNotFoundError):
+            os.remove(made)
+        raise
 
 
 def line_json(number, line):

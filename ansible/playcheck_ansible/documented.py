@@ -1,11 +1,13 @@
+# SPDX-License-Identifier: MIT OR Apache-2.0
 # Signatures of modules out of Ansible's own documentation, which `ansible-doc` prints where ansible-core is installed.
 import json
 import re
 import zlib
+from typing import Any, List
 
+from .ansible_core import Trust, run_ansible
 from .modules import BOOL_FIELD, FAILURE, PROFILE, are_choices
 from .problems import Problem
-from .processes import on_path, run_within
 
 SECONDS = 300
 MOST_UNDOCUMENTED = 4
@@ -32,18 +34,15 @@ RANGE = re.compile(r"-?\d+\s*(-|\.\.+|to)\s*\d+|.*[<>*].*")
 NOT_FIELDS = ("failed", "skipped", "skip_reason", "results", "unreachable", "changed")
 
 
-def documentation(names, seconds=SECONDS, again=MOST_UNDOCUMENTED):
+def documentation(names: List[str], trust: Trust, seconds: int = SECONDS, again: int = MOST_UNDOCUMENTED) -> Any:
     """What ansible-doc has on these modules; those that it doesn't know or that have no documentation are left out."""
-    found = on_path("ansible-doc")
-    if not found:
-        raise Problem(None, "`ansible-doc` isn't installed; it comes with ansible-core")
-    said, told, status = run_within([found, "-t", "module", "--json", *names], seconds)
+    said, told, status = run_ansible("ansible-doc", ["-t", "module", "--json", *names], seconds, trust)
     if status and not said.strip():
         # It prints nothing on all the others where one has no documentation: the call is made again without that one.
         without = UNDOCUMENTED.search(told)
         if without and without[1] in names and again:
             others = [name for name in names if name != without[1]]
-            return documentation(others, seconds, again - 1) if others else {}
+            return documentation(others, trust, seconds, again - 1) if others else {}
         raise Problem(None, f"ansible-doc ended with status {status}: {' '.join(told.split())[-200:]}")
     try:
         read = json.loads(said or "{}")

@@ -1,3 +1,4 @@
+# SPDX-License-Identifier: MIT OR Apache-2.0
 # With `--trust-facts`: facts that are perhaps there are taken as there wherever facts are gathered.
 import re
 

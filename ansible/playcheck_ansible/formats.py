@@ -1,8 +1,10 @@
+# SPDX-License-Identifier: MIT OR Apache-2.0
 # Prints reports: for people with the place and a caret, and as JSON; pipelines.py has the other formats.
-import json
-
 from .pipelines import github_format, sarif_format
-from .wording import message_of, verdict_of
+from .positions import read_bytes
+from .printing import json_of, line_of
+from .problems import Problem
+from .wording import message_of, not_judged_of, verdict_of
 
 RED, BOLD, PLAIN = "\033[31m", "\033[1m", "\033[0m"
 
@@ -11,10 +13,18 @@ def excerpt(place, lines):
     """The line of a place with a caret under its column."""
     if not 0 < place.line <= len(lines):
         return []
-    text = lines[place.line - 1]
-    number = f"{place.line:>5} | "
-    before = "".join("\t" if letter == "\t" else " " for letter in text[:place.column - 1])
-    return [number + text, " " * 5 + " | " + before + "^"]
+    before, after = (excerpted(part) for part in divided(lines[place.line - 1], place.column - 1))
+    blank = "".join("\t" if letter == "\t" else " " for letter in before)
+    return [f"{place.line:>5} | {before}{after}", f"{'':5} | {blank}^"]
+
+
+def divided(text, at):
+    return text[:at], text[at:]
+
+
+def excerpted(text):
+    """A part of a line of a file, with its tabs."""
+    return "\t".join(map(line_of, text.split("\t")))
 
 
 class Sources:
@@ -26,9 +36,8 @@ class Sources:
     def lines(self, path):
         if path not in self.files:
             try:
-                with open(path, encoding="utf-8-sig", errors="replace") as file:
-                    self.files[path] = file.read().splitlines()
-            except OSError:
+                self.files[path] = read_bytes(path).decode("utf-8-sig", "replace").splitlines()
+            except Problem:
                 self.files[path] = []
         return self.files[path]
 
@@ -39,23 +48,21 @@ def text_format(reports, has_colour):
     for report in reports:
         for finding in report.findings:
             code = f"{BOLD}{RED}{finding.code}{PLAIN}" if has_colour else finding.code
-            printed.append(f"{finding.place}: {code} {message_of(finding)}")
+            printed.append(f"{line_of(str(finding.place))}: {code} {message_of(finding)}")
             printed += excerpt(finding.place, sources.lines(finding.place.file))
             if finding.help:
-                printed.append(f"      help: {finding.help}")
-        for one in report.unjudged:
-            name = f" {one.kind} '{one.name}':" if one.name else ""
-            printed.append(f"{one.place}: not judged:{name} {one.reason}")
-        printed += [f"{one.place}: not asked: {one.reason}" for one in report.notes]
+                printed.append(f"      help: {line_of(finding.help)}")
+        printed += [f"{line_of(str(one.place))}: not judged: {not_judged_of(one)}" for one in report.unjudged]
+        printed += [f"{line_of(str(one.place))}: not asked: {line_of(one.reason)}" for one in report.notes]
         printed.append(verdict_of(report))
     return "".join(line + "\n" for line in printed)
 
 
 def json_format(reports, has_colour):
-    return json.dumps({"books": [json_of(report) for report in reports]}, indent=2) + "\n"
+    return json_of({"books": [book_json(report) for report in reports]})
 
 
-def json_of(report):
+def book_json(report):
     return {
         "book": report.book,
         "verdict": "accepted" if report.is_accepted else "refused",

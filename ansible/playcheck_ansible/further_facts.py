@@ -1,3 +1,4 @@
+# SPDX-License-Identifier: MIT OR Apache-2.0
 # Facts past the six of the profile: where facts are gathered, those that a book reads are set, perhaps or for certain.
 import re
 

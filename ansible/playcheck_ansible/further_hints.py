@@ -1,3 +1,4 @@
+# SPDX-License-Identifier: MIT OR Apache-2.0
 # What a refusal of a host, a handler or a part of a block is about: hints that look at more of the book than one task.
 import itertools
 import re

@@ -1,3 +1,4 @@
+# SPDX-License-Identifier: MIT OR Apache-2.0
 # Prints reports as GitLab's report of code quality and as JUnit's XML.
 import hashlib
 import json
@@ -5,7 +6,8 @@ import re
 import xml.etree.ElementTree as xml
 
 from .pipelines import NOT_JUDGED, left_of, path_of
-from .wording import message_of, verdict_of
+from .printing import json_of, line_of
+from .wording import message_of, not_judged_of, outcome_of, verdict_of
 
 # Places in texts, which move with lines that are put in before them.
 MOVING = re.compile(r"lines? \d+(?:, \d+)*|:\d+(?::\d+)?")
@@ -26,7 +28,7 @@ def gitlab_format(reports, has_colour):
             issues.append({"description": text, "check_name": code, "severity": severity,
                            "fingerprint": fingerprint((*key, seen[key])),
                            "location": {"path": path_of(one.place), "lines": {"begin": max(one.place.line, 1)}}})
-    return json.dumps(issues, indent=2) + "\n"
+    return json_of(issues)
 
 
 def fingerprint(parts):
@@ -34,7 +36,7 @@ def fingerprint(parts):
 
 
 def not_judged_text(one):
-    return f"not judged: {one.kind} '{one.name}': {one.reason}" if one.name else f"not judged: {one.reason}"
+    return f"not judged: {not_judged_of(one)}"
 
 
 def junit_format(reports, has_colour):
@@ -48,8 +50,7 @@ def junit_format(reports, has_colour):
             outcome = "failure" if report.is_strict else "skipped"
             add_case(suite, report, one, not_judged_text(one), outcome, NOT_JUDGED)
         if report.is_accepted:
-            name = verdict_of(report)[len(report.book) + 2:]
-            xml.SubElement(suite, "testcase", name=xml_text(name), classname=xml_text(report.book))
+            xml.SubElement(suite, "testcase", name=outcome_of(report), classname=xml_text(report.book))
         xml.SubElement(suite, "system-out").text = xml_text(verdict_of(report))
         count_cases(suite, suite)
     count_cases(suites, suites)
@@ -76,5 +77,5 @@ def count_cases(element, below):
 
 
 def xml_text(text):
-    """A text with a sign in the place of each letter that XML can't have."""
-    return NO_XML.sub("\ufffd", text)
+    """A text in one line, with a sign in the place of each letter that XML can't have."""
+    return NO_XML.sub("\ufffd", line_of(text))

@@ -1,3 +1,4 @@
+# SPDX-License-Identifier: MIT OR Apache-2.0
 # Where in a task a refusal points to, what it is about, and what may have been meant: by the texts, after the answer.
 import re
 from dataclasses import dataclass
@@ -28,7 +29,9 @@ class Culprit:
 
 def culprit(task, known):
     """The first name that a task reads without a guard and that is set nowhere."""
-    return culprit_in(list(read_places(task.words, task.asked)), known)
+    places = list(read_places(task.words, task.asked))
+    return culprit_in([place for place in places if place[1].is_first], known) or \
+        culprit_in([place for place in places if not place[1].is_first], known)
 
 
 def culprit_in(places, known):
@@ -168,10 +171,16 @@ def missing_of(path, node, giver, settler):
                 f"Guard: when: {path[0]} is not skipped, or {text} | default('')")
 
 
+WANTED = {"bool": "a truth value", "int": "a whole number", "text": "a text"}
+
+
 def wrong_kind(task, line, settler):
+    wanted = [node for node in line.nodes if getattr(node, "wanted", "")] if line.kind == "asked" else []
+    if len(wanted) == 1:
+        return Hint(wanted[0].place, f"{WANTED[wanted[0].wanted]} is wanted here")
     for key in CONDITIONS:
         node = task.words.get(key)
-        if node is not None and all(re.fullmatch(r"[\w.]+", text.value) for text in texts_of(node)):
+        if node is not None and texts_of(node) and all(re.fullmatch(r"[\w.]+", text.value) for text in texts_of(node)):
             name = shown(node)
             return Hint(key_place(task, (key,)) or node.place, f"{key}: '{name}' may be no truth value",
                         f"Write a comparison, as {name} == '..' or {name} | length > 0")

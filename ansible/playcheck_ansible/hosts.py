@@ -1,30 +1,53 @@
+# SPDX-License-Identifier: MIT OR Apache-2.0
 # Patterns of hosts that the profile lacks are put in as the hosts that they name; and Ansible's own localhost.
 import fnmatch
 import re
 
+from .inventory import BASE, Inventory
+from .inventory_names import LONGEST
+from .matching import SlowPattern, matching
 from .nodes import has_template, is_text, made, texts_of
 
 LOCAL = ("localhost", "127.0.0.1", "::1")
+NO_HOSTS = "playcheck_no_hosts"
 NO_MATCH = "no host of the inventory is of the play's `hosts`, so Ansible passes it over"
 
 
-def host_patterns(play, inventory, added):
-    """Names the hosts of a pattern with `!`, `&`, `*`, `~` or a range, and of `all` where a localhost was added."""
+def host_patterns(play, inventory, added, is_given):
+    """Names the hosts of a pattern with `!`, `&`, `*`, `~` or a range, and of `all` where a localhost was added.
+
+    A play without a host isn't judged, but where no inventory is given.
+    """
     node = play.words.get("hosts")
     texts = [text.value for text in texts_of(node) if is_text(text)] if node is not None else []
     if not texts or any(has_template(text) for text in texts):
         return
     words = [word for text in texts for word in divided(text)]
     hides_local = added and not set(words) & set(LOCAL) and set(words) & {"all", "ungrouped"}
-    if not hides_local and not any(re.search(r"[!&*~\[?]", word) for word in words):
+    is_pattern = any(re.search(r"[!&*~\[?]", word) for word in words)
+    if not (hides_local or is_pattern or is_given):
         return
-    found = matched(words, inventory, added)
+    try:
+        found = matched(words, inventory, added)
+    except SlowPattern as slow:
+        play.reason = play.reason or str(slow)
+        play.words.put("hosts", made("all", node.place))
+        return
     if found is None:
         return
     if not found:
+        play.has_no_host = True
         play.reason = play.reason or NO_MATCH
-        return
-    play.words.put("hosts", made(found, node.place))
+        play.words.put("hosts", made(empty_group(inventory), node.place))
+    elif hides_local or is_pattern:
+        play.words.put("hosts", made(found, node.place))
+
+
+def empty_group(inventory: Inventory) -> str:
+    """A group without hosts, in which a play stands that has none."""
+    there = next((name for name in inventory.groups if name not in BASE and not inventory.hosts_of(name)), NO_HOSTS)
+    inventory.group(there)
+    return there
 
 
 def divided(text):
@@ -42,20 +65,22 @@ def divided(text):
 
 def matched(words, inventory, added):
     """The hosts of a pattern by Ansible's rules, or None where a word of it names nothing."""
-    hosts = []
+    words = list(dict.fromkeys(words))
+    hosts = {}  # in their order
     first = [word for word in words if word[0] not in "!&"] or ["all"]
     for word in first:
         some = of_word(word, inventory, added)
         if some is None:
             return None
-        hosts += [host for host in some if host not in hosts]
+        hosts.update(dict.fromkeys(some))
     for sign in "&!":
         for word in (word[1:].strip() for word in words if word[0] == sign):
             some = of_word(word, inventory, added)
             if some is None:
                 return None
-            hosts = [host for host in hosts if (host in some) == (sign == "&")]
-    return hosts
+            named = set(some)
+            hosts = {host: None for host in hosts if (host in named) == (sign == "&")}
+    return list(hosts)
 
 
 def of_word(word, inventory, added):
@@ -77,15 +102,18 @@ def of_word(word, inventory, added):
 
 
 def of_glob(word, inventory, added):
-    try:
-        pattern = re.compile(word[1:] if word.startswith("~") else fnmatch.translate(word))
-    except re.error:
+    """The hosts of a pattern with signs, or None where it is none or longer than any name."""
+    if len(word) > LONGEST:
         return None
-    found = []
-    for name in [*inventory.groups, *inventory.hosts]:
-        if pattern.match(name) and name not in added:
-            found += [host for host in inventory.hosts_of(name) if host not in found]
-    return found
+    names = tuple(name for name in (*inventory.groups, *inventory.hosts) if name not in added)
+    if word.startswith("~"):
+        fitting = matching(word[1:], names)
+    else:
+        pattern = re.compile(fnmatch.translate(word))
+        fitting = [name for name in names if pattern.match(name)]
+    if fitting is None:
+        return None
+    return list(dict.fromkeys(host for name in fitting for host in inventory.hosts_of(name)))
 
 
 def ranged(hosts, match):

@@ -1,3 +1,4 @@
+# SPDX-License-Identifier: MIT OR Apache-2.0
 # Counts the lines of a book as docs/REFUSALS.md says, prints its JSON, and keeps what each line is.
 from dataclasses import dataclass, field
 
@@ -133,13 +134,20 @@ class Printer:
     def task(self, task, play):
         kind = "handler" if task.is_handler else "task"
         scope = {key: task.words.get(key) for key in ("when", "loop", "vars") if key in task.words}
-        asked = [] if task.reason and not task.is_still_asked else self.asked(task, task.asked, scope, play)
+        asked = [] if task.reason and not task.is_still_asked else self.asked_words(task, scope, play)
         if task.reason:
             self.lines.append(Line(kind, play, task))
             return [*asked, self.unjudged(task, play)]
         self.lines.append(Line(kind, play, task, (task.words,)))
         return [*asked, {key: plain(part) for key, part in task.words.pairs.items()},
                 *self.not_ignored(task, play), *self.facts(play, task.facts)]
+
+    def asked_words(self, task, scope, play):
+        """What the words of a task ask: some before its condition, the others under it and in its loop."""
+        first = [node for node in task.asked if getattr(node, "is_first", False)]
+        own = {key: node for key, node in scope.items() if key == "vars"}
+        others = [node for node in task.asked if not getattr(node, "is_first", False)]
+        return self.asked(task, first, own, play) + self.asked(task, others, scope, play)
 
     def facts(self, play, tasks):
         """What sets further facts behind the task that gathers them."""

@@ -1,9 +1,12 @@
+# SPDX-License-Identifier: MIT OR Apache-2.0
 # The passes over expressions: `bool` and `default(.., true)` where all values of a name are known, and stand_ins.py.
 import re
 
 from .books import Block, Raw, Task
 from .inventory import is_opaque
-from .names import KNOWN, MAGIC, TEXT, expression_names, given_names, outside_form, read_places
+from .finite import Finite, has_plain_items
+from .kinds import forced
+from .names import KNOWN, MAGIC, expression_names, given_names, outside_form, read_places, without_texts
 from .nodes import Mapping, Scalar, is_literal, plain
 from .rewriting import changed_texts, rewrite_words
 from .stand_ins import rewritten, stand_ins
@@ -32,6 +35,7 @@ class Expressions:
 
     def __init__(self, holder, values):
         self.holder, self.values = holder, values
+        self.finite = Finite(values, has_plain_items(holder))
         self.inexact = set()
 
     def rewrite(self):
@@ -39,7 +43,7 @@ class Expressions:
         if "debug" in holder.words:
             holder.words.put("debug", changed_texts(holder.words.get("debug"), self.change_asked))
         rewrite_words(holder.words, self.change)
-        holder.asked = [changed_texts(node, self.change_asked) for node in holder.asked]
+        holder.asked = [changed_texts(node, self.change_asked) for node in forced(holder.asked, self.values)]
         if isinstance(holder, Task) and holder.may_ignore is not None:
             ignored(holder, self.change)
             self.mark([(holder.may_ignore.value, holder.may_ignore)])
@@ -52,7 +56,10 @@ class Expressions:
         return self.written(self.change(expression), True)
 
     def written(self, expression, is_loose):
-        new, is_exact = rewritten(expression, is_loose)
+        new, is_exact = rewritten(expression, is_loose, self.finite)
+        if new == expression and isinstance(self.holder, Task) and "int" in expression \
+                and rewritten(expression, is_loose)[0] != expression:
+            self.holder.leave("`int` of what may be the text `inf`, of which it makes no number")
         if not is_exact or bare(expression) in self.inexact:
             self.inexact.add(bare(new))
         return new
@@ -83,6 +90,7 @@ class Values:
     def __init__(self, book, inventory):
         self.book, self.inventory = book, inventory
         self.of_names = None  # found where it is first asked for
+        self.written = {}  # all that gives a name its value by `vars` and `set_fact`, and None for what registers it
 
     def find(self):
         self.of_names = {}
@@ -99,6 +107,7 @@ class Values:
             self.add_task(task)
 
     def add(self, name, value, is_known):
+        self.written.setdefault(name, []).append(value)
         known = self.of_names.get(name, [])
         self.of_names[name] = [*known, value] if is_known and known is not None else None
 
@@ -176,7 +185,7 @@ def replaced(expression, pattern, change):
     if "|" not in expression:
         return expression
     parts, at = [], 0
-    for found in pattern.finditer(TEXT.sub(lambda text: "'" * len(text[0]), expression)):
+    for found in pattern.finditer(without_texts(expression, "'")):
         new = change(found, lambda match, group: expression[match.start(group):match.end(group)].strip())
         if new is not None:
             parts += [expression[at:found.start()], new]

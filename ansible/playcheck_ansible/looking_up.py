@@ -1,6 +1,8 @@
+# SPDX-License-Identifier: MIT OR Apache-2.0
 # Looks up the modules of books in Ansible's documentation: one call for all that are neither built in nor declared.
 import re
 
+from .ansible_core import TRUST, Trust, own_text
 from .books import Block, Play, Task, is_module
 from .modules import INCLUDES, PREFIXES, UNKNOWN, Modules, short_name
 from .nodes import Mapping, is_text, texts_of
@@ -57,7 +59,7 @@ def named_modules(task):
             yield short_name(named.value.split()[0])
 
 
-def looked_up(names, modules, told):
+def looked_up(names, modules, told, trust):
     """The modules with those of these names that Ansible's documentation has; what fails is told."""
     wanted = sorted({name for name in names if NAME.fullmatch(name) and not modules.has(name)
                      and name not in modules.written})
@@ -66,12 +68,18 @@ def looked_up(names, modules, told):
     from .documented import documentation, signatures_of  # read where it is wanted: many books ask nothing
 
     try:
-        documents = documentation(wanted, SECONDS)
+        documents = documentation(wanted, trust, SECONDS)
     except Problem as problem:
         told(f"modules aren't looked up: {problem}")
         modules.unasked = FAILED
         return modules
     declared, left = signatures_of({name: documents[name] for name in wanted if name in documents})
     found = {module["ansible"]["name"] for module in declared}
-    unknown = {name: left.get(name, UNKNOWN) for name in wanted if name not in found}
+    unknown = {name: left.get(name) or reason_of(name, trust) for name in wanted if name not in found}
     return Modules([*modules.declared, *declared], unknown)
+
+
+def reason_of(name: str, trust: Trust) -> str:
+    """Why nothing is known of a module that `ansible-doc` doesn't have."""
+    text = own_text(name, trust)
+    return f"{text} isn't used; {TRUST} lets ansible-doc read it" if text else UNKNOWN

@@ -1,8 +1,10 @@
+# SPDX-License-Identifier: MIT OR Apache-2.0
 # The passes over loops: `with_dict`, `with_list` and `with_items`, a loop variable with a name of its own, labels.
 import re
 
-from .names import (GRAMMAR, KNOWN, MAGIC, TEXT, expression_names, expressions_of, given_names, mentioned,
-                    names_of_vars, read_places, without_texts)
+from .kinds import asked_word, wrong_word
+from .names import (GRAMMAR, KNOWN, MAGIC, expression_names, expressions_of, given_names, mentioned,
+                    names_of_vars, read_places, text_spans, without_texts)
 from .nodes import Mapping, Sequence, has_template, is_nothing, is_text, made, texts_of
 from .rewriting import changed_texts, rewrite_words
 from .values import is_whole
@@ -70,7 +72,7 @@ def loop_variable_bar(task, named, lists):
 
 def is_hidden(name, expression):
     """Whether an expression may name a variable otherwise than by a plain read of it."""
-    quoted = " ".join(TEXT.findall(expression))
+    quoted = " ".join(expression[start:end] for start, end in text_spans(expression))
     by_text = "vars" in expression or "lookup" in expression or "query" in expression
     return by_text and name in quoted or re.search(rf"\b{name}\s*=(?!=)", without_texts(expression)) is not None
 
@@ -110,7 +112,11 @@ def loops(task, modules):
     if not isinstance(control, Mapping) or set(control.pairs) - {"label", "pause"}:
         task.leave("`loop_control` with more than `label`, `loop_var` and `pause`", control.place)
         return
-    task.asked += control.pairs.values()
+    for key, node in control.pairs.items():
+        wrong = wrong_word(key, node)
+        if wrong:
+            task.leave(wrong, node.place)
+        task.asked += asked_word(key, node)
 
 
 def flat_items(node):

@@ -1,10 +1,11 @@
+# SPDX-License-Identifier: MIT OR Apache-2.0
 # Names that Ansible itself gives: those whose kind is known become variables of the inventory or of a play.
 import os
 import re
 
-from .books import Block, Raw, Task
+from .books import Block, Play, Raw, Task, steps_below
 from .further_facts import FURTHER
-from .names import MAGIC
+from .names import MAGIC, mentioned
 from .nodes import Mapping, Scalar, texts_of
 
 # What holds in a run without options for it, on each host; the versions and the number of forks stand for any.
@@ -18,6 +19,8 @@ HOSTS = ("ansible_play_hosts", "ansible_play_hosts_all", "play_hosts")
 # What a play's tasks see and `hostvars` doesn't: a host is reached under its own name where nothing else is given.
 OF_PLAY = {"ansible_host": "{{ inventory_hostname }}{{ '' }}", "ansible_ssh_host": "{{ inventory_hostname }}{{ '' }}",
            "ansible_connection": "ssh"}
+# Words that are evaluated before a task is executed.
+EARLY = ("loop", "delegate_to", "throttle", "run_once")
 # Variables of the inventory, or of the command line, that say how a host is reached: nothing else gives them.
 GIVEN = re.compile(r"ansible_(?:(?:ssh_)?(?:user|pass|password|port|private_key_file|common_args|extra_args)|network_os"
                    r"|become(?:_\w+)?|python_interpreter|shell_type|limit|(?:winrm|httpapi|netconf)_\w+)")
@@ -40,8 +43,10 @@ def magic_variables(book, inventory, tags=(), skip_tags=()):
     if "inventory_hostname_short" in read:
         for host, variables in inventory.hosts.items():
             variables.setdefault("inventory_hostname_short", host.partition(".")[0])
+    connections = {name for name in OF_PLAY if name in read and not inventory.all_have(name)}
     for play in plays:
-        give_connections(play, {name for name in OF_PLAY if name in read and not inventory.all_have(name)})
+        leave_early_readers(play, connections)
+        give_connections(play, connections)
 
 
 def holders(play):
@@ -61,6 +66,34 @@ def given_in(plays):
         for key in ("vars", "set_fact"):
             node = holder.words.get(key)
             found |= set(node.pairs) if isinstance(node, Mapping) else set()
+    return found
+
+
+def leave_early_readers(play: Play, names: "set[str]") -> None:
+    """Leaves what reads such a name in a word that is evaluated before its task is executed: it isn't there yet."""
+    read = names | readers_in_vars(play, names) if names else set()
+    for step in play.steps() if read else ():
+        if isinstance(step, Raw):
+            continue
+        early = {key: node for words in (step.words, step.written) for key, node in words.pairs.items() if key in EARLY}
+        found = sorted(mentioned(Mapping(early, step.place)) & read)
+        for task in steps_below([step]) if found else ():
+            if isinstance(task, Task):
+                task.leave(f"it reads '{found[0]}' where only what the inventory gives is there")
+
+
+def readers_in_vars(play: Play, names: "set[str]") -> "set[str]":
+    """The names of `vars` whose values read one of these names, also by way of each other."""
+    reads = {}
+    for holder in holders(play):
+        given = holder.words.get("vars")
+        for name, node in given.pairs.items() if isinstance(given, Mapping) else ():
+            reads.setdefault(name, set()).update(mentioned(Mapping({"vars": node}, node.place)))
+    found: "set[str]" = set()
+    new = set(names)
+    while new:
+        new = {name for name, read in reads.items() if read & new} - found
+        found |= new
     return found
 
 

@@ -1,3 +1,4 @@
+# SPDX-License-Identifier: MIT OR Apache-2.0
 # Mistakes that Ansible's own documentation of a module shows, before the program is asked: in literal values alone.
 from dataclasses import dataclass
 

@@ -1,7 +1,9 @@
+# SPDX-License-Identifier: MIT OR Apache-2.0
 # What playcheck and Ansible know of modules: the profile's parameters, Ansible's further ones, and files of signatures.
 import json
 from dataclasses import dataclass, field
 
+from .positions import read_text
 from .problems import Place, Problem
 
 PREFIXES = ("ansible.builtin.", "ansible.legacy.")
@@ -160,10 +162,7 @@ def read_signatures(paths):
     declared = []
     for path in paths:
         try:
-            with open(path, encoding="utf-8") as file:
-                found = json.load(file)
-        except OSError as error:
-            raise Problem(Place(path), error.strerror or str(error)) from None
+            found = json.loads(read_text(path))
         except (ValueError, RecursionError) as error:
             raise Problem(Place(path), f"this is no JSON: {error}") from None
         if not isinstance(found, list) or not all(isinstance(module, dict) and isinstance(module.get("name"), str)

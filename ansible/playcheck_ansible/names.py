@@ -1,6 +1,8 @@
+# SPDX-License-Identifier: MIT OR Apache-2.0
 # Which names a task's texts mention, and which it gives: by their letters alone, so rather too many than too few.
 import re
 from functools import lru_cache
+from typing import Iterator, Tuple
 
 from .nodes import Mapping, is_text, texts_of
 from .templates import template_spans
@@ -8,8 +10,9 @@ from .templates import template_spans
 NAME = re.compile(r"[A-Za-z_][A-Za-z0-9_]*")
 READ = re.compile(r"(?<![A-Za-z0-9_.])(?<!\.\s)[A-Za-z_][A-Za-z0-9_]*")
 FACT = re.compile(r"\bansible_facts\s*(?:\.\s*|\[\s*['\"])([A-Za-z_]\w*)")
-# A text in an expression, with its quotes.
-TEXT = re.compile(r"'(?:[^'\\]|\\.)*'|\"(?:[^\"\\]|\\.)*\"")
+# A text in an expression, with its quotes; and where one may begin, by the quotes that still may be closed.
+TEXTS = {"'": re.compile(r"'(?:[^'\\]|\\.)*'", re.S), '"': re.compile(r'"(?:[^"\\]|\\.)*"', re.S)}
+QUOTES = {"'\"": re.compile("['\"]"), "'": re.compile("'"), '"': re.compile('"')}
 CONDITIONS = ("when", "changed_when", "failed_when", "until")
 FACTS = ("ansible_hostname", "ansible_system", "ansible_os_family", "ansible_distribution", "ansible_processor_vcpus",
          "ansible_memtotal_mb")
@@ -41,9 +44,28 @@ def expression_names(text):
     return frozenset(READ.findall(without_texts(text)))
 
 
-def without_texts(text):
+def without_texts(text: str, sign: str = " ") -> str:
     """An expression with its texts blanked, but for those that are steps of a path."""
-    return TEXT.sub(lambda found: " " * len(found[0]), text)
+    parts, at = [], 0
+    for start, end in text_spans(text):
+        parts += [text[at:start], sign * (end - start)]
+        at = end
+    return "".join([*parts, text[at:]])
+
+
+def text_spans(expression: str) -> Iterator[Tuple[int, int]]:
+    """Where the texts of an expression begin and end. Where a quote isn't closed, no later one of its kind is."""
+    at, kinds = 0, "'\""
+    while kinds:
+        quote = QUOTES[kinds].search(expression, at)
+        if quote is None:
+            return
+        found = TEXTS[quote[0]].match(expression, quote.start())
+        if found:
+            yield found.span()
+        else:
+            kinds = kinds.replace(quote[0], "")
+        at = found.end() if found else quote.end()
 
 
 def read_places(words, asked=()):

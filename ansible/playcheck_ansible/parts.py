@@ -1,3 +1,4 @@
+# SPDX-License-Identifier: MIT OR Apache-2.0
 # Parts of an expression as the profile writes them; what it can't write by a part of the same kind that reads the same.
 import re
 from dataclasses import dataclass, replace

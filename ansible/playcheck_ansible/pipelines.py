@@ -1,7 +1,7 @@
+# SPDX-License-Identifier: MIT OR Apache-2.0
 # Prints reports for pipelines: GitHub's commands, and SARIF 2.1.0; gitlab_junit.py has two more formats.
-import json
-
 from .codes import OWN_TITLES, TITLES
+from .printing import json_of, line_of
 from .wording import message_of, verdict_of
 
 SARIF_SCHEMA = "https://json.schemastore.org/sarif-2.1.0.json"
@@ -22,9 +22,9 @@ def sarif_format(reports, has_colour):
         for one in report.findings:
             results.append(sarif_result(one.code, "error", message_of(one), one.place))
         for one in left_of(report):
-            results.append(sarif_result(NOT_JUDGED, "note", one.reason, one.place))
+            results.append(sarif_result(NOT_JUDGED, "note", line_of(one.reason), one.place))
     run = {"tool": {"driver": {"name": "playcheck", "rules": rules}}, "results": results}
-    return json.dumps({"$schema": SARIF_SCHEMA, "version": "2.1.0", "runs": [run]}, indent=2) + "\n"
+    return json_of({"$schema": SARIF_SCHEMA, "version": "2.1.0", "runs": [run]})
 
 
 def sarif_result(code, level, text, place):
@@ -48,13 +48,13 @@ def github_format(reports, has_colour):
         for one in report.findings:
             printed.append(f"::error {github_place(one.place)},title={one.code}::{github_text(message_of(one))}")
         for one in left_of(report):
-            printed.append(f"::notice {github_place(one.place)},title=not judged::{github_text(one.reason)}")
+            printed.append(f"::notice {github_place(one.place)},title=not judged::{github_text(line_of(one.reason))}")
         printed.append(verdict_of(report))
     return "".join(line + "\n" for line in printed)
 
 
 def github_place(place):
-    file = github_text(place.file).replace(":", "%3A").replace(",", "%2C")
+    file = github_text(line_of(place.file)).replace(":", "%3A").replace(",", "%2C")
     return f"file={file},line={place.line},col={place.column}" if place.line else f"file={file}"
 
 

@@ -1,10 +1,17 @@
+# SPDX-License-Identifier: MIT OR Apache-2.0
 # The passes over plays and blocks: as those over tasks, see passes.py.
 import re
 
 from .books import SECTIONS, Block, Raw, Task, steps_below
+from .flow_words import FLOW, PASSED
+from .gathering import gathered_by_tasks, gathered_facts
+from .inclusion import leave_early_notifiers
+from .kinds import FIRST, asked_word, wrong_word
 from .names import mentioned
-from .nodes import Mapping, Scalar, Sequence, has_template, is_nothing, is_text, made, plain
-from .passes import FLOW, PASSED, TRUTHS, run_passes, without_braces
+from .nodes import Mapping, Scalar, Sequence, has_template, is_literal, is_nothing, is_text, made
+from .null_rc import leave_readers_of_null
+from .outlived import leave_readers_of_items, note_outlived
+from .passes import TRUTHS, run_passes, without_braces
 from .values import as_bool, as_int
 
 VARIABLE = re.compile(r"[A-Za-z_][A-Za-z0-9_]{0,127}")
@@ -24,14 +31,20 @@ def run_book_passes(book, modules, extra):
         for one in PLAY_PASSES:
             one(play, extra)
         note_outer_names(play)
+        leave_tagged(play)
+        note_outlived(play)
         for step in play.steps():
             if isinstance(step, Block):
                 block_words(step, extra)
             elif isinstance(step, Task):
                 take_extra(step.words, extra)
                 run_passes(step, modules)
+        gathered_by_tasks(play)
+        leave_early_notifiers(play)
         if play.reason:
             leave_all(play.tasks(), play.reason)
+    leave_readers_of_items(book)
+    leave_readers_of_null(book)
 
 
 def note_outer_names(play):
@@ -42,6 +55,16 @@ def note_outer_names(play):
         names = set().union(*(mentioned(holder.words, holder.asked) for holder in holders))
         for task in tasks:
             task.outer_names = names
+
+
+def leave_tagged(play):
+    """Leaves what has a template among its tags that reads more than the play gives: tags are evaluated for no host."""
+    given = play.words.get("vars")
+    known = set(given.pairs) if isinstance(given, Mapping) else set()
+    for step in play.steps():
+        tags = step.words.get("tags") if not isinstance(step, Raw) else None
+        if tags is not None and mentioned(Mapping({"tags": tags}, step.place)) - known:
+            leave_all([task for task in steps_below([step]) if isinstance(task, Task)], "its tags read what a host has")
 
 
 def leave_all(tasks, reason):
@@ -58,14 +81,6 @@ def empty_sections(play, extra):
     for key in TRUTHS:
         if key in words:
             words.put(key, as_bool(words.get(key)))
-    given = words.get("vars")
-    if isinstance(given, Sequence) and all(isinstance(item, Mapping) for item in given.items):
-        merged = Mapping({}, given.place)
-        for item in given.items:
-            for name, node in item.pairs.items():
-                merged.put(name, node)
-                merged.keys[name] = item.keys.get(name, node.place)
-        words.put("vars", merged)
     strategy = words.get("strategy")
     if is_text(strategy) and strategy.value in STRATEGIES:
         words.put("strategy", made(STRATEGIES[strategy.value], strategy.place))
@@ -89,39 +104,10 @@ def counts(node):
     return as_int(node)
 
 
-def gathered_facts(play, extra):
-    """Ansible gathers facts unless a play says that it doesn't."""
-    if "gather_facts" not in play.words:
-        play.words.put("gather_facts", made(True, play.place))
-    node = play.words.get("gather_facts")
-    subset = play.words.get("gather_subset")
-    if not isinstance(node, Scalar) or not isinstance(node.value, bool):
-        play.words.put("gather_facts", made(True, node.place))
-        play.asked.append(node)
-        leave_facts(play, "`gather_facts` is a template")
-    elif subset is not None and "!min" in str(plain(subset)):
-        leave_facts(play, "`gather_subset` leaves facts out that are else always there")
-
-
-def leave_facts(play, reason):
-    for name in ("ansible_facts", "ansible_hostname", "ansible_system"):
-        play.lost[name] = reason
-
-
 def prompted_variables(play, extra):
-    """A variable that is asked for at the start is a text."""
-    node = play.words.take("vars_prompt")
-    if not isinstance(node, Sequence):
-        return
-    given = play.words.get("vars")
-    merged = given.copy() if isinstance(given, Mapping) else Mapping({}, play.place)
-    for item in node.items:
-        name = item.get("name") if isinstance(item, Mapping) else None
-        if is_text(name):
-            merged.put(name.value, made("", name.place))
-            if name.value not in extra:
-                play.prompted.add(name.value)
-    play.words.put("vars", merged)
+    """A variable that is asked for at the start is a text: its value isn't known."""
+    play.words.take("vars_prompt")
+    play.prompted -= set(extra)
 
 
 def extra_variables(play, extra):
@@ -186,8 +172,10 @@ def play_words(play, extra):
             play.reason = play.reason or "`module_defaults` give parameters"
         elif word == "order" and node is not None and "serial" in play.words:
             play.reason = play.reason or "`order` decides which hosts are in a batch"
+        elif node is not None and wrong_word(word, node):
+            play.reason = play.reason or wrong_word(word, node)
         elif node is not None:
-            play.asked.append(node)
+            play.asked += asked_word(word, node)
     lost_variables(play)
 
 
@@ -252,9 +240,19 @@ def block_words(block, extra):
     for word in PASSED:
         node = words.take(word)
         if node is not None:
-            block.asked.append(node)
+            ask_below(block, word, node, below)
     notify_below(words.take("notify"), below)
     lost_variables(block)
+
+
+def ask_below(block, word, node, tasks):
+    """Asks a word of a block, at its start; of one that Ansible asks before each condition that may be too late."""
+    wrong = wrong_word(word, node)
+    is_late = word in FIRST and not is_literal(node) and any(task.is_below_condition for task in tasks)
+    if wrong or is_late:
+        leave_all(tasks, wrong or f"`{word}` is asked before the condition of its block")
+    else:
+        block.asked += asked_word(word, node)
 
 
 def notify_below(node, tasks):

@@ -1,25 +1,33 @@
+# SPDX-License-Identifier: MIT OR Apache-2.0
 # Reads a YAML file into nodes with places, within bounds: no tag makes an object, and no alias explodes.
+import errno
+import os
 import re
+import stat
 
 import yaml
 
-from .nodes import Mapping, Scalar, Sequence, has_template
+from .nodes import Mapping, Node, Scalar, Sequence, has_template
 from .problems import Place, Problem
 
 MOST_BYTES = 4_194_304
 MOST_NODES = 400_000
 MOST_LEVELS = 64
+MOST_DIGITS = 16_384  # of a number to the base 2
+MOST_PARTS = 2_500  # of a number to the base 60
 PREFIX = "tag:yaml.org,2002:"
 LOADER = getattr(yaml, "CSafeLoader", yaml.SafeLoader)
 KNOWN_TAGS = ("!vault", "!vault-encrypted", "!unsafe", "tag:yaml.org,2002:str")
 PLAIN_TEXT = re.compile(r"^[A-Za-z_/{][A-Za-z0-9_/ .,:{}'-]*$")
 SURROGATE = re.compile("[\ud800-\udfff]")
+# What whoever started this process has opened for it, which may be a pipe.
+OWN_PIPES = ("/dev/fd/", "/dev/stdin", "/proc/self/fd/")
 WORDS = {"yes", "no", "on", "off", "true", "false", "null"}
 
 
-def read_bytes(path):
+def read_bytes(path: str) -> bytes:
     try:
-        with open(path, "rb") as file:
+        with open(path, "rb", opener=opened) as file:
             data = file.read(MOST_BYTES + 1)
     except OSError as error:
         raise Problem(Place(path), error.strerror or str(error)) from None
@@ -30,8 +38,24 @@ def read_bytes(path):
     return data
 
 
-def read_text(path):
-    data = read_bytes(path)
+def opened(path: str, flags: int) -> int:
+    """Opens a file without waiting for it: a pipe that has a name may never be written, and a device never end."""
+    number = os.open(path, flags | os.O_NONBLOCK)
+    kind = os.fstat(number).st_mode
+    if stat.S_ISREG(kind) or path.startswith(OWN_PIPES):
+        os.set_blocking(number, True)
+        return number
+    os.close(number)
+    if stat.S_ISDIR(kind):
+        raise OSError(errno.EISDIR, os.strerror(errno.EISDIR))
+    raise OSError(errno.EINVAL, "this is a pipe or a device, and no file")
+
+
+def read_text(path: str) -> str:
+    return text_in(read_bytes(path), path)
+
+
+def text_in(data: bytes, path: str) -> str:
     try:
         return data.decode("utf-8-sig")
     except UnicodeDecodeError as error:
@@ -40,12 +64,12 @@ def read_text(path):
         raise Problem(Place(path, line, column), f"byte {error.start} isn't UTF-8") from None
 
 
-def read_file(path):
+def read_file(path: str) -> Node:
     """The one document of a YAML file; an empty file is null."""
     return node_of(read_text(path), path)
 
 
-def node_of(text, path):
+def node_of(text: str, path: str) -> Node:
     try:
         return Composer(text, path).document()
     except yaml.MarkedYAMLError as error:
@@ -215,6 +239,8 @@ class Composer:
         node = yaml.ScalarNode(tag, text)
         try:
             if kind == "int":
+                if is_too_long(text):
+                    raise ValueError
                 number = self.constructor.construct_yaml_int(node)
                 str(number)  # a ValueError where it has more digits than Python writes
                 return number
@@ -225,6 +251,12 @@ class Composer:
         except (ValueError, KeyError, IndexError):
             raise Problem(place, f"'{text[:40]}' is no {kind}") from None
         return None if kind == "null" else text
+
+
+def is_too_long(text: str) -> bool:
+    """Whether a whole number has more digits than Python writes: to read it takes the longer, the more it has."""
+    digits = text.replace("_", "")
+    return len(digits) > MOST_DIGITS or digits.count(":") > MOST_PARTS
 
 
 def escaped(text):

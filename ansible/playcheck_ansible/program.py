@@ -1,11 +1,16 @@
+# SPDX-License-Identifier: MIT OR Apache-2.0
 # Calls the ready program with a book, an inventory and signatures, and reads its answer.
 import json
 import os
 import re
+import signal
 import subprocess
 from dataclasses import dataclass
 
-from .problems import TOP, Problem
+from .limits import ALLOWANCE, OutOfTime
+from .places import program
+from .problems import Problem
+from .processes import without_relative
 
 REFUSED = re.compile(r"refused ([A-Z]\d\d) line (\d+) host (\S+)\n")
 ACCEPTED = re.compile(r"accepted budget (\d+)\n")
@@ -18,10 +23,6 @@ class Answer:
     line: int = 0
     host: str = ""
     budget: int = 0
-
-
-def program():
-    return os.environ.get("PLAYCHECK") or os.path.join(TOP, "playcheck")
 
 
 class Asker:
@@ -40,9 +41,10 @@ class Asker:
     def ask(self, book):
         inventory, signatures = (f"/proc/self/fd/{file}" for file in self.files)
         words = [program(), "check", "-", "-i", inventory, "-s", signatures]
+        ALLOWANCE.ask()
         try:
             done = subprocess.run(words, input=json.dumps(book), capture_output=True, text=True, check=False,
-                                  pass_fds=self.files)
+                                  pass_fds=self.files, env=without_relative(os.environ))
         except OSError as error:
             raise Problem(None, f"{words[0]} can't be run: {error.strerror}") from None
         return answer_of(done, words[0])
@@ -61,6 +63,8 @@ def answer_of(done, name):
         return Answer(budget=int(accepted[1]))
     if done.returncode == 1 and refused:
         return Answer(refused[1], int(refused[2]), refused[3])
+    if done.returncode == -signal.SIGXCPU:
+        raise OutOfTime
     told = done.stderr.strip() or done.stdout.strip()[:200] or "it printed nothing"
     status = done.returncode if done.returncode in (NO_MEMORY, 64) else 64
     raise Problem(None, f"{name} ended with status {done.returncode}: {told}", status)

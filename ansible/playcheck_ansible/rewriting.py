@@ -1,3 +1,4 @@
+# SPDX-License-Identifier: MIT OR Apache-2.0
 # Changes the expressions in a task's or a play's words, wherever they stand; places stay.
 from dataclasses import replace
 

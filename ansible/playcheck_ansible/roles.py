@@ -1,3 +1,4 @@
+# SPDX-License-Identifier: MIT OR Apache-2.0
 # Roles with literal names put in place: their tasks, handlers, defaults and variables.
 import os
 import re
@@ -9,9 +10,11 @@ from .positions import read_file
 from .problems import Place, Problem
 
 SUFFIXES = (".yml", ".yaml", ".json")
-# Words beside a role's name that aren't variables of it.
-ROLE_WORDS = {"role", "name", "vars", "when", "tags", "become", "become_user", "become_method", "become_flags",
-              "environment", "delegate_to", "ignore_errors", "no_log", "connection", "collections", "remote_user"}
+# Words beside a role's name that are Ansible's keywords: any other is a variable of the role.
+ROLE_WORDS = {"role", "name", "vars", "when", "tags", "any_errors_fatal", "become", "become_exe", "become_flags",
+              "become_method", "become_user", "check_mode", "collections", "connection", "debugger", "delegate_facts",
+              "delegate_to", "diff", "environment", "ignore_errors", "ignore_unreachable", "module_defaults", "no_log",
+              "port", "remote_user", "run_once", "throttle", "timeout"}
 INCLUDE_WORDS = {"name", "tasks_from", "vars_from", "defaults_from", "handlers_from", "public", "apply",
                  "allow_duplicates", "rolespec_validate"}
 
@@ -28,6 +31,9 @@ class Role:
     handlers: list = field(default_factory=list)
     handlers_file: str = ""
     needs: list = field(default_factory=list)  # nodes of the roles that run before it
+    needed: list = field(default_factory=list)  # those that were put in place
+    beside: dict = field(default_factory=dict)  # the `vars` beside its name
+    parameters: dict = field(default_factory=dict)  # what else stands there and is no keyword
 
 
 def role_of(node, context, is_include=False):
@@ -86,6 +92,9 @@ def read_role(name, folder, words, start):
     if isinstance(node, Mapping) and "collections" in node and "collections" not in words:
         words.put("collections", node.get("collections"))
     put_own_collection(role)
+    given = words.get("vars")
+    role.beside = dict(given.pairs) if isinstance(given, Mapping) else {}
+    role.parameters = {one: part for one, part in words.pairs.items() if one not in ROLE_WORDS | INCLUDE_WORDS}
     return role
 
 
@@ -123,33 +132,23 @@ def list_of(path):
     return found
 
 
-def own_variables(role):
-    """A role's variables, with those that stand beside its name, which win over them."""
-    beside = role.words.get("vars")
-    own = {name: part for name, part in role.words.pairs.items() if name not in ROLE_WORDS | INCLUDE_WORDS}
-    return {**role.variables, **own, **(beside.pairs if isinstance(beside, Mapping) else {})}
-
-
 def block_words(role, place):
-    """The words of the block that stands for a role: what is beside its name, and its variables."""
-    words = Mapping({key: part for key, part in role.words.pairs.items()
-                     if key in ROLE_WORDS and key not in ("vars", "role", "name")}, place)
-    given = own_variables(role)
-    if given:
-        words.put("vars", Mapping(given, place))
-    return words
+    """The words of the block that stands for a role: what is beside its name; its variables come later."""
+    return Mapping({key: part for key, part in role.words.pairs.items()
+                    if key in ROLE_WORDS and key not in ("vars", "role", "name")}, place)
 
 
 def put_handlers(play, role, handlers):
-    """Adds a role's handlers to its play, each with the role's variables and its longer name as a topic."""
+    """Adds a role's handlers to its play, each with its longer name as a topic."""
     there = {handler.name: handler for handler in play.sections.get("handlers", []) if handler.name}
     for handler in handlers:
         other = there.get(handler.name)
         if other is not None:
             if handler.place != other.place:
                 other.leave(f"two handlers have the name '{handler.name}'")
+            other.comes_with = other.comes_with and handler.comes_with
             continue
-        give_variables(handler, own_variables(role))
+        handler.folder = role.folder
         if "collections" not in handler.words:
             handler.words.put("collections", role.words.get("collections") or made([], handler.place))
         if handler.name:
@@ -159,42 +158,3 @@ def put_handlers(play, role, handlers):
             handler.words.put("listen", Sequence([*topics, longer], handler.place))
             there[handler.name] = handler
         play.sections.setdefault("handlers", []).append(handler)
-
-
-def give_variables(task, given):
-    own = task.words.get("vars")
-    merged = {**given, **(own.pairs if isinstance(own, Mapping) else {})}
-    if merged:
-        task.words.put("vars", Mapping(merged, task.place))
-
-
-def put_play_variables(play, roles):
-    """What the roles of a play give, all of the play sees; a name that two of them give otherwise isn't judged."""
-    given, defaults = {}, {}
-    pairs = [(known, name, node) for role in roles
-             for known, more in ((given, role.variables), (defaults, role.defaults)) for name, node in more.items()]
-    for known, name, node in pairs:
-        if name in known and known[name].place != node.place:
-            play.lost[name] = f"two roles give '{name}'"
-        known[name] = node
-    own = play.words.get("vars")
-    if given and (own is None or isinstance(own, Mapping)):
-        play.words.put("vars", Mapping({**(own.pairs if own is not None else {}), **given}, play.place))
-    play.defaults.update(defaults)
-
-
-def put_defaults(holder, play, inventory):
-    """Gives the defaults of roles where nothing else gives the name; where only some hosts have it, it isn't judged."""
-    own, outer = holder.words.get("vars"), play.words.get("vars")
-    if own is not None and not isinstance(own, Mapping):
-        return
-    merged = own.copy() if own is not None else Mapping({}, holder.place)
-    for name, node in holder.defaults.items():
-        if name in merged or isinstance(outer, Mapping) and name in outer:
-            continue
-        if name not in inventory.names():
-            merged.put(name, node)
-        elif not inventory.all_have(name):
-            holder.lost[name] = f"the inventory gives '{name}' to some hosts, and a role to the others"
-    if merged.pairs:
-        holder.words.put("vars", merged)

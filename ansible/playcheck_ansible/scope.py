@@ -1,3 +1,4 @@
+# SPDX-License-Identifier: MIT OR Apache-2.0
 # What a book gives to its tasks: names, the places where they are given, and the blocks round a task.
 from collections import deque
 from graphlib import CycleError, TopologicalSorter

@@ -1,3 +1,4 @@
+# SPDX-License-Identifier: MIT OR Apache-2.0
 # Parameters that the text of a module or of its action plugin has and its documentation lacks.
 import ast
 from functools import lru_cache

@@ -1,12 +1,13 @@
+# SPDX-License-Identifier: MIT OR Apache-2.0
 # Reads an expression as Jinja does, and writes with the profile's forms what it can; the pass `stand_ins`.
 import re
 from functools import lru_cache
 
+from .literal_operands import guarded, is_comparison, is_plain, is_replacement, is_separator, text_of
 from .parts import (AND, OPERAND, OR, PLAIN, RELATION, Part, Unfit, Writer, all_read, as_text, chained, denied,
                     is_pattern, literal_part)
+from .tokens import Tokens
 
-TOKEN = re.compile(r"\s*(?:(?P<text>'(?:[^'\\]|\\.)*'|\"(?:[^\"\\]|\\.)*\")|(?P<float>\d+\.\d+)|(?P<int>\d+)"
-                   r"|(?P<name>[A-Za-z_]\w*)|(?P<sign>==|!=|<=|>=|//|\*\*|[-+*/%~<>=()\[\].,|]))")
 WORDS = {"true": True, "True": True, "false": False, "False": False, "none": None, "None": None}
 # Filters that give a text of whatever they are given, of a text alone; with how many arguments.
 TEXT_OF_ANY = {"lower": 0, "upper": 0, "string": 0, "trim": 0, "capitalize": 0, "title": 0, "replace": 2, "quote": 0,
@@ -32,14 +33,17 @@ def stand_ins(expression, is_loose=False):
 
 
 @lru_cache(4096)
-def rewritten(expression, is_loose):
-    """The expression with the profile's forms, and whether its value is the same."""
+def rewritten(expression, is_loose, finite=None):
+    """The expression with the profile's forms, and whether its value is the same.
+
+    `finite` answers whether what a path holds is no text as `inf`, of which `int` makes no number.
+    """
     inside = re.fullmatch(r"\{\{(?!-)(.*)(?<!-)\}\}", expression, re.S)
     written = inside[1] if inside else expression
     if not SUSPECT.search(written):
         return expression, True
     try:
-        reader = Reader(written)
+        reader = Reader(written, finite)
         part = reader.whole()
         if part.text is None and is_loose:
             part = reader.stand_in("text", part.read())
@@ -51,40 +55,13 @@ def rewritten(expression, is_loose):
     return "{{ " + new + " }}" if inside else new, reader.is_exact
 
 
-class Reader(Writer):
+class Reader(Tokens, Writer):
     """A reader by descent; what it can't read or write is Unfit, and then the expression stays as it is."""
 
-    def __init__(self, text):
-        super().__init__()
-        self.tokens, at = [], 0
-        text = text.rstrip()
-        while at < len(text):
-            found = TOKEN.match(text, at)
-            if not found:
-                raise Unfit
-            self.tokens.append((found.lastgroup, found[found.lastgroup]))
-            at = found.end()
-        self.tokens.append(("end", ""))
-        self.at = self.depth = 0
-
-    def is_next(self, *words):
-        kind, word = self.tokens[self.at]
-        return kind in ("name", "sign") and word in words
-
-    def take(self, *words):
-        """The next token, where it is one of these words."""
-        return self.next()[1] if not words or self.is_next(*words) else ""
-
-    def next(self):
-        kind, word = self.tokens[self.at]
-        if kind == "end":
-            raise Unfit
-        self.at += 1
-        return kind, word
-
-    def want(self, word):
-        if not self.take(word):
-            raise Unfit
+    def __init__(self, text, finite=None):
+        Writer.__init__(self)
+        Tokens.__init__(self, text)
+        self.finite, self.depth = finite, 0
 
     def whole(self):
         part = self.choice()
@@ -156,7 +133,7 @@ class Reader(Writer):
     def plain(self):
         kind, word = self.next()
         if kind == "text":
-            return literal_part(word[1:-1], word, "text")
+            return literal_part(text_of(word), word, "text")
         if kind == "int":
             return literal_part(int(word), word, "int")
         if kind == "float":
@@ -225,7 +202,7 @@ class Reader(Writer):
     def method(self, part, word):
         given = self.arguments()
         kind = METHODS.get(word)
-        if kind is None or word == "split" and not given or any(one.kind != "text" for one in given):
+        if kind is None or word == "split" and not is_separator(given) or any(one.kind != "text" for one in given):
             raise Unfit
         return self.stand_in(kind, (*as_text(part), *all_read(given)))
 
@@ -266,11 +243,11 @@ class Reader(Writer):
 
     def known_filter(self, name, part, given):
         every = all_read([part, *given])
-        if TEXT_OF_ANY.get(name) == len(given) or name == "regex_replace" and given and is_pattern(given[0]):
+        if TEXT_OF_ANY.get(name) == len(given) or name == "regex_replace" and is_replacement(given):
             return self.stand_in("text", every)
         if TEXT_OF_TEXT.get(name) == len(given):
             return self.stand_in("text", as_text(part))
-        if name == "int" and all(one.kind == "int" for one in given):
+        if name == "int" and all(one.kind == "int" for one in given) and self.is_finite(part):
             return self.stand_in("int", every)
         if name == "float" and not given:
             return self.stand_in("float", every)
@@ -278,6 +255,16 @@ class Reader(Writer):
             one, other = given
             return self.stand_in(one.kind, every) if one.kind == other.kind else Part(None, "", PLAIN, every)
         raise Unfit
+
+    def is_finite(self, part):
+        """Whether `int` makes a number of what a part gives: of the text `inf`, or 1e999, it doesn't."""
+        if self.finite is None or part.kind in ("int", "bool"):
+            return True
+        if part.literal:
+            return not isinstance(part.literal[0], str) or is_plain(part.literal[0])
+        if part.default:
+            return all(map(self.is_finite, part.default))
+        return part.is_path and self.finite(part.text)
 
     def test(self, part):
         sign = "is not" if self.take("not") else "is"
@@ -295,11 +282,8 @@ class Reader(Writer):
         if name in SORTS and not given:
             return guarded(part, self.stand_in("bool", part.read()).text)
         if name in ("match", "search", "regex") and given and is_pattern(given[0]) \
-                or name in ("version", "version_compare") and len(given) in (1, 2):
+                or name in ("version", "version_compare") and is_comparison(given):
             return self.stand_in("bool", all_read([part, *given]))
         raise Unfit
 
 
-def guarded(part, text):
-    """A test that is false where there is nothing to test."""
-    return Part(f"({part.text} is defined and {text})" if part.is_path else f"({text})", "bool")

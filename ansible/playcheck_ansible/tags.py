@@ -1,3 +1,4 @@
+# SPDX-License-Identifier: MIT OR Apache-2.0
 # Which tasks a run takes by their tags, as Ansible has it: the others are left out of the book, and counted.
 from .books import PARTS, SECTIONS, Block, Raw, Task, steps_below
 from .nodes import Scalar, Sequence, has_template, made
@@ -52,6 +53,8 @@ class Chosen:
         for part in PARTS:
             if part in block.parts:
                 block.parts[part] = self.kept(block.parts[part], outer if block.is_include else tags)
+        if block.is_include and not block.asked and not set(block.words.pairs) - {"name", "tags"}:
+            return block.parts["block"]
         return [block] if any(block.parts.values()) else []
 
 

@@ -1,3 +1,4 @@
+# SPDX-License-Identifier: MIT OR Apache-2.0
 # Where the templates of a text stand, found in one way along it, however many braces are opened and never closed.
 import re
 

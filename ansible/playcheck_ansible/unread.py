@@ -1,3 +1,4 @@
+# SPDX-License-Identifier: MIT OR Apache-2.0
 # Finds the tasks that the program can't read, asked in small books: whether it reads a task rests on the task's line alone.
 from itertools import groupby
 

@@ -1,3 +1,4 @@
+# SPDX-License-Identifier: MIT OR Apache-2.0
 # Values as Ansible converts them to the kind that a module declares, and `name=value` texts taken apart.
 import codecs
 import json

@@ -1,7 +1,9 @@
+# SPDX-License-Identifier: MIT OR Apache-2.0
 # What is said of a finding and of a book, in every format; names that are near to one; lines in brackets.
 from dataclasses import dataclass
 
 from .nodes import texts_of
+from .printing import line_of
 from .problems import Place
 
 
@@ -10,7 +12,7 @@ def message_of(finding):
     who = f"{finding.kind} '{finding.name}'" if finding.name else finding.kind
     who = ", ".join(part for part in (who, f"host {finding.host}" if finding.host else "") if part)
     parts = [part for part in (who, finding.title, finding.detail) if part]
-    return ": ".join(parts)
+    return line_of(": ".join(parts))
 
 
 def count_of(report):
@@ -20,13 +22,22 @@ def count_of(report):
 
 def verdict_of(report):
     """The last line on a book; `accepted` never stands without the count."""
+    return f"{line_of(report.book)}: {outcome_of(report)}"
+
+
+def outcome_of(report):
     if report.findings:
         found = "1 finding" if len(report.findings) == 1 else f"{len(report.findings)} findings"
-        return f"{report.book}: refused, {found}, {count_of(report)}"
+        return f"refused, {found}, {count_of(report)}"
     if not report.is_accepted:
-        return f"{report.book}: refused by --strict, {count_of(report)}"
+        return f"refused by --strict, {count_of(report)}"
     budget = f", at most {report.budget} module calls" if report.is_whole and report.has_bound else ""
-    return f"{report.book}: accepted, {count_of(report)}{budget}"
+    return f"accepted, {count_of(report)}{budget}"
+
+
+def not_judged_of(one):
+    """What is said of a task that isn't judged."""
+    return line_of(f"{one.kind} '{one.name}': {one.reason}" if one.name else one.reason)
 
 
 @dataclass

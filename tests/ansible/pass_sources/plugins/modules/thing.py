@@ -1,3 +1,4 @@
+# SPDX-License-Identifier: GPL-3.0-or-later
 from ansible.module_utils.basic import AnsibleModule
 
 spec = {"a": {"type": "str"}, "extra": {"type": "int", "options": {"inner": {"type": "int"}}}}

@@ -1,4 +1,5 @@
-# Completion of bash for playcheck and playcheck-ansible: `source completion/playcheck.bash`.
+# SPDX-License-Identifier: MIT OR Apache-2.0
+# Completion of bash for playcheck and playcheck-ansible. Made by packaging/make_pages.py: change that.
 
 _playcheck_words() {
     mapfile -t COMPREPLY < <(compgen -W "$1" -- "$2")
@@ -30,7 +31,7 @@ _playcheck() {
     local word before command
     _playcheck_place
     if [ "$COMP_CWORD" = 1 ]; then
-        _playcheck_words "check run help --help --version" "$word"
+        _playcheck_words "check run help -h --help -V --version" "$word"
         return
     fi
     case $before in
@@ -42,12 +43,18 @@ _playcheck() {
         _playcheck_folders "$word"
         return
         ;;
+    --arguments)
+        COMPREPLY=()
+        return
+        ;;
+    --timeout)
+        COMPREPLY=()
+        return
+        ;;
     esac
     case $command:$word in
     check:-*) _playcheck_words "-i --inventory -s --signatures -h --help" "$word" ;;
-    run:-*)
-        _playcheck_words "-i --inventory -s --signatures -f --forks --answers --modules -h --help" "$word"
-        ;;
+    run:-*) _playcheck_words "-i --inventory -s --signatures -f --forks --answers --modules --arguments --timeout -h --help" "$word" ;;
     help:*) _playcheck_words "check run help" "$word" ;;
     *) _playcheck_files "$word" ;;
     esac
@@ -55,23 +62,26 @@ _playcheck() {
 
 _playcheck_ansible() {
     local word before command
-    local inputs="-i --inventory -s --signatures -e --extra-vars -t --tags --skip-tags --trust-facts --trust-returns --no-lookup --vars -h --help"
     _playcheck_place
     if [ "$COMP_CWORD" = 1 ]; then
-        _playcheck_words "check convert signatures explain -h --help" "$word"
+        _playcheck_words "check convert signatures explain -h --help -V --version" "$word"
         return
     fi
     case $before in
+    -t | --tags)
+        COMPREPLY=()
+        return
+        ;;
+    --skip-tags)
+        COMPREPLY=()
+        return
+        ;;
     --format)
-        _playcheck_words "text json sarif github gitlab junit" "$word"
+        _playcheck_words "github gitlab json junit sarif text" "$word"
         return
         ;;
     --color)
         _playcheck_words "auto always never" "$word"
-        return
-        ;;
-    -t | --tags | --skip-tags)
-        COMPREPLY=()
         return
         ;;
     -o | --output)
@@ -80,12 +90,11 @@ _playcheck_ansible() {
         ;;
     esac
     case $command:$word in
-    check:-*) _playcheck_words "$inputs --format --color --strict --all" "$word" ;;
-    convert:-*) _playcheck_words "$inputs -o --output" "$word" ;;
-    explain:*)
-        _playcheck_words "S01 S02 S03 S04 S05 I01 I02 I03 I04 I05 P01 P02 P03 P04 P05 P06 P07 P08 P09 V01 V02 V03 V04
-            V05 V06 V07 V08 V09 V10 V11 V12 V13 A01 A02 A03 A-alias A-choice A-required" "$word"
-        ;;
+    check:-*) _playcheck_words "-h --help -i --inventory -s --signatures -e --extra-vars -t --tags --skip-tags --trust-facts --trust-returns --no-lookup --run-inventory --trust-repository --vars --format --color --strict --all" "$word" ;;
+    convert:-*) _playcheck_words "-h --help -o --output -i --inventory -s --signatures -e --extra-vars -t --tags --skip-tags --trust-facts --trust-returns --no-lookup --run-inventory --trust-repository --vars" "$word" ;;
+    signatures:-*) _playcheck_words "-h --help --trust-repository" "$word" ;;
+    explain:-*) _playcheck_words "-h --help" "$word" ;;
+    explain:*) _playcheck_words "S01 S02 S03 S04 S05 I01 I02 I03 I04 I05 P01 P02 P03 P04 P05 P06 P07 P08 P09 V01 V02 V03 V04 V05 V06 V07 V08 V09 V10 V11 V12 V13 A01 A02 A03 A-alias A-choice A-name A-required" "$word" ;;
     *) _playcheck_files "$word" ;;
     esac
 }

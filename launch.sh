@@ -1,3 +1,4 @@
+# SPDX-License-Identifier: MIT OR Apache-2.0
 # Picks the program for ./playcheck, writes it into dist/stamp, and runs it: bash launch.sh TOP WORD..
 set -u
 top=$1

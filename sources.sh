@@ -1,3 +1,4 @@
+# SPDX-License-Identifier: MIT OR Apache-2.0
 # Which files the program is built from, and which program is of these: for ./playcheck, ./release, ./test and ./prove, which stand
 # in the folder $top.
 built=crates/pb_cli/out/pb_cli
@@ -15,7 +16,7 @@ crates_below() {
     while [ ${#left[@]} -gt 0 ]; do
         name=${left[0]}
         left=("${left[@]:1}")
-        if [ -n "${needs[$name]+there}" ] && [ -z "${seen[$name]-}" ]; then
+        if [ -n "$name" ] && [ -n "${needs[$name]+there}" ] && [ -z "${seen[$name]-}" ]; then
             seen[$name]=1
             # A list of words.
             # shellcheck disable=SC2206

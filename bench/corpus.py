@@ -1,4 +1,5 @@
 #!/usr/bin/env python3
+# SPDX-License-Identifier: MIT OR Apache-2.0
 # How much of the playbooks, roles and examples in Debian's `ansible` package the front end judges, and why not the rest.
 # python3 bench/corpus.py ROOT [--all-examples] [--causes N]: ROOT is / where the package is installed, or the folder that
 # `apt-get download ansible ansible-core` and `dpkg -x` filled. PLAYCHECK names the program, else it is ./playcheck.
@@ -18,6 +19,7 @@ TOP = Path(__file__).resolve().parent.parent
 sys.path.insert(0, str(TOP / "ansible"))
 sys.dont_write_bytecode = True
 
+from playcheck_ansible.ansible_core import Trust  # noqa: E402
 from playcheck_ansible.books import Play  # noqa: E402
 from playcheck_ansible.checking import Options, report_of, settled  # noqa: E402
 from playcheck_ansible.command import is_book  # noqa: E402
@@ -175,7 +177,7 @@ def looked_up(names, known):
     """Adds the documentation of these modules."""
     wanted = sorted({name for name in names if NAME.fullmatch(name)} - set(known) - set(PROFILE))
     for start in range(0, len(wanted), NAMES_AT_ONCE):
-        known.update(documentation(wanted[start:start + NAMES_AT_ONCE], SECONDS))
+        known.update(documentation(wanted[start:start + NAMES_AT_ONCE], Trust(), SECONDS))
         print(f"looked up {min(start + NAMES_AT_ONCE, len(wanted))} of {len(wanted)} modules", file=sys.stderr)
 
 
@@ -245,7 +247,7 @@ def main():
         if given.all_examples:
             looked_up(module_names(root, False), documents)
         modules = Modules(signatures_of(documents)[0])
-        profile = documentation(sorted(PROFILE), SECONDS)
+        profile = documentation(sorted(PROFILE), Trust(), SECONDS)
         examples = list(example_books({**core, **profile}, folder))
         tallies = [judge_all("playbooks", books, modules, folder), judge_all("roles", roles, modules, folder),
                    judge_all("examples of ansible-core", examples, modules, folder)]

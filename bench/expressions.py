@@ -1,3 +1,4 @@
+# SPDX-License-Identifier: MIT OR Apache-2.0
 # Measures the libraries' calls on texts, and prints each figure: python3 bench/expressions.py [PROGRAM]
 import json
 import os

@@ -1,4 +1,5 @@
 #!/usr/bin/env python3
+# SPDX-License-Identifier: MIT OR Apache-2.0
 # What playcheck-ansible takes on a book of 500 tasks beside PyYAML's own loading of it: python3 bench/front.py [PROGRAM].
 import os
 import resource

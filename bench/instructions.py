@@ -1,3 +1,4 @@
+# SPDX-License-Identifier: MIT OR Apache-2.0
 # Compares the instructions of four checks with those that bench/instructions lists: python3 bench/instructions.py [PROGRAM].
 # With --record it writes the list anew.
 import sys

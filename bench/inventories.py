@@ -1,3 +1,4 @@
+# SPDX-License-Identifier: MIT OR Apache-2.0
 # Measures the reading of large inventories and prints each figure with its bar: python3 bench/inventories.py [PROGRAM]
 import os
 import sys

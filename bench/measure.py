@@ -1,3 +1,4 @@
+# SPDX-License-Identifier: MIT OR Apache-2.0
 # What the scripts of this folder measure with: processes in rounds, instructions, and lines with bars.
 import json
 import os

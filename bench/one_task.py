@@ -1,3 +1,4 @@
+# SPDX-License-Identifier: MIT OR Apache-2.0
 # Instructions of one task of a run, its Start and its Give, of loops of twice the items, and of tasks that read one large register:
 # python3 bench/one_task.py [PROGRAM]. Wants valgrind; the same in each run, whatever else the machine does.
 import sys

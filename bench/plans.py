@@ -1,3 +1,4 @@
+# SPDX-License-Identifier: MIT OR Apache-2.0
 # Measures what plans cost beside verdicts, and prints each figure with its bar: python3 bench/plans.py [PROGRAM [PROBE]]
 import json
 import os

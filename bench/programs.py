@@ -1,3 +1,4 @@
+# SPDX-License-Identifier: MIT OR Apache-2.0
 # Calls a second of modules that are programs, with 1, 2, 4 and 8 workers, beside a C program that starts the same program in as
 # many loops; and how long 100 hosts take whose module sleeps: python3 bench/programs.py [PROGRAM]. Wants a C compiler.
 import os

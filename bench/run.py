@@ -1,3 +1,4 @@
+# SPDX-License-Identifier: MIT OR Apache-2.0
 # Measures the program on a large book and its runs, and prints each figure with its bar: python3 bench/run.py [PROGRAM]
 import subprocess
 import sys

@@ -1,3 +1,4 @@
+# SPDX-License-Identifier: MIT OR Apache-2.0
 # Measures runs beyond their checks: task steps a second, what grows with what, loops, registers, memory, instructions. It
 # has the books of runs; bench/run.py prints its figures.
 import functools

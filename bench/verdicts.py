@@ -1,3 +1,4 @@
+# SPDX-License-Identifier: MIT OR Apache-2.0
 # Measures verdicts on whole books and prints each figure with its bar: python3 bench/verdicts.py [PROGRAM]
 import os
 import sys

@@ -1,3 +1,4 @@
+# SPDX-License-Identifier: MIT OR Apache-2.0
 # Tries playcheck-ansible on the books of tests/ansible and on hostile YAML: python3 tests/ansible_checks.py PROGRAM.
 import json
 import os
@@ -8,15 +9,17 @@ from pathlib import Path
 
 from ansible_formats import wrong_colours, wrong_gitlab, wrong_junit, wrong_sarif, wrong_strict
 from ansible_lookups import wrong_long_names, wrong_lookups, wrong_time_limit
-from ansible_pipelines import lost_words, wrong_action, wrong_completion, wrong_gitlab_job, wrong_hook
+from ansible_pipelines import wrong_action, wrong_completion, wrong_gitlab_job, wrong_hook, wrong_zsh
 from ansible_rewritings import wrong_rewritings
-from ansible_tools import SECONDS, TOOL, TOP, run_tool
+from ansible_rows import wrong_rows
+from ansible_tools import SECONDS, TOOL, TOP, WAITED, run_tool
 from ansible_words import wrong_words
 from check import Check, outcome_of
 
 CASES = TOP / "tests" / "ansible"
+CONVERTED = ("converted", "converted_stand_ins")
+LEAST_COMMANDS = 143
 MEGABYTES = 700
-WAITED = 300  # in seconds, for what may take SECONDS of the processor's time: a machine may have more to do
 INVENTORY = '{"all": {"hosts": ["h1"]}}'
 
 
@@ -28,6 +31,18 @@ def transcripts():
             said = [line for line in lines[1:-1] if not line.startswith("! ")]
             told = [line[2:] for line in lines[1:-1] if line.startswith("! ")]
             yield path.parent, lines[0].split(), said, told, int(lines[-1].split()[1])
+
+
+def lost_transcripts():
+    """Each folder of books has a transcript with a command, but for those that are converted; none is lost."""
+    folders = [path for path in CASES.iterdir() if path.is_dir() and path.name not in CONVERTED]
+    for folder in folders:
+        path = folder / "transcript"
+        if not path.exists() or not re.search(r"^\$ ", path.read_text(encoding="utf-8"), re.M):
+            yield f"{folder.name} has no transcript with a command"
+    count = sum(1 for _ in transcripts())
+    if count < LEAST_COMMANDS:
+        yield f"{count} commands in all transcripts, wanted {LEAST_COMMANDS} or more"
 
 
 def wrong_transcript(folder, words, said, told, status):
@@ -115,7 +130,7 @@ def wrong_long_texts():
 
 
 def wrong_many_forms():
-    """Of many tasks each with a form that only the program refuses, each is told, in a time that grows as the book does."""
+    """Of many tasks with a form that only the program refuses each is told, in a time that grows as the book does."""
     count = 1500
     tasks = "".join(f"    - {{command: /bin/ask, when: port == {number}.5}}\n" for number in range(count))
     book = f"- hosts: all\n  gather_facts: false\n  vars: {{port: 1}}\n  tasks:\n{tasks}"
@@ -180,7 +195,7 @@ def lost_titles():
     sys.dont_write_bytecode = True
     from playcheck_ansible.codes import OWN_PAGE, OWN_TITLES, PAGE, TITLES
 
-    text = "".join(Path(page).read_text(encoding="utf-8") for page in (PAGE, OWN_PAGE))
+    text = "".join((TOP / "docs" / name).read_text(encoding="utf-8") for name in (PAGE, OWN_PAGE))
     page = dict(re.findall(r"^### ([A-Z]\d\d|A-[a-z]+): (.*)$", text, re.M))
     titles = {**TITLES, **OWN_TITLES}
     return [f"{code}: {page.get(code)!r} on the page, {titles.get(code)!r} in codes.py"
@@ -192,12 +207,19 @@ def lost_passes():
     from playcheck_ansible.further_facts import further_facts
     from playcheck_ansible.literals import EXPRESSION_PASSES
     from playcheck_ansible.magic import magic_variables
+    from playcheck_ansible.gathering import gathered_by_tasks
+    from playcheck_ansible.inclusion import leave_early_notifiers
+    from playcheck_ansible.null_rc import leave_readers_of_null
+    from playcheck_ansible.outlived import leave_readers_of_items
     from playcheck_ansible.passes import TASK_PASSES
     from playcheck_ansible.plays import PLAY_PASSES
     from playcheck_ansible.tags import leave_out
+    from playcheck_ansible.variables import put_variables
 
     page = (TOP / "docs" / "FROM_ANSIBLE.md").read_text(encoding="utf-8")
-    passes = (leave_out, further_facts, magic_variables, *TASK_PASSES, *PLAY_PASSES, *EXPRESSION_PASSES)
+    passes = (leave_out, put_variables, further_facts, magic_variables, leave_readers_of_items, leave_readers_of_null,
+              leave_early_notifiers, gathered_by_tasks,
+              *TASK_PASSES, *PLAY_PASSES, *EXPRESSION_PASSES)
     return [f"docs/FROM_ANSIBLE.md doesn't name {one.__name__}" for one in passes if f"`{one.__name__}`" not in page]
 
 
@@ -208,10 +230,11 @@ def lost_files():
     return [f"ansible/README.md doesn't name {name}" for name in files if f"`{name}`" not in page]
 
 
-SEARCHES = (lost_titles, lost_files, lost_passes, lost_hook, wrong_long_texts, wrong_many_forms, wrong_conversion,
+SEARCHES = (lost_transcripts, lost_titles, lost_files, lost_passes, lost_hook, wrong_long_texts, wrong_many_forms,
+    wrong_conversion,
             wrong_warnings, wrong_signatures, wrong_gitlab, wrong_junit, wrong_strict, wrong_sarif, wrong_colours,
-            wrong_lookups, wrong_long_names, wrong_time_limit, wrong_rewritings, wrong_words, wrong_completion,
-            lost_words, wrong_action, wrong_gitlab_job, wrong_hook)
+            wrong_lookups, wrong_long_names, wrong_time_limit, wrong_rewritings, wrong_rows, wrong_words,
+            wrong_completion, wrong_zsh, wrong_action, wrong_gitlab_job, wrong_hook)
 
 
 def main():

@@ -1,3 +1,4 @@
+# SPDX-License-Identifier: MIT OR Apache-2.0
 # Tries the formats for pipelines that playcheck-ansible prints, against what their publishers want of each file.
 import json
 import os
@@ -20,7 +21,7 @@ BAD = PLAY + '''    - name: "a \\x01\\x1b[31m <b> & \\"c\\" ]]> \\ufffe"
     - name: "<unknown>"
       apt: {name: nginx}
 '''
-NAME = 'a \ufffd\ufffd[31m <b> & "c" ]]> \ufffd'
+NAME = 'a \\x01\\x1b[31m <b> & "c" ]]> \ufffd'
 TITLE = "a variable that is perhaps undefined"
 DETAIL = "'prot' is set nowhere: not in this book, not in the inventory"
 UNKNOWN = ("not judged: task '<unknown>': the module `apt` is neither built in nor declared: "

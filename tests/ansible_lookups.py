@@ -1,3 +1,4 @@
+# SPDX-License-Identifier: MIT OR Apache-2.0
 # Tries how playcheck-ansible looks modules up: by one call with a limit of time, and not where that is not wanted.
 import json
 import sys
@@ -17,16 +18,16 @@ BOOKS = {
     "own.json": '[{"name": "own", "params": {}, "ok": {"changed": {"kind": "bool", "always": true}}, "failure": '
                 '{"changed": {"kind": "bool", "always": true}, "msg": {"kind": "text", "always": true}}}]',
 }
-# In the place of ansible-core's: it keeps the words of each call, and knows one module.
+# In the place of ansible-core's: it keeps the words of each call, and knows one module. It isn't called in the book's folder.
 KNOWS_ONE = """#!/bin/sh
-echo "$@" >> calls
+echo "$@" >> "${0%/*}/../calls"
 echo '{"probe": {"doc": {"options": {"state": {"choices": ["absent", "present"]}}}, "return": {}}}'
 """
 FAILS = "#!/bin/sh\necho no such luck >&2\nexit 5\n"
 NO_JSON = "#!/bin/sh\necho '[1'\n"
 # As ansible-core's ends where one of the modules has no documentation.
 FAILS_ON_ONE = KNOWS_ONE.replace("#!/bin/sh\n", """#!/bin/sh
-case $* in *other.sort.thing*) echo "$@" >> calls
+case $* in *other.sort.thing*) echo "$@" >> "${0%/*}/../calls"
 echo "ERROR! module other.sort.thing missing documentation (or could not parse documentation): none" >&2; exit 1 ;; esac
 """)
 CHECK = ["check", "one.yml", "broken.yml", "two.yml", "-i", "hosts.json", "-s", "own.json"]

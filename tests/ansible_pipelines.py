@@ -1,33 +1,35 @@
-# Tries what stands round the front end: completion of bash, GitHub's action, GitLab's job and the hook of pre-commit.
+# SPDX-License-Identifier: MIT OR Apache-2.0
+# Tries what stands round the front end: completion of the shells, GitHub's action, GitLab's job and pre-commit's hook.
 import json
 import os
 import re
 import shlex
+import shutil
 import subprocess
-import sys
 import tempfile
 import xml.etree.ElementTree as xml
 from pathlib import Path
 
 from ansible_tools import SECONDS, TOP
 
-COMPLETION = TOP / "completion" / "playcheck.bash"
+COMPLETION = TOP / "completion"
 BAD = "- hosts: all\n  gather_facts: false\n  tasks:\n    - debug: {msg: \"{{ gone }}\"}\n"
 GOOD = "- hosts: all\n  gather_facts: false\n  tasks:\n    - ping:\n"
 FILES = {"good book.yml": GOOD, "bad.yml": BAD, "hosts.yml": "all: {hosts: {h1: }}\n", "folder/more.yml": GOOD}
 DETAIL = "a variable that is perhaps undefined: 'gone' is set nowhere: not in this book, not in the inventory"
 INPUTS = ["-i", "--inventory", "-s", "--signatures", "-e", "--extra-vars", "-t", "--tags", "--skip-tags",
-          "--trust-facts", "--trust-returns", "--no-lookup", "--vars", "-h", "--help"]
+          "--trust-facts", "--trust-returns", "--no-lookup", "--run-inventory", "--trust-repository", "--vars", "-h",
+          "--help"]
 # What stands on the command line up to the word that is completed, and what completes it.
 COMPLETED = [
-    ("playcheck ", ["check", "run", "help", "--help", "--version"]),
+    ("playcheck ", ["check", "run", "help", "-h", "--help", "-V", "--version"]),
     ("playcheck r", ["run"]),
     ("playcheck check -", ["-i", "--inventory", "-s", "--signatures", "-h", "--help"]),
-    ("playcheck run --a", ["--answers"]),
+    ("playcheck run --a", ["--answers", "--arguments"]),
     ("playcheck run -f ", []),
     ("playcheck run --modules ", ["folder"]),
     ("playcheck check -i h", ["hosts.yml"]),
-    ("playcheck-ansible ", ["check", "convert", "signatures", "explain", "-h", "--help"]),
+    ("playcheck-ansible ", ["check", "convert", "signatures", "explain", "-h", "--help", "-V", "--version"]),
     ("playcheck-ansible check g", ["good book.yml"]),
     ("playcheck-ansible check --format ", ["text", "json", "sarif", "github", "gitlab", "junit"]),
     ("playcheck-ansible check --format = j", ["json", "junit"]),
@@ -41,9 +43,24 @@ COMPLETED = [
     ("playcheck-ansible check -", [*INPUTS, "--format", "--color", "--strict", "--all"]),
     ("playcheck-ansible convert bad.yml -", [*INPUTS, "-o", "--output"]),
     ("playcheck-ansible convert bad.yml -o ", ["folder"]),
+    ("playcheck-ansible signatures --t", ["--trust-repository"]),
     ("playcheck-ansible explain a-", []),
-    ("playcheck-ansible explain A-", ["A-alias", "A-choice", "A-required"]),
+    ("playcheck-ansible explain A-", ["A-alias", "A-choice", "A-name", "A-required"]),
     ("playcheck-ansible explain V1", ["V10", "V11", "V12", "V13"]),
+]
+COMPLETED_BY_FISH = [
+    ("playcheck ", ["check", "help", "run"]),
+    ("playcheck run --a", ["--answers", "--arguments"]),
+    ("playcheck run --modules ", ["folder"]),
+    ("playcheck run -f ", []),
+    ("playcheck check -i h", ["hosts.yml"]),
+    ("playcheck help ", ["check", "help", "run"]),
+    ("playcheck-ansible ", ["check", "convert", "explain", "signatures"]),
+    ("playcheck-ansible check g", ["good book.yml"]),
+    ("playcheck-ansible check --format j", ["json", "junit"]),
+    ("playcheck-ansible check --ta", ["--tags"]),
+    ("playcheck-ansible convert bad.yml -o ", ["folder"]),
+    ("playcheck-ansible explain A-", ["A-alias", "A-choice", "A-required"]),
 ]
 
 
@@ -55,45 +72,54 @@ def made_files(folder):
 
 def run_bash(script, folder, **given):
     """Runs a script as GitHub and GitLab do: the first command that fails ends it."""
-    return subprocess.run(["bash", "-eo", "pipefail", "-c", script], cwd=folder, capture_output=True, text=True, check=False,
+    return subprocess.run(["bash", "-eo", "pipefail", "-c", script], cwd=folder, capture_output=True, text=True,
+        check=False,
                           timeout=SECONDS, stdin=subprocess.DEVNULL, env={**os.environ, **given})
 
 
 def completed(line, folder):
     words = shlex.split(line) + ([""] if line.endswith(" ") else [])
     name = "_" + words[0].replace("-", "_")
-    script = (f"set +e; source {COMPLETION}; COMP_WORDS=({shlex.join(words)}); COMP_CWORD={len(words) - 1}; "
+    script = (f"set +e; source {COMPLETION}/playcheck.bash; COMP_WORDS=({shlex.join(words)}); COMP_CWORD={len(words) - 1}; "
               f'{name}; for one in "${{COMPREPLY[@]}}"; do printf "%s\\n" "$one"; done; complete -p {words[0]}')
     done = run_bash(script, folder)
     *found, bound = done.stdout.splitlines() or [""]
     return found if bound == f"complete -F {name} {words[0]}" else [done.stdout, done.stderr]
 
 
+def completed_by_fish(line: str, folder: str) -> list[str]:
+    """What fish offers, each without what it says of it."""
+    script = f"source {COMPLETION}/playcheck.fish; complete -C {shlex.quote(line)}"
+    done = subprocess.run(["fish", "--no-config", "-c", script], cwd=folder, capture_output=True, text=True, check=False,
+                          timeout=SECONDS, stdin=subprocess.DEVNULL)
+    return [one.partition("\t")[0].rstrip("/") for one in done.stdout.splitlines()] + done.stderr.splitlines()
+
+
 def wrong_completion():
+    """Of bash, and of fish where that is here."""
     with tempfile.TemporaryDirectory() as folder:
         made_files(folder)
         for line, wanted in COMPLETED:
             found = completed(line, folder)
-            if found != wanted:
+            if sorted(found) != sorted(wanted):
                 yield f"completion of {line!r}: wanted {wanted}, found {found}"
+        if not shutil.which("fish"):
+            print("skipped: completion of fish: fish isn't here")
+            return
+        for line, wanted in COMPLETED_BY_FISH:
+            found = completed_by_fish(line, folder)
+            if sorted(found) != sorted(wanted):
+                yield f"completion by fish of {line!r}: wanted {wanted}, found {found}"
 
 
-def lost_words():
-    """Completion knows each option, format and code of the front end, and each option of the program's help."""
-    sys.path.insert(0, str(TOP / "ansible"))
-    from playcheck_ansible.codes import OWN_TITLES, TITLES
-    from playcheck_ansible.command import parser
-    from playcheck_ansible.formats import FORMATS
-
-    words = set(re.findall(r"[\w-]+", COMPLETION.read_text(encoding="utf-8")))
-    commands = next(action.choices for action in parser()._actions if action.dest == "command")
-    wanted = {*TITLES, *OWN_TITLES, *FORMATS, *commands}
-    for command in commands.values():
-        wanted |= {option for action in command._actions for option in action.option_strings}
-    for command in ("check", "run"):
-        told = subprocess.run([os.environ["PLAYCHECK"], command, "--help"], capture_output=True, text=True, check=True)
-        wanted |= set(re.findall(r"(?<!\S)--?\w+", told.stdout))
-    return [f"completion lacks {word}" for word in sorted(wanted - words)]
+def wrong_zsh():
+    """zsh reads the file, where it is here."""
+    if not shutil.which("zsh"):
+        print("skipped: completion of zsh: zsh isn't here")
+        return
+    done = subprocess.run(["zsh", "-n", str(COMPLETION / "_playcheck")], capture_output=True, text=True, check=False)
+    if done.returncode or done.stderr:
+        yield f"zsh: {done}"
 
 
 def wrong_action():

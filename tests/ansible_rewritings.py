@@ -1,3 +1,4 @@
+# SPDX-License-Identifier: MIT OR Apache-2.0
 # Tries what literal values make of expressions, one by one: what each has to become, or that it stays as it is.
 import sys
 from itertools import product
@@ -73,13 +74,21 @@ STOOD_IN = [
     ("x == 1 if y else x == 2", "(y and x == 1 or not y and x == 2)"),
     ("(x == 1) | ternary('a', 'b')", "([[x == 1] | length] | join)"),
     ("{{ x | upper }}", "{{ ([[x] | length] | join) }}"),
+    ("x | lower not in y", "([[x] | length] | join) not in y"),
+    ("x | int == -1", "([x] | length) == -1"),
+    ("x | join | lower", "([[x | join] | length] | join)"),
+    ("x is failure", "x is failed"),
+    ("x | regex_replace('(a)', '\\\\1')", "([[x] | length] | join)"),
+    ("x is version('1')", "([x] | length == 1)"),
 ]
 KEPT_FORMS = [
     "x", "x == 1 and y is defined", "x[0]", "x[y]", "x | first", "x | map('a')", "x + y", "x / 2", "x | int / y",
     "x is match(y)", "x is search('(')", "x | lower(1)", "x.split()[0]", "x.split('.')[1]", "lookup('file', 'a')",
     "x if y", "x if y else 'a'", "x | default('a', true)", "x | default(omit)", "'x | bool'", "{{- x | lower }}",
     "x | bool | gone", "x | ", "f(x)", "x | from_json", "x < y < z", "groups['a'][0]", "hostvars[item].x",
-    "x is sameas(y)", "(" * 200 + "x | bool" + ")" * 200, "not " * 200 + "x | bool",
+    "x is sameas(y)", "first(1)", "x.split(',') | first(1)", "x is gone('a')", "x | replace('a' 'b')", "x | bool(1)",
+    "x[0] | string", "x | regex_replace('a', '\\\\1')", "x | regex_replace('a', y)", "x.split('')[0]", "x.split(y)[0]",
+    "x is version('1', 'foo')", "x is version('1', y)", "(" * 200 + "x | bool" + ")" * 200, "not " * 200 + "x | bool",
 ]
 # Where only what is read counts.
 LOOSE = [

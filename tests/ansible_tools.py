@@ -1,3 +1,4 @@
+# SPDX-License-Identifier: MIT OR Apache-2.0
 # The front end as the tests run it: with no program of ansible-core on the PATH but those that a test puts there.
 import os
 import shutil
@@ -5,15 +6,17 @@ import subprocess
 import sys
 import tempfile
 from pathlib import Path
+from typing import Sequence
 
 TOP = Path(__file__).resolve().parent.parent
 TOOL = TOP / "playcheck-ansible"
 SECONDS = 30
+WAITED = 300  # in seconds, for what may take SECONDS of the processor's time: a machine may have more to do
 NEEDED = ("bash", "cat", "dirname", "env", "find", "readlink", "sh", "sleep")
 FOLDER = tempfile.TemporaryDirectory(prefix="playcheck-tools-")
 
 
-def make_tools():
+def make_tools() -> str:
     """A folder with the few programs that the front end and the tests' own programs need."""
     for name in NEEDED:
         found = shutil.which(name)
@@ -25,8 +28,9 @@ def make_tools():
     return FOLDER.name
 
 
-def run_tool(words, folder, program_folder=None):
+def run_tool(words: Sequence[str], folder: "str | Path",
+             program_folder: "str | Path | None" = None) -> "subprocess.CompletedProcess[str]":
     """Runs the front end in a folder; in a further one stand programs in the place of those of ansible-core."""
     path = os.pathsep.join(str(one) for one in (program_folder, make_tools()) if one)
-    return subprocess.run([TOOL, *words], cwd=folder, capture_output=True, text=True, check=False, timeout=SECONDS,
+    return subprocess.run([TOOL, *words], cwd=folder, capture_output=True, text=True, check=False, timeout=WAITED,
                           stdin=subprocess.DEVNULL, env={**os.environ, "PATH": path})

@@ -1,3 +1,4 @@
+# SPDX-License-Identifier: MIT OR Apache-2.0
 # A crate in which some functions alone keep their bodies, and the proofs of the others are left open.
 #
 # A function is proved against the contracts of what it calls, and not against their bodies. So what is tried of some functions

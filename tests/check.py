@@ -1,3 +1,4 @@
+# SPDX-License-Identifier: MIT OR Apache-2.0
 # What one check of the program is, and how it is run: files in a folder of its own, words, and what is wanted.
 import base64
 import os

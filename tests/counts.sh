@@ -1,3 +1,4 @@
+# SPDX-License-Identifier: MIT OR Apache-2.0
 # Sums what parts of ./test, ./prove and .ci/run count: the last line of each says how many passed and how many failed.
 passed=0
 failed=0

@@ -1,3 +1,4 @@
+# SPDX-License-Identifier: MIT OR Apache-2.0
 # Plays the cases of expressions through the libraries' public calls: python3 tests/expression_cases.py [PROGRAM]
 import json
 import os

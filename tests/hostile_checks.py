@@ -1,3 +1,4 @@
+# SPDX-License-Identifier: MIT OR Apache-2.0
 # Hostile files: each has to get a named answer, in bounded time and memory: python3 tests/hostile_checks.py [PROGRAM]
 #
 # Every change of one byte in four files, every beginning of a large book, and the named files of hostile_files.py. A file for

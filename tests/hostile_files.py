@@ -1,3 +1,4 @@
+# SPDX-License-Identifier: MIT OR Apache-2.0
 # Hostile files by name, each with the answer that the rules of the language give it.
 import json
 

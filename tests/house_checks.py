@@ -1,8 +1,13 @@
+# SPDX-License-Identifier: MIT OR Apache-2.0
 # Checks of the sources themselves: python3 tests/house_checks.py.
 import json
 import re
 import sys
 from pathlib import Path
+
+from house_counts import lost_citations, lost_definitions, wrong_counts
+from house_licences import lost_notices, other_versions, wrong_licences
+from planted import lost_equals
 
 TOP = Path(__file__).resolve().parent.parent
 CITES_A_PROOF = re.compile(r"^\s*(pub |ghost )*use \S*\.proofs\.[^{]*(\{([^}]*)\})?")
@@ -24,9 +29,9 @@ SECTION = re.compile(r"^#+ (\w+)(:|$)")
 LISTED_CRATE = re.compile(r"^(\w+)[^#]*:")
 SHOWN_CRATE = re.compile(r"^- \[(\w+)\]\(\1/README\.md\): ")
 CODE = re.compile(r"^code_text (\w+) =", re.M)
-# The codes that nothing is refused with.
-UNTOLD = ("N00",)
 FENCE = re.compile(r"^```.*?^```$", re.M | re.S)
+# A path in a text, but for a bare name and for a folder that many crates have.
+PATH = re.compile(r"`([^`\s*]+/[^`\s*]+)`")
 LINK = re.compile(r"\]\(([^)\s]+)\)")
 # Files of proofs that the prover's answers stand in, and lists of modules.
 UNNAMED_PROOFS = ("Answers.antt", "Invariants.antt", "Proof.antt", "Lib.antt")
@@ -143,8 +148,6 @@ def lost_codes():
     parts = {part.partition(":")[0]: part for part in re.split(r"^### ", text, flags=re.M)[1:]}
     for codes in sorted((TOP / "crates").glob("*/specs/Codes.antt")):
         for code in CODE.findall(codes.read_text(encoding="utf-8")):
-            if code in UNTOLD:
-                continue
             part = parts.get(code, "")
             has_book = re.search(r"^```json book( generated)?$", part, re.M)
             if not has_book or f"```text prints\nrefused {code} line " not in part:
@@ -172,6 +175,17 @@ def lost_links():
             target = path.parent / name if name else path
             if ":" not in link and (not target.exists() or (anchor and anchor not in anchors(target))):
                 yield f"{path.relative_to(TOP)}: {link}"
+
+
+def lost_paths():
+    """Each path that docs/CHANGING.md names is there: from the top, from crates/, or of the crate that was named last."""
+    folder = TOP
+    for path in PATH.findall((TOP / "docs/CHANGING.md").read_text(encoding="utf-8")):
+        if path.startswith("pb_"):
+            folder = TOP / "crates" / path.partition("/")[0]
+        places = [folder / path] if path.startswith(("src/", "specs/", "proofs/")) else [TOP / path, TOP / "crates" / path]
+        if "NAME" not in path and not any(place.exists() for place in places):
+            yield f"docs/CHANGING.md: {path}"
 
 
 def lost_records():
@@ -202,8 +216,16 @@ def main():
         ("a code isn't explained", lost_codes),
         ("a cell of a table is too long", long_cells),
         ("a link leads nowhere", lost_links),
+        ("a path of a recipe leads nowhere", lost_paths),
         ("a record is of no wrong program", lost_records),
         ("a proof doesn't say what it is for", silent_proofs),
+        ("a script's licence is wrong", wrong_licences),
+        ("a licence isn't told", lost_notices),
+        ("versions differ", other_versions),
+        ("a count isn't today's", wrong_counts),
+        ("a list of crates isn't today's", lost_definitions),
+        ("what crates cite isn't so", lost_citations),
+        ("a bug that changes nothing is of no line", lost_equals),
     ]
     failed = 0
     for name, search in checks:

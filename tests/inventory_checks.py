@@ -1,3 +1,4 @@
+# SPDX-License-Identifier: MIT OR Apache-2.0
 # Puts inventories to the library that reads them, and compares: python3 tests/inventory_checks.py [PROGRAM]
 #
 # Those of examples/inventories have to say what Ansible says of them, but for the differences that are listed here. The

@@ -1,3 +1,4 @@
+# SPDX-License-Identifier: MIT OR Apache-2.0
 # Checks of modules as programs (`run --modules`): python3 tests/module_checks.py PROGRAM. Each row is a program of the test's
 # own, in shell, and what is wanted of the run by the rules of crates/pb_process/README.md.
 import contextlib
@@ -16,6 +17,7 @@ PING = [{"hosts": "all", "tasks": [{"ping": None}]}]
 LONG = [{"hosts": "all", "tasks": [{"copy": {"content": "x" * 65000, "dest": "/" + "y" * 900}}]}]
 NAMED = [{"hosts": "all", "tasks": [{"copy": {"dest": "/tmp/b", "content": "one \"two\"\n"}}]}]
 FINE = '{"ping": "pong"}'
+UNSTARTED = "playcheck: cannot start modules/ping: {}\n"
 COUNTS = ("ok", "changed", "unreachable", "failed", "skipped", "rescued", "ignored")
 
 # The name of a row, the program of `ping`, the counts of the recap that aren't 0, and the status.
@@ -68,9 +70,9 @@ def recap(counts):
     return "h1 : " + " ".join(f"{name}={counts.get(name, 0)}" for name in COUNTS) + "\n"
 
 
-def differs(ran, counts, status):
+def differs(ran, counts, status, told=""):
     """What isn't as it is wanted."""
-    wanted = recap(counts), "", status
+    wanted = recap(counts), told, status
     found = ran.stdout, ran.stderr, ran.returncode
     return "" if found == wanted else f"wanted {wanted}, found {found}"
 
@@ -92,17 +94,17 @@ def end_left(room):
 
 
 def is_missing(room):
-    return differs(room.run(PING), {"unreachable": 1}, 4)
+    return differs(room.run(PING), {"unreachable": 1}, 4, UNSTARTED.format("No such file or directory"))
 
 
 def may_not_run(room):
     room.module("ping", f"#!/bin/sh\necho '{FINE}'\n", mode=0o644)
-    return differs(room.run(PING), {"unreachable": 1}, 4)
+    return differs(room.run(PING), {"unreachable": 1}, 4, UNSTARTED.format("Permission denied"))
 
 
 def has_no_interpreter(room):
     room.module("ping", f"#!/no/such/interpreter\necho '{FINE}'\n")
-    return differs(room.run(PING), {"unreachable": 1}, 4)
+    return differs(room.run(PING), {"unreachable": 1}, 4, UNSTARTED.format("No such file or directory"))
 
 
 def is_not_started(room):
@@ -137,8 +139,7 @@ def checks():
     for name, text, counts, status in ROWS:
         yield name, lambda room, row=(text, counts, status): of_row(room, *row)
     yield "no such program", is_missing
-    if os.geteuid() != 0:
-        yield "no right to run it", may_not_run
+    yield "no right to run it", may_not_run
     yield "no interpreter", has_no_interpreter
     yield "arguments that are too long", is_not_started
     yield "what it is asked", is_asked

@@ -1,3 +1,4 @@
+# SPDX-License-Identifier: MIT OR Apache-2.0
 # Runs what the pages show: the books of docs/REFUSALS.md, of which each code has one at least, and the console examples of
 # README.md and examples/site/README.md, those of YAML where PyYAML is here. python3 tests/page_checks.py [PROGRAM]
 import importlib.util
@@ -23,7 +24,6 @@ OPTIONS = {"inventory": "-i", "signatures": "-s", "answers": "--answers"}
 FENCE = re.compile(r"^```(.*)\n(?s:(.*?))^```$", re.M)
 HEADING = re.compile(r"^#+ (?:([A-Z]\d\d): )?.*$", re.M)
 CODE = re.compile(r'codes "([A-Z]\d\d)"')
-UNTOLD = ("N00",)  # the codes that nothing is refused with
 COMMAND = re.compile(r"^\$ (.*)\n((?:(?!\$ ).*\n)*)", re.M)
 LAUNCHER = re.compile(r"\./playcheck(?![\w-])")
 FRONT_END = "./playcheck-ansible"
@@ -72,7 +72,7 @@ def refusals(page):
 
 def codes():
     for path in sorted(TOP.glob("crates/pb_*/specs/Codes.antt")):
-        yield from (code for code in CODE.findall(path.read_text(encoding="utf-8")) if code not in UNTOLD)
+        yield from CODE.findall(path.read_text(encoding="utf-8"))
 
 
 def wrong_sections(page):

@@ -1,3 +1,4 @@
+# SPDX-License-Identifier: MIT OR Apache-2.0
 # Checks of the program itself: its command line, files that can't be read, hostile files, the examples.
 import json
 import os
@@ -5,6 +6,7 @@ import random
 import re
 
 from check import FOLDER, Check, Cost, Growth, Pieces, exactly
+from house_licences import version
 
 ONE_HOST = '{"all":{"hosts":["h1"]}}'
 PING_BOOK = '[{"hosts":"all","tasks":[{"ping":null,"register":"p","when":"1 == 1"}]}]'
@@ -41,6 +43,8 @@ def program_checks(top):
     ]
 
 
+MISSING = "No such file or directory"
+
 # What is wanted.
 
 
@@ -59,11 +63,11 @@ def usage(said=b""):
     return judge
 
 
-def cannot_read(name):
-    """Wants the line about a file that can't be read, and no other."""
+def cannot_read(name, reason=MISSING):
+    """Wants the line about a file that can't be read, with the system's reason, and no other."""
 
     def judge(outcome):
-        line = f"playcheck: cannot read {name}\n".encode()
+        line = f"playcheck: cannot read {name}: {reason}\n".encode()
         if (outcome.status, outcome.stdout, outcome.stderr) == (64, b"", line):
             return ""
         return f"status 64, empty stdout, stderr {line!r}"
@@ -85,9 +89,10 @@ def usage_named(outcome):
 
 
 def version_shown(outcome):
-    if (outcome.status, outcome.stdout, outcome.stderr) == (0, b"playcheck 0.2.0\n", b""):
+    wanted = f"playcheck {version()}\n".encode()
+    if (outcome.status, outcome.stdout, outcome.stderr) == (0, wanted, b""):
         return ""
-    return "status 0, stdout b'playcheck 0.2.0\\n', empty stderr"
+    return f"status 0, stdout {wanted!r}, empty stderr"
 
 
 def unwritten(outcome):
@@ -180,16 +185,16 @@ def unreadable_files():
         earlier = {key: FILES[key] for key in order[:at]}
         checks += [
             Check(f"missing-{name}", words, cannot_read(name), others),
-            Check(f"folder-as-{name}", words, cannot_read(name), {**others, name: FOLDER}),
+            Check(f"folder-as-{name}", words, cannot_read(name, "Is a directory"), {**others, name: FOLDER}),
             Check(f"missing-from-{name}-on", words, cannot_read(name), earlier),
         ]
     checks += [
         Check("missing-answers-of-refused-book", RUN, cannot_read("answers"), {**FILES_BUT_ANSWERS, "book": "["}),
-        Check("file-as-folder", ["check", "book/x", "-i", "inventory"], cannot_read("book/x"), FILES),
+        Check("file-as-folder", ["check", "book/x", "-i", "inventory"], cannot_read("book/x", "Not a directory"), FILES),
     ]
     if os.geteuid() != 0:  # root may read every file
         secret = "/etc/shadow"
-        checks.append(Check("no-permission", ["check", secret, "-i", "inventory"], cannot_read(secret), FILES))
+        checks.append(Check("no-permission", ["check", secret, "-i", "inventory"], cannot_read(secret, "Permission denied"), FILES))
     return checks
 
 

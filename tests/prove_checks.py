@@ -1,3 +1,4 @@
+# SPDX-License-Identifier: MIT OR Apache-2.0
 # Checks of ./prove CRATE.. on a made tree with a made prover: which crates it proves, what it counts, takes and leaves behind:
 # python3 tests/prove_checks.py
 import os

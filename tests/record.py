@@ -1,3 +1,4 @@
+# SPDX-License-Identifier: MIT OR Apache-2.0
 # Which wrong programs were refused, and by which sources: tests/refused/CRATE has a line for each, its name and a sum.
 #
 # The sum is over all that a refusal depends on: the kit's logic, the edit, every file of the crate's src, specs and proofs, and

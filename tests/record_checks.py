@@ -1,3 +1,4 @@
+# SPDX-License-Identifier: MIT OR Apache-2.0
 # Checks of the record of wrong programs, without the prover: what is taken from it, what is tried, and what is written into it:
 # python3 tests/record_checks.py
 import contextlib

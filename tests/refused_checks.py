@@ -1,3 +1,4 @@
+# SPDX-License-Identifier: MIT OR Apache-2.0
 # Each allocation refused in turn, of the program and, where they are given, of the tests that make calls by hand: the answer, or
 # want of memory by name, and nothing else: python3 tests/refused_checks.py PROGRAM [TESTS..]. Where a run makes some thousands of
 # them, every so many-th. And each thread of a run refused in turn: want of a thread by name, and no module was started.

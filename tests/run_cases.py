@@ -1,3 +1,4 @@
+# SPDX-License-Identifier: MIT OR Apache-2.0
 # Runs the cases of tests/cases, the refusals of refusals.jsonl, the books of forks.jsonl, the hosts of alike.jsonl, the texts
 # of others.jsonl, the worked rows of tests/semantics, and the checks of program_checks.py:
 # python3 tests/run_cases.py [PROGRAM]

@@ -1,3 +1,4 @@
+# SPDX-License-Identifier: MIT OR Apache-2.0
 # A board takes no seat of a board that was opened with other blanks, since a seat has the ledgers of its board in its type: the
 # prover's front end refuses a program that puts one to it, for that type, and passes the same program with the board's own:
 # python3 tests/seat_checks.py

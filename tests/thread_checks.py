@@ -1,3 +1,4 @@
+# SPDX-License-Identifier: MIT OR Apache-2.0
 # Runs with several workers, again and again, beside processes that keep all processors busy:
 # python3 tests/thread_checks.py PROGRAM [--all]. 40 books, with answers from a file and with modules that answer late by a seed:
 # no run hangs, and each comes to the status and the recap that are worked out for one worker. With --all there are more than

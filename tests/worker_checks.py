@@ -1,3 +1,4 @@
+# SPDX-License-Identifier: MIT OR Apache-2.0
 # Checks of what workers do with modules as programs: python3 tests/worker_checks.py PROGRAM [--threads]. How many programs run
 # at once, what each has open, and what is left of them while a long run goes on and behind it. With --threads also that as many
 # workers as there are make their calls really at once, which fails with a program that runs on one thread.
@@ -21,6 +22,7 @@ HOSTS = 24
 CALLS = 20  # of each host, in a long run
 # Descriptors that a run may have open: its own, and those of each worker's call.
 OWN, OF_A_CALL = 16, 8
+WATCHDOGS = 1  # of a run, beside its programs
 
 # It waits for the other host's program: both are here at once, or it says that it was alone.
 GATE = """: >"here/$1"
@@ -205,15 +207,15 @@ def watched(process):
 
 
 def long_run(forks):
-    """While it goes on it has no more children than workers, gone ones among them, and no more descriptors from call to call;
-    behind it nothing is left."""
+    """While it goes on it has no more children than workers and the watchdog, gone ones among them, and no more descriptors
+    from call to call; behind it nothing is left."""
 
     def check(program, folder):
         crew = Crew(program, folder, HOSTS, ASKER)
         process = crew.start(forks, [{"hosts": "all", "tasks": PING[0]["tasks"] * CALLS}])
         most = watched(process)
         wrong = all_ok(crew, crew.ended(process), CALLS)
-        if len(most) > forks:
+        if len(most) > forks + WATCHDOGS:
             wrong = wrong or f"it had children in the states {most}"
         counts = crew.counts()
         if len(counts) != HOSTS * CALLS or max(counts) > OWN + OF_A_CALL * forks:

@@ -1,3 +1,4 @@
+# SPDX-License-Identifier: MIT OR Apache-2.0
 # Tries the wrong programs of crates/*/wrong, each of which the prover must refuse:
 #     python3 tests/wrong_programs.py [--again] [CRATE..]
 #     python3 tests/wrong_programs.py [--again] --tree TREE --beside LOG, while rt ci runs in TREE and writes to LOG

@@ -1,3 +1,4 @@
+# SPDX-License-Identifier: MIT OR Apache-2.0
 """Turns books, inventories, signatures and answers into terms of the definitions."""
 
 import json

@@ -1,3 +1,4 @@
+# SPDX-License-Identifier: MIT OR Apache-2.0
 """Reads expressions and templates into terms of the definitions."""
 
 import re

@@ -1,4 +1,5 @@
 #!/usr/bin/env python3
+# SPDX-License-Identifier: MIT OR Apache-2.0
 """Writes the rows of crates/pb_rows and pb_byte_rows: cases as closed terms that the definitions compute.
 
 Usage: make_rows.py, which writes the rows anew (then `rt fmt` lays them out), or make_rows.py --check.

@@ -1,3 +1,4 @@
+# SPDX-License-Identifier: MIT OR Apache-2.0
 """Rows of what expressions come to, a value or why there is none, and of runs that get stuck."""
 
 import json

@@ -1,3 +1,4 @@
+# SPDX-License-Identifier: MIT OR Apache-2.0
 """The books of the cases, with what the definitions read them to, as rows.
 
 What is wanted of one that is read is worked out by books.py, apart from the definitions, and of a refused one the case says it.

@@ -1,3 +1,4 @@
+# SPDX-License-Identifier: MIT OR Apache-2.0
 """The texts of the cases' expressions, with the trees that the grammar gives them, as rows.
 
 The trees are read by expressions.py, apart from the definitions. Texts with quotes are left out, since what is UTF-8 isn't

@@ -1,3 +1,4 @@
+# SPDX-License-Identifier: MIT OR Apache-2.0
 """What becomes of the files of the cases, from their bytes, as rows.
 
 What is wanted is the line that the case prints; nothing else of the case is read here. Left out are cases of long files, and

@@ -1,7 +1,10 @@
+# SPDX-License-Identifier: MIT OR Apache-2.0
 # What the modules of this folder do with JSON: python3 -IS lib.py COMMAND ..
-#   read MODULE ARGUMENTS: prints the arguments for `eval` in a shell, or what tells a failure and ends it
-#   run FOLDER WORD..: runs a program there, and prints the answer of `command` and `shell`
-#   say TEXT: prints that answer for a program that wasn't run
+#   read MODULE: prints the arguments for `eval` in a shell, or what tells a failure and ends it
+#   run FOLDER: runs a program there, and prints the answer of `command` and `shell`
+#   say: prints that answer for a program that wasn't run
+# The arguments as JSON, the program's words with a NUL behind each, and the text that is said come on standard input,
+# since everybody on this machine can see the words of a command line.
 import json
 import os
 import re
@@ -11,7 +14,8 @@ import sys
 import threading
 
 MOST_LINES = 65536
-MOST_BYTES = 1048576  # of an answer, and of what a program writes
+MOST_BYTES = 1048576  # of arguments, of an answer, and of what a program writes
+MOST_PATH = 4095  # bytes of a path, by Linux
 NOT_STARTED = 256  # no program ends with it
 
 PLAIN, PATH, MODE, TEXTS = "a text", "a path", "an octal mode", "a list of texts"
@@ -36,6 +40,8 @@ class Fault(Exception):
 
 
 def arguments_of(module, text):
+    if len(text) > MOST_BYTES:
+        raise Fault("the arguments are too long")
     try:
         given = json.loads(text.decode())
     except (ValueError, RecursionError):
@@ -80,6 +86,8 @@ def root():
 
 def places(top, path):
     """Where a path leads below that folder, with all links followed, and with all but the last."""
+    if len(path.encode()) > MOST_PATH:
+        raise Fault(f"a path is longer than {MOST_PATH} bytes")
     folder, name = os.path.split(path.strip("/"))
     above = os.path.realpath(os.path.join(top, folder))
     followed = os.path.realpath(os.path.join(above, name))
@@ -100,16 +108,17 @@ def assignments(module, given):
     top = root() if PATH in PARAMETERS[module].values() else ""
     yield f"root={shlex.quote(top)}"
     for name, kind in PARAMETERS[module].items():
+        # Also of the environment, where no argument is to stand either.
+        yield f"unset {name} {name}_json {name}_at {name}_link"
         if name not in given or kind == TEXTS:
-            yield f"unset {name} {name}_json {name}_at {name}_link"
             continue
         text = given[name].zfill(4) if kind == MODE else given[name]
         yield f"{name}={shlex.quote(text)} {name}_json={shlex.quote(inner_json(text))}"
         if kind == PATH:
             followed, kept = places(top, text)
             yield f"{name}_at={shlex.quote(followed)} {name}_link={shlex.quote(kept)}"
-    if module == "command":
-        yield f"set -- {shlex.join(words_of(given['cmd']))}"
+    if module in PROGRAMS:
+        yield f"set -- {shlex.join(PROGRAMS[module](given['cmd']))}"
 
 
 def inner_json(text):
@@ -127,11 +136,15 @@ def words_of(line):
     return words
 
 
-def read(module, text=""):
+# The words of the program that each runs.
+PROGRAMS = {"command": words_of, "shell": lambda line: ["/bin/sh", "-c", line]}
+
+
+def read(module, text):
     try:
-        return "\n".join(assignments(module, arguments_of(module, os.fsencode(text))))
+        return "\n".join(assignments(module, arguments_of(module, text)))
     except Fault as fault:
-        answer = not_started(str(fault)) if module in ("command", "shell") else failure(str(fault))
+        answer = not_started(str(fault)) if module in PROGRAMS else failure(str(fault))
         return f"printf '%s\\n' {shlex.quote(json_of(answer))}; exit"
 
 
@@ -172,14 +185,14 @@ def fits(answer):
     return lines <= MOST_LINES and len(json_of(answer).encode()) < MOST_BYTES
 
 
-def run(folder, *words):
+def run(folder, words):
     if not os.path.isdir(folder):
         return not_started("chdir is no folder")
     pipe = subprocess.PIPE
     try:
         child = subprocess.Popen(words, cwd=folder, stdin=subprocess.DEVNULL, stdout=pipe, stderr=pipe)
     except OSError as fault:
-        return not_started(f"{words[0]} can't be started: {fault.strerror}")
+        return not_started(f"{words[0].decode()} can't be started: {fault.strerror}")
     return ended(*outputs_of(child))
 
 
@@ -201,12 +214,13 @@ def outputs_of(child):
 
 def main():
     command, *words = sys.argv[1:]
+    given = sys.stdin.buffer.read(MOST_BYTES + 1 if command == "read" else -1)
     if command == "read":
-        said = read(*words)
+        said = read(*words, given)
     elif command == "run":
-        said = json_of(run(*words))
+        said = json_of(run(*words, given.split(b"\0")[:-1]))
     else:
-        said = json_of(program_answer(False, 0, words[0]))
+        said = json_of(program_answer(False, 0, given.decode()))
     sys.stdout.buffer.write(said.encode() + b"\n")
 
 

@@ -136,6 +136,7 @@ class Book:
     plays: list
     node: "object | None" = None  # the book itself, where it is no list
     left_out: list = field(default_factory=list)  # tasks that a run passes by, by their tags
+    includes: list = field(default_factory=list)  # the blocks that stand for includes
 
     def tasks(self):
         return [task for play in self.plays if isinstance(play, Play) for task in play.tasks()]

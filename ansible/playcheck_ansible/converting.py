@@ -4,7 +4,11 @@ import contextlib
 import json
 import os
 
+from .nodes import Scalar
 from .problems import Place, Problem
+
+# Words that change what a run does, and that a book is judged without; a `meta` that does nothing becomes a message.
+UNPRINTED = ("run_once", "any_errors_fatal", "max_fail_percentage", "check_mode", "async", "vars_prompt", "meta")
 
 
 def write_converted(folder, settler, inventory):
@@ -48,12 +52,34 @@ def by_text(lines):
     return {(text.place, text.text): text.stand_ins for texts in printed for text in texts}
 
 
-def warning_of(lines):
-    """What is said of a book in which expressions have other values; of any other book nothing."""
-    found = by_text(lines)
-    if not found:
-        return ""
-    count, (first, _) = sum(found.values()), next(iter(found))
-    told = (f"1 expression stands for an operation that the profile lacks ({first})" if count == 1 else
-            f"{count} expressions stand for operations that the profile lacks ({first} first)")
-    return f"{told}: this book is for check, and not for run"
+def warnings_of(settler):
+    """What is said of a book of which a run does something else than Ansible; of any other book nothing."""
+    values, tasks = by_text(settler.numbered.lines), others(settler)
+    end = ": this book is for check, and not for run"
+    if values:
+        count, (first, _) = sum(values.values()), next(iter(values))
+        told = (f"1 expression stands for an operation that the profile lacks ({first})" if count == 1 else
+                f"{count} expressions stand for operations that the profile lacks ({first} first)")
+        yield f"{told}{end}"
+    if tasks:
+        told = f"1 task is another one ({tasks[0]})" if len(tasks) == 1 else f"{len(tasks)} tasks are others ({tasks[0]} first)"
+        yield f"{told} than in a run of Ansible{end}"
+
+
+def others(settler):
+    """The places of the tasks that a run doesn't count or doesn't run as Ansible does, each once."""
+    lines = [line for line in settler.numbered.lines if line is not None and is_other(line)]
+    found = {line.place for line in lines} | {block.place for block in settler.book.includes}
+    return sorted(found, key=lambda place: (place.file, place.line, place.column))
+
+
+def is_other(line):
+    """Whether another task stands beside what a line stands for, or in its place, or a word that changes its run isn't printed."""
+    written, words = getattr(line.source, "written", {}), getattr(line.source, "words", {})
+    lost = [key for key in UNPRINTED if key in written and key not in words and not is_off(written.get(key))]
+    return bool(line.kind in ("asked", "condition") or getattr(line.source, "reason", "") or getattr(line.source, "facts", ())
+                or getattr(line.source, "has_no_bound", False) or lost)
+
+
+def is_off(node):
+    return isinstance(node, Scalar) and node.value in (False, None)

@@ -1,5 +1,6 @@
 # SPDX-License-Identifier: MIT OR Apache-2.0
 # Where facts are gathered, and which of those that are always there a subset may leave out.
+from .kinds import asked_word, wrong_word
 from .nodes import Mapping, Scalar, has_template, made, texts_of
 
 # Subsets of facts that lie above the smallest one.
@@ -14,7 +15,8 @@ def gathered_facts(play, extra):
     subset = play.words.get("gather_subset")
     if not isinstance(node, Scalar) or not isinstance(node.value, bool):
         play.words.put("gather_facts", made(True, node.place))
-        play.asked.append(node)
+        play.asked += asked_word("gather_facts", node)
+        play.reason = play.reason or wrong_word("gather_facts", node)
         leave_facts(play, "`gather_facts` is a template")
     elif subset is not None and leaves_facts_out(subset):
         leave_facts(play, "`gather_subset` leaves facts out that are else always there")

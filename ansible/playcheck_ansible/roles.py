@@ -5,7 +5,8 @@ import re
 from dataclasses import dataclass, field
 
 from .books import items_of
-from .nodes import Mapping, Sequence, has_template, is_nothing, is_text, made
+from .flow_words import FLOW, PASSED
+from .nodes import Mapping, Scalar, Sequence, has_template, is_literal, is_nothing, is_text, made
 from .positions import read_file
 from .problems import Place, Problem
 
@@ -34,6 +35,7 @@ class Role:
     needed: list = field(default_factory=list)  # those that were put in place
     beside: dict = field(default_factory=dict)  # the `vars` beside its name
     parameters: dict = field(default_factory=dict)  # what else stands there and is no keyword
+    around: tuple = ()  # the words of what stands round it, its own last
 
 
 def role_of(node, context, is_include=False):
@@ -138,6 +140,20 @@ def block_words(role, place):
                     if key in ROLE_WORDS and key not in ("vars", "role", "name")}, place)
 
 
+def inherit(handler, words):
+    """What a handler of a role has from words round the role: conditions before its own, and `ignore_errors`."""
+    for word, node in words.pairs.items():
+        own = handler.words.get(word)
+        is_off = isinstance(node, Scalar) and node.value in (False, None)
+        if word == "when":
+            parts = [part for one in (node, own) if one is not None for part in getattr(one, "items", [one])]
+            handler.words.put(word, Sequence(parts, node.place))
+        elif word == "ignore_errors" and own is None:
+            handler.words.put(word, node)
+        elif word in (*FLOW, "notify") and not is_off or word in PASSED and not is_literal(node):
+            handler.leave(f"`{word}` round its role changes it", node.place)
+
+
 def put_handlers(play, role, handlers):
     """Adds a role's handlers to its play, each with its longer name as a topic."""
     there = {handler.name: handler for handler in play.sections.get("handlers", []) if handler.name}
@@ -146,6 +162,8 @@ def put_handlers(play, role, handlers):
         if other is not None:
             if handler.place != other.place:
                 other.leave(f"two handlers have the name '{handler.name}'")
+            elif handler.words.get("when") != other.words.get("when"):
+                other.leave("its role stands under several conditions")
             other.comes_with = other.comes_with and handler.comes_with
             continue
         handler.folder = role.folder

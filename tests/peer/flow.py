@@ -66,7 +66,9 @@ def wrong_books(ansible: Ansible, folder: Path, seeds: "range", made: "Callable[
         verdicts = check([f"b{number}/book.yml" for number in range(len(books))], folder)
         for number, verdict in enumerate(verdicts):
             counts[verdict.report["verdict"]] = counts.get(verdict.report["verdict"], 0) + 1
-            found = judged_book(ansible, folder / f"b{number}", verdict, hosts, seed, counts) if verdict.is_accepted else None
+            found = None
+            if verdict.is_accepted:
+                found = judged_book(ansible, folder / f"b{number}", verdict, hosts, seed, counts)
             if found:
                 small = smallest(ansible, folder, books[number], found[1], found[0])
                 yield f"seed {seed}, book {number}: {found[0]}\n{small}"

@@ -56,7 +56,9 @@ def is_broken(ansible: Ansible, folder: Path, files: Json, answers: Json, sort: 
         verdict, = check(["small/book.yml"], folder)
     except (RuntimeError, ValueError):
         return False
-    broken = trouble(ansible, place, verdict, answers, verdict.is_whole and not converted(place)) if verdict.is_accepted else ""
+    if not verdict.is_accepted:
+        return False
+    broken = trouble(ansible, place, verdict, answers, verdict.is_whole and not converted(place))
     return bool(broken) and sort_of(broken) == sort
 
 

@@ -1,13 +1,22 @@
 # SPDX-License-Identifier: MIT OR Apache-2.0
 # Writes what the program is asked: the book, the inventory and the signatures in JSON, and what each line is.
+from __future__ import annotations
+
 import contextlib
 import json
 import os
+from typing import TYPE_CHECKING, Dict, Iterable, Optional, Tuple
 
 from .problems import Place, Problem
 
+if TYPE_CHECKING:
+    from .inventory import Inventory
+    from .lines import Line
+    from .nodes import Text
+    from .settling import Settler
 
-def write_converted(folder, settler, inventory):
+
+def write_converted(folder: str, settler: Settler, inventory: Inventory) -> None:
     try:
         os.makedirs(folder, exist_ok=True)
         write(folder, "book.json", settler.numbered.json)
@@ -33,7 +42,7 @@ def write(folder: str, name: str, value: object) -> None:
         raise
 
 
-def line_json(number, line):
+def line_json(number: int, line: Line) -> Dict[str, object]:
     """A counted line: what it is, where it stands, whether it is judged, and how many expressions have other values."""
     place = line.place
     reason = getattr(line.step, "reason", "") if line.step is not None else ""
@@ -42,13 +51,17 @@ def line_json(number, line):
             "not_judged": reason or None, "stand_ins": sum(by_text([line]).values())}
 
 
-def by_text(lines):
+def by_text(lines: Iterable[Optional[Line]]) -> Dict[Tuple[Place, str], int]:
     """How many expressions of each text of the files have other values; a text may be printed more than once."""
-    printed = (sorted(line.stand_ins(), key=lambda text: text.place) for line in lines if line is not None)
+    printed = (sorted(line.stand_ins(), key=place_of) for line in lines if line is not None)
     return {(text.place, text.text): text.stand_ins for texts in printed for text in texts}
 
 
-def warning_of(lines):
+def place_of(text: Text) -> Place:
+    return text.place
+
+
+def warning_of(lines: Iterable[Optional[Line]]) -> str:
     """What is said of a book in which expressions have other values; of any other book nothing."""
     found = by_text(lines)
     if not found:

@@ -6,12 +6,11 @@ import re
 from dataclasses import replace
 from typing import TYPE_CHECKING, Iterable
 
-from .nodes import Mapping, Scalar, Sequence, is_literal, is_text
+from .nodes import Mapping, Node, Scalar, Sequence, Text, is_literal, is_text
 from .values import FALSE_WORDS, TRUE_WORDS, is_whole, without_omit
 
 if TYPE_CHECKING:
     from .literals import Values
-    from .precedence import Node
 
 KINDS = {
     **dict.fromkeys(("become", "diff", "no_log", "check_mode", "ignore_errors"), "bool"),
@@ -32,7 +31,7 @@ def asked_word(key: str, node: Node) -> "list[Node]":
     if not kind or not is_whole(node):
         return [node]
     node = without_omit(node, kind) if "omit" in node.value else node
-    asked = [replace(node, wanted=kind, is_first=key in FIRST)]
+    asked: "list[Node]" = [replace(node, wanted=kind, is_first=key in FIRST)]
     inside = bare(node)
     if key == "delegate_to" and PATH.fullmatch(inside) and inside.partition(".")[0] != "item":
         # Where it isn't there, this is told at the task's own time; what it is, before its condition.
@@ -64,10 +63,9 @@ def is_of_kind(value: object, kind: str) -> bool:
                                                                                             value) is not None
 
 
-def bare(node: Scalar) -> str:
+def bare(node: Text) -> str:
     """The expression of a template that is a whole text."""
-    text: str = node.value.strip()
-    return text[2:-2].strip()
+    return node.value.strip()[2:-2].strip()
 
 
 def forced(nodes: Iterable[Node], values: Values) -> "list[Node]":

@@ -1,11 +1,16 @@
 # SPDX-License-Identifier: MIT OR Apache-2.0
 # Which names a task's texts mention, and which it gives: by their letters alone, so rather too many than too few.
+from __future__ import annotations
+
 import re
 from functools import lru_cache
-from typing import Iterator, Tuple
+from typing import TYPE_CHECKING, FrozenSet, Iterable, Iterator, Optional, Set, Tuple
 
-from .nodes import Mapping, is_text, texts_of
+from .nodes import Mapping, Node, Text, is_text, texts_of
 from .templates import template_spans
+
+if TYPE_CHECKING:
+    from .books import Task
 
 NAME = re.compile(r"[A-Za-z_][A-Za-z0-9_]*")
 READ = re.compile(r"(?<![A-Za-z0-9_.])(?<!\.\s)[A-Za-z_][A-Za-z0-9_]*")
@@ -24,20 +29,23 @@ GRAMMAR = {"and", "or", "not", "in", "is", "true", "false", "True", "False", "no
 MAGIC = {"playbook_dir", "role_path", "role_name", "inventory_dir", "inventory_file", "play_hosts", "omit", "vars",
          "environment", "inventory_hostname_short", "lookup", "query", "q", "now", "range", "undef"}
 
+# An expression, and the text in which it stands.
+Read = Tuple[str, Text]
 
-def expressions_in(text):
+
+def expressions_in(text: str) -> Tuple[str, ...]:
     """The expressions of a template's text."""
     return expressions_of_template(text) if "{" in text else ()
 
 
 # Each pass asks for them anew.
 @lru_cache(4096)
-def expressions_of_template(text):
+def expressions_of_template(text: str) -> Tuple[str, ...]:
     return tuple(text[start + 2:end - 2] for start, end in template_spans(text))
 
 
 @lru_cache(4096)
-def expression_names(text):
+def expression_names(text: str) -> FrozenSet[str]:
     """The names that an expression may read; those in its texts too where it reads other hosts."""
     if "hostvars" in text or "vars" in text or "lookup" in text:
         return frozenset(NAME.findall(text))
@@ -68,7 +76,7 @@ def text_spans(expression: str) -> Iterator[Tuple[int, int]]:
         at = found.end() if found else quote.end()
 
 
-def read_places(words, asked=()):
+def read_places(words: Mapping, asked: Iterable[Node] = ()) -> Iterator[Read]:
     """Each expression of a task's words, with the node in which it stands."""
     for key, node in words.pairs.items():
         if key == "assert" and isinstance(node, Mapping):
@@ -80,12 +88,12 @@ def read_places(words, asked=()):
         yield from expressions_of(node, False)
 
 
-def expressions_of(node, is_condition):
+def expressions_of(node: Optional[Node], is_condition: bool) -> Iterator[Read]:
     for text in texts_of(node):
         yield from [(text.value, text)] if is_condition else templates_in(text)
 
 
-def templates_in(text):
+def templates_in(text: Text) -> Iterator[Read]:
     return ((expression, text) for expression in expressions_in(text.value))
 
 
@@ -106,7 +114,7 @@ FORMS = ((FILTER, "the filter `{}`"), (TEST, "the test `{}`"), (METHOD, "the cal
 SUSPECT = re.compile(r"[|(\[+*/%~]|\bi[sf]\b")
 
 
-def outside_form(expression):
+def outside_form(expression: str) -> str:
     """What an expression has that the profile lacks, where that shows at once; else nothing."""
     if not SUSPECT.search(expression):
         return ""
@@ -119,7 +127,7 @@ def outside_form(expression):
     return f"the call `{called[1]}()`" if called else ""
 
 
-def outside_node(node, is_condition=False):
+def outside_node(node: Node, is_condition: bool = False) -> Tuple[str, Optional[Text]]:
     """The first such form in a node's expressions, and the text in which it stands."""
     for text in texts_of(node):
         if not is_condition and "{%" in text.value:
@@ -131,16 +139,16 @@ def outside_node(node, is_condition=False):
     return "", None
 
 
-def mentioned(words, asked=()):
+def mentioned(words: Mapping, asked: Iterable[Node] = ()) -> Set[str]:
     """All names that a task's texts mention; a field of `ansible_facts` is named as the fact itself."""
-    names = set()
+    names: Set[str] = set()
     for expression, _ in read_places(words, asked):
         names |= expression_names(expression)
         names |= {f"ansible_{name.removeprefix('ansible_')}" for name in FACT.findall(expression)}
     return names
 
 
-def given_names(task):
+def given_names(task: Task) -> Set[str]:
     """The names that a task sets: its register, what `set_fact` sets, and what is known besides."""
     names = set(task.gives)
     register = task.words.get("register")
@@ -155,6 +163,6 @@ def given_names(task):
     return names
 
 
-def names_of_vars(words):
+def names_of_vars(words: Mapping) -> Set[str]:
     node = words.get("vars")
     return set(node.pairs) if isinstance(node, Mapping) else set()

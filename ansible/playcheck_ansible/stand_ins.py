@@ -1,12 +1,18 @@
 # SPDX-License-Identifier: MIT OR Apache-2.0
 # Reads an expression as Jinja does, and writes with the profile's forms what it can; the pass `stand_ins`.
+from __future__ import annotations
+
 import re
 from functools import lru_cache
+from typing import TYPE_CHECKING, Callable, List, Optional, Tuple
 
 from .literal_operands import guarded, is_comparison, is_plain, is_replacement, is_separator, text_of
 from .parts import (AND, OPERAND, OR, PLAIN, RELATION, Part, Unfit, Writer, all_read, as_text, chained, denied,
                     is_pattern, literal_part)
 from .tokens import Tokens
+
+if TYPE_CHECKING:
+    from .finite import IsFinite
 
 WORDS = {"true": True, "True": True, "false": False, "False": False, "none": None, "None": None}
 # Filters that give a text of whatever they are given, of a text alone; with how many arguments.
@@ -27,13 +33,13 @@ DEEPEST = 24
 SUSPECT = re.compile(r"[|+*/%~(\[]|-\s|\bi[sf]\b")
 
 
-def stand_ins(expression, is_loose=False):
+def stand_ins(expression: str, is_loose: bool = False) -> str:
     """The expression with the profile's forms; `is_loose` where only what it reads counts, and not its kind."""
     return rewritten(expression, is_loose)[0]
 
 
 @lru_cache(4096)
-def rewritten(expression, is_loose, finite=None):
+def rewritten(expression: str, is_loose: bool, finite: Optional[IsFinite] = None) -> Tuple[str, bool]:
     """The expression with the profile's forms, and whether its value is the same.
 
     `finite` answers whether what a path holds is no text as `inf`, of which `int` makes no number.
@@ -58,18 +64,18 @@ def rewritten(expression, is_loose, finite=None):
 class Reader(Tokens, Writer):
     """A reader by descent; what it can't read or write is Unfit, and then the expression stays as it is."""
 
-    def __init__(self, text, finite=None):
+    def __init__(self, text: str, finite: Optional[IsFinite] = None) -> None:
         Writer.__init__(self)
         Tokens.__init__(self, text)
         self.finite, self.depth = finite, 0
 
-    def whole(self):
+    def whole(self) -> Part:
         part = self.choice()
         if self.tokens[self.at][0] != "end":
             raise Unfit
         return part
 
-    def deeper(self, below):
+    def deeper(self, below: Callable[[], Part]) -> Part:
         """A part inside another one: what nests too deep stays as it is."""
         if self.depth >= DEEPEST:
             raise Unfit
@@ -78,7 +84,7 @@ class Reader(Tokens, Writer):
         self.depth -= 1
         return part
 
-    def choice(self):
+    def choice(self) -> Part:
         part = self.deeper(self.alternatives)
         if self.take("if"):
             condition = self.alternatives()
@@ -86,22 +92,22 @@ class Reader(Tokens, Writer):
             part = self.chosen(condition, part, self.deeper(self.choice))
         return part
 
-    def alternatives(self):
+    def alternatives(self) -> Part:
         return self.chain("or", self.conjunction, OR)
 
-    def conjunction(self):
+    def conjunction(self) -> Part:
         return self.chain("and", self.negation, AND)
 
-    def chain(self, word, below, level):
+    def chain(self, word: str, below: Callable[[], Part], level: int) -> Part:
         parts = [below()]
         while self.take(word):
             parts.append(below())
         return parts[0] if len(parts) == 1 else chained(word, parts, level)
 
-    def negation(self):
+    def negation(self) -> Part:
         return denied(self.deeper(self.negation)) if self.take("not") else self.relation()
 
-    def relation(self):
+    def relation(self) -> Part:
         left = self.sum()
         sign = self.take("==", "!=", "<", "<=", ">", ">=", "in")
         if not sign and self.is_next("not") and self.tokens[self.at + 1] == ("name", "in"):
@@ -109,28 +115,28 @@ class Reader(Tokens, Writer):
             sign = "not in"
         return self.compared(left, sign, self.sum()) if sign else left
 
-    def sum(self):
+    def sum(self) -> Part:
         return self.calculation(("+", "-"), self.joined)
 
-    def joined(self):
+    def joined(self) -> Part:
         return self.calculation(("~",), self.product)
 
-    def product(self):
+    def product(self) -> Part:
         return self.calculation(("*", "/", "//", "%"), self.operand)
 
-    def calculation(self, signs, below):
+    def calculation(self, signs: Tuple[str, ...], below: Callable[[], Part]) -> Part:
         left = below()
         while self.is_next(*signs):
             left = self.calculated(left, self.take(), below())
         return left
 
-    def operand(self):
+    def operand(self) -> Part:
         part = self.plain()
         while self.is_next("|", "is"):
             part = self.filter(part) if self.take() == "|" else self.test(part)
         return part
 
-    def plain(self):
+    def plain(self) -> Part:
         kind, word = self.next()
         if kind == "text":
             return literal_part(text_of(word), word, "text")
@@ -154,7 +160,7 @@ class Reader(Tokens, Writer):
             return literal_part(WORDS[word], word, "bool" if WORDS[word] is not None else "none")
         return self.lookup() if word in ("lookup", "query") else self.path(word)
 
-    def list(self):
+    def list(self) -> Part:
         parts = []
         while not self.take("]"):
             parts.append(self.choice())
@@ -162,14 +168,14 @@ class Reader(Tokens, Writer):
                 self.want(",")
         return Part("[" + ", ".join(part.at(OR) for part in parts) + "]")
 
-    def lookup(self):
+    def lookup(self) -> Part:
         """Of look-ups one of the environment gives a text whatever it is asked for."""
         parts = self.arguments() if self.is_next("(") else []
         if len(parts) != 2 or not parts[0].literal or parts[0].literal[0] != "env":
             raise Unfit
         return self.stand_in("text", parts[1].read())
 
-    def path(self, text):
+    def path(self, text: str) -> Part:
         is_host = text in ("hostvars", "groups")
         part = Part(text, is_path=True)
         while self.is_next(".", "["):
@@ -189,7 +195,7 @@ class Reader(Tokens, Writer):
             raise Unfit
         return part
 
-    def step(self, part, is_host):
+    def step(self, part: Part, is_host: bool) -> Part:
         kind, word = self.next()
         index = word + self.next()[1] if (kind, word) == ("sign", "-") else word
         self.want("]")
@@ -199,14 +205,14 @@ class Reader(Tokens, Writer):
             raise Unfit
         return Part(f"{part.text}[{index}]", is_path=True)
 
-    def method(self, part, word):
+    def method(self, part: Part, word: str) -> Part:
         given = self.arguments()
         kind = METHODS.get(word)
         if kind is None or word == "split" and not is_separator(given) or any(one.kind != "text" for one in given):
             raise Unfit
         return self.stand_in(kind, (*as_text(part), *all_read(given)))
 
-    def arguments(self):
+    def arguments(self) -> List[Part]:
         """The arguments of a call: parts, the named ones without their names."""
         self.want("(")
         parts = []
@@ -218,7 +224,7 @@ class Reader(Tokens, Writer):
                 self.want(",")
         return parts
 
-    def filter(self, part):
+    def filter(self, part: Part) -> Part:
         name = self.take()
         given = self.arguments() if self.is_next("(") else []
         if name in ("default", "d") and len(given) in (1, 2):
@@ -236,12 +242,15 @@ class Reader(Tokens, Writer):
             return self.stand_in("text", part.read())
         return self.known_filter(name, part, given)
 
-    def default(self, part, given):
-        if len(given) == 2 and not (given[1].literal and isinstance(given[1].literal[0], bool)):
+    def default(self, part: Part, given: List[Part]) -> Part:
+        if len(given) == 1:
+            return self.defaulted(part, given[0], False)
+        takes_falsy = given[1].literal[0] if given[1].literal else None
+        if not isinstance(takes_falsy, bool):
             raise Unfit
-        return self.defaulted(part, given[0], len(given) == 2 and given[1].literal[0])
+        return self.defaulted(part, given[0], takes_falsy)
 
-    def known_filter(self, name, part, given):
+    def known_filter(self, name: str, part: Part, given: List[Part]) -> Part:
         every = all_read([part, *given])
         if TEXT_OF_ANY.get(name) == len(given) or name == "regex_replace" and is_replacement(given):
             return self.stand_in("text", every)
@@ -256,7 +265,7 @@ class Reader(Tokens, Writer):
             return self.stand_in(one.kind, every) if one.kind == other.kind else Part(None, "", PLAIN, every)
         raise Unfit
 
-    def is_finite(self, part):
+    def is_finite(self, part: Part) -> bool:
         """Whether `int` makes a number of what a part gives: of the text `inf`, or 1e999, it doesn't."""
         if self.finite is None or part.kind in ("int", "bool"):
             return True
@@ -264,9 +273,9 @@ class Reader(Tokens, Writer):
             return not isinstance(part.literal[0], str) or is_plain(part.literal[0])
         if part.default:
             return all(map(self.is_finite, part.default))
-        return part.is_path and self.finite(part.text)
+        return part.is_path and part.text is not None and self.finite(part.text)
 
-    def test(self, part):
+    def test(self, part: Part) -> Part:
         sign = "is not" if self.take("not") else "is"
         name = self.take()
         given = self.arguments() if self.is_next("(") else []
@@ -276,11 +285,11 @@ class Reader(Tokens, Writer):
         found = self.known_test(name, part, given)
         return found if sign == "is" else denied(found)
 
-    def known_test(self, name, part, given):
+    def known_test(self, name: str, part: Part, given: List[Part]) -> Part:
         if name in ("none", "true", "false"):
             return guarded(part, f"{part.at(OPERAND)} == {name}")
         if name in SORTS and not given:
-            return guarded(part, self.stand_in("bool", part.read()).text)
+            return guarded(part, self.stand_in("bool", part.read()).at(OR))
         if name in ("match", "search", "regex") and given and is_pattern(given[0]) \
                 or name in ("version", "version_compare") and is_comparison(given):
             return self.stand_in("bool", all_read([part, *given]))

@@ -1,5 +1,7 @@
 # SPDX-License-Identifier: MIT OR Apache-2.0
 # The tokens of an expression, one behind the other.
+from __future__ import annotations
+
 import re
 from typing import List, Tuple
 

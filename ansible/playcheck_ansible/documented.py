@@ -8,6 +8,7 @@ import zlib
 from typing import Dict, List, Optional, Tuple
 
 from .ansible_core import Trust, run_ansible
+from .identifiers import VARIABLE
 from .modules import BOOL_FIELD, FAILURE, PROFILE, Choices, Signature, are_choices, names_of, record_of
 from .nodes import Record, Value
 from .problems import Problem
@@ -19,8 +20,7 @@ MOST_PARAMETERS = 64
 MOST_ITEMS = 65536
 TEXTS = ("str", "path", "sid", "bytes", "bits", "float", "json", "jsonarg")
 Document = Record
-VARIABLE = re.compile(r"[A-Za-z_][A-Za-z0-9_]{0,127}")
-NAME = re.compile(r"[a-z][a-z0-9_.]*")
+DECLARED = re.compile(r"[a-z][a-z0-9_.]*")
 LONGEST = 64
 # When the documentation promises a field in each answer that isn't failed.
 ALWAYS = re.compile(r"(always|success|on success|when successful|changed or success|success or changed)\.?", re.I)
@@ -86,7 +86,7 @@ def why_left(name: str, document: Document) -> str:
         return "it has no documentation"
     if "ansible_facts" in returned or facts.get("support") == "full":
         return "it sets facts"
-    return "" if NAME.fullmatch(declared_name(name)) else "its name can't be declared"
+    return "" if DECLARED.fullmatch(declared_name(name)) else "its name can't be declared"
 
 
 def declared_name(name: str) -> str:

@@ -7,8 +7,9 @@ import re
 from typing import TYPE_CHECKING, Iterable, List, Optional
 
 from .books import Play, Raw, Step, Task
+from .expressions import read_once
 from .hosts import divided
-from .names import expression_names, read_places
+from .names import read_places
 from .nodes import Node, Scalar, plain, texts_of
 from .wording import Hint, named, nearest, shown, where
 
@@ -70,7 +71,7 @@ def judged_by_others(task: Task, line: Line, settler: Settler) -> Optional[Hint]
     """What hangs on other hosts in the words that judge a result."""
     for key in ("changed_when", "failed_when", "until"):
         for text in texts_of(task.words.get(key)) if key in task.words else ():
-            read = [name for name in OTHERS if name in expression_names(text.value)]
+            read = [name for name in OTHERS if name in read_once(text.value).names]
             if read:
                 return Hint(text.place, f"`{key}` reads '{read[0]}'")
     return None

@@ -7,12 +7,12 @@ from dataclasses import dataclass
 from typing import TYPE_CHECKING, Iterable, List, Optional, Set, Tuple
 
 from .books import TASK_WORDS, Block, Holder, Play, Raw, Task, is_module
+from .expressions import read_once
 from .further_facts import FURTHER
 from .further_hints import (earlier_handler, entered_before, judged_by_others, other_host, second_handler, unknown_host,
                             unknown_hosts)
 from .modules import PROFILE
-from .names import (CONDITIONS, FACTS, GRAMMAR, Read, expression_names, given_names, names_of_vars, read_places,
-                    without_texts)
+from .names import CONDITIONS, FACTS, GRAMMAR, Read, given_names, names_of_vars, read_places
 from .nodes import Mapping, Node, Scalar, Text, texts_of
 from .problems import Place
 from .wording import Hint, named, nearest, shown, where
@@ -44,16 +44,10 @@ def culprit(task: Task, known: Set[str]) -> Optional[Culprit]:
 
 def culprit_in(places: List[Read], known: Set[str]) -> Optional[Culprit]:
     for expression, node in places:
-        for name in ordered_names(expression):
+        for name in [token.text for token in read_once(expression).reads]:
             if name not in known and name not in GRAMMAR and not is_guarded(name, places):
                 return Culprit(name, node.place)
     return None
-
-
-def ordered_names(expression: str) -> List[str]:
-    bare = without_texts(expression)
-    found = [match[0] for match in re.finditer(r"(?<![\w.])[A-Za-z_]\w*", bare)]
-    return [name for name in found if name in expression_names(expression)]
 
 
 def is_guarded(name: str, places: List[Read]) -> bool:
@@ -144,7 +138,7 @@ def nowhere(found: Culprit, names: Set[str], settler: Settler) -> Hint:
 def reading_hint(task: Task, line: Line, settler: Settler) -> Optional[Hint]:
     """A name that is set on some ways alone."""
     for expression, node in read_places(task.words, task.asked):
-        for name in ordered_names(expression):
+        for name in [token.text for token in read_once(expression).reads]:
             if name in PERHAPS_FACTS or name in FURTHER and name not in settler.given():
                 return Hint(node.place, f"'{name}' is a fact that is perhaps missing",
                             f"Guard: when: {name} is defined, or {name} | default('')")
@@ -159,7 +153,7 @@ def reading_hint(task: Task, line: Line, settler: Settler) -> Optional[Hint]:
 
 def missing(task: Task, line: Line, settler: Settler) -> Optional[Hint]:
     for expression, node in read_places(task.words, task.asked):
-        for path in re.findall(r"(?<![\w.])([A-Za-z_]\w*)\.([A-Za-z_]\w*)", without_texts(expression)):
+        for path in read_once(expression).fields:
             giver = settler.giver(path[0])
             if giver is not None:
                 return missing_of(path, node, giver, settler)

@@ -6,8 +6,10 @@ import re
 from dataclasses import replace
 from typing import TYPE_CHECKING, Iterable
 
+from .identifiers import NAME
 from .nodes import Mapping, Node, Scalar, Sequence, Text, is_literal, is_text
-from .values import FALSE_WORDS, TRUE_WORDS, is_whole, without_omit
+from .truths import FALSE_WORDS, TRUE_WORDS
+from .values import is_whole, without_omit
 
 if TYPE_CHECKING:
     from .literals import Values
@@ -22,7 +24,6 @@ FIRST = ("throttle",)
 # Expressions that the profile reads for values of the kind alone.
 FORCED = {"bool": "not ({0})", "int": "({0}) < 1", "text": "[[{0}] | join, ({0}) | length] | length"}
 PATH = re.compile(r"[A-Za-z_]\w*(?:\.[A-Za-z_]\w*)*")
-NAME = re.compile(r"[A-Za-z_]\w*")
 
 
 def asked_word(key: str, node: Node) -> "list[Node]":

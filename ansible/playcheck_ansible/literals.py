@@ -6,16 +6,16 @@ import re
 from typing import Callable, Dict, Iterable, Iterator, List, Match, Optional, Pattern, Protocol, Set, Tuple
 
 from .books import Book, Holder, Task
+from .expressions import read_once
 from .finite import Finite, has_plain_items
 from .inventory import Inventory, is_opaque
 from .kinds import forced
-from .names import KNOWN, MAGIC, Read, expression_names, given_names, outside_form, read_places, without_texts
+from .names import KNOWN, MAGIC, Read, given_names, read_places
 from .nodes import Atom, Scalar, Text, Value, is_literal, pairs_in, plain
 from .rewriting import Change, changed_texts, rewrite_words
 from .stand_ins import rewritten, stand_ins
+from .truths import is_true
 
-# What Ansible's filter `bool` takes as true; any other text is false.
-TRUTHS = ("yes", "on", "1", "true")
 DEFAULT = r"\s*\|\s*default\((?P<default>[^(),]*)(?P<falsy>,\s*(?:boolean\s*=\s*)?[Tt]rue\s*)?\)"
 NAME = r"(?<![\w.\])])(?<!\.\s)(?P<name>[A-Za-z_]\w*)"
 BOOL = re.compile(NAME + rf"(?:{DEFAULT})?\s*\|\s*bool\b(?:\(\s*\))?(?!\s*[|.\[(])")
@@ -61,7 +61,7 @@ class Expressions:
         if new == expression and isinstance(self.holder, Task) and "int" in expression \
                 and rewritten(expression, is_loose)[0] != expression:
             self.holder.leave("`int` of what may be the text `inf`, of which it makes no number")
-        if not is_exact or bare(expression) in self.inexact:
+        if not is_exact or self.inexact and bare(expression) in self.inexact:
             self.inexact.add(bare(new))
         return new
 
@@ -79,8 +79,8 @@ def bare(expression: str) -> str:
 def ignored(task: Task, node: Text, change: Change) -> Text:
     """A template in the place of `ignore_errors` has to be a condition of the profile."""
     condition = Scalar(change(f"({node.value}) | bool"), node.place, node.text, True)
-    what = outside_form(condition.value)
-    if what or "item" in expression_names(node.value):
+    what = read_once(condition.value).form
+    if what or "item" in read_once(node.value).names:
         task.leave(f"`ignore_errors` with {what or '`item`'}", node.place)
     return condition
 
@@ -137,6 +137,8 @@ Group = Callable[[Match[str], str], str]
 
 def plain_truths(expression: str, values: KnownValues) -> str:
     """`x | bool` is `x` where each value that `x` may have is a truth value, and a comparison where each is a text."""
+    if "bool" not in expression:
+        return expression
     return replaced(expression, BOOL, lambda found, text: truth(found, text, values))
 
 
@@ -161,17 +163,14 @@ def truth(found: Match[str], text: Group, values: KnownValues) -> Optional[str]:
     return None
 
 
-def is_true(value: Value) -> bool:
-    """What Ansible's filter `bool` makes of a value."""
-    return value if isinstance(value, bool) else str(value).lower() in TRUTHS
-
-
 def default_text(default: Optional[bool], when_true: str, when_false: str) -> str:
     return "" if default is None else f" | default({when_true if default else when_false})"
 
 
 def plain_defaults(expression: str, values: KnownValues) -> str:
     """`default(x, true)` is `default(x)` where no value that stands before it may be empty or false."""
+    if "default" not in expression:
+        return expression
     return replaced(expression, FALSY, lambda found, text: unconditional(found, text, values))
 
 
@@ -187,7 +186,7 @@ def replaced(expression: str, pattern: Pattern[str], change: Callable[[Match[str
     if "|" not in expression:
         return expression
     parts, at = [], 0
-    for found in pattern.finditer(without_texts(expression, "'")):
+    for found in pattern.finditer(read_once(expression).filled("'")):
         new = change(found, lambda match, group: expression[match.start(group):match.end(group)].strip())
         if new is not None:
             parts += [expression[at:found.start()], new]

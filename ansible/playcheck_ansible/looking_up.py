@@ -7,13 +7,14 @@ from typing import Callable, Iterable, Iterator, List
 
 from .ansible_core import TRUST, Trust, own_text
 from .books import Block, Book, Holder, Play, Step, Task, is_module
+from .identifiers import NAME
 from .modules import INCLUDES, PREFIXES, UNKNOWN, Modules, ansible_name, short_name
 from .nodes import Mapping, is_text, texts_of
 from .problems import Problem
 
 SECONDS = 60
 # What is no name of a module isn't asked: it might be taken for an option.
-NAME = re.compile(r"[A-Za-z_][A-Za-z0-9_]*(\.[A-Za-z_][A-Za-z0-9_]*)*")
+MODULE = re.compile(rf"{NAME.pattern}(\.{NAME.pattern})*")
 MOST_COLLECTIONS = 16
 NOT_INSTALLED = "ansible-doc isn't installed"
 FAILED = "ansible-doc failed"
@@ -64,7 +65,7 @@ def named_modules(task: Task) -> Iterator[str]:
 
 def looked_up(names: Iterable[str], modules: Modules, told: Callable[[object], None], trust: Trust) -> Modules:
     """The modules with those of these names that Ansible's documentation has; what fails is told."""
-    wanted = sorted({name for name in names if NAME.fullmatch(name) and not modules.has(name)
+    wanted = sorted({name for name in names if MODULE.fullmatch(name) and not modules.has(name)
                      and name not in modules.written})
     if not wanted:
         return modules

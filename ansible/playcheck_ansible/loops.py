@@ -5,9 +5,10 @@ from __future__ import annotations
 import re
 from typing import TYPE_CHECKING, List, Optional
 
+from .expressions import read_once
+from .identifiers import VARIABLE
 from .kinds import asked_word, wrong_word
-from .names import (GRAMMAR, KNOWN, MAGIC, expression_names, expressions_of, given_names, mentioned, names_of_vars,
-                    read_places, text_spans, without_texts)
+from .names import GRAMMAR, KNOWN, MAGIC, expressions_of, given_names, mentioned, names_of_vars, read_places
 from .nodes import Mapping, Node, Sequence, has_template, is_nothing, is_text, items_or_one, made, pairs_in, texts_of
 from .rewriting import Change, changed_texts, rewrite_words
 from .values import is_whole
@@ -15,8 +16,6 @@ from .values import is_whole
 if TYPE_CHECKING:
     from .books import Task
     from .modules import Modules
-
-VARIABLE = re.compile(r"[A-Za-z_][A-Za-z0-9_]{0,127}")
 
 
 def dict_loops(task: Task, modules: Modules) -> None:
@@ -62,7 +61,7 @@ def loop_variable_bar(task: Task, named: Node, lists: List[str]) -> str:
     both = {name, "item"}
     of_list = [expression for key in lists for expression, _ in expressions_of(task.words.get(key), False)]
     others = given_names(task) | names_of_vars(task.words) | task.outer_names
-    if both & set().union(others, *map(expression_names, of_list)):
+    if both & set().union(others, *(read_once(expression).names for expression in of_list)):
         return f"'{name}' or 'item' is used elsewhere too"
     inside = Mapping({key: part for key, part in task.words.pairs.items() if key not in lists}, task.place)
     if "item" in mentioned(inside, task.asked):
@@ -78,21 +77,17 @@ def loop_variable_bar(task: Task, named: Node, lists: List[str]) -> str:
 
 def is_hidden(name: str, expression: str) -> bool:
     """Whether an expression may name a variable otherwise than by a plain read of it."""
-    quoted = " ".join(expression[start:end] for start, end in text_spans(expression))
-    by_text = "vars" in expression or "lookup" in expression or "query" in expression
-    return by_text and name in quoted or re.search(rf"\b{name}\s*=(?!=)", without_texts(expression)) is not None
+    one = read_once(expression)
+    by_text = any(word in expression for word in ("vars", "lookup", "query"))
+    return by_text and any(name in token.text for token in one.texts) or name in one.keywords
 
 
 def renaming(name: str) -> Change:
     """A change of expressions: each read of the name becomes one of `item`."""
-    read = re.compile(rf"(?<![A-Za-z0-9_.])(?<!\.\s){name}(?![A-Za-z0-9_])")
 
     def change(expression: str) -> str:
-        parts, at = [], 0
-        for found in read.finditer(without_texts(expression)):
-            parts += [expression[at:found.start()], "item"]
-            at = found.end()
-        return "".join([*parts, expression[at:]])
+        one = read_once(expression)
+        return one.replaced([(token, "item") for token in one.reads if token.text == name])
 
     return change
 

@@ -6,7 +6,8 @@ from dataclasses import dataclass
 from typing import TYPE_CHECKING, Dict, Iterator, List
 
 from .nodes import Atom, Mapping, Node, Scalar, has_template, is_nothing, is_text, items_or_one, plain
-from .values import FALSE_WORDS, TRUE_WORDS, as_int, as_list
+from .truths import FALSE_WORDS, TRUE_WORDS
+from .values import as_int, as_list
 from .wording import nearest
 
 if TYPE_CHECKING:

@@ -6,7 +6,8 @@ import re
 from typing import Iterable
 
 from .books import Block, Book, Play, Raw, Task, steps_below
-from .names import read_places, without_texts
+from .expressions import read_once
+from .names import read_places
 from .nodes import Mapping, Node, Scalar, is_text, pairs_in
 
 # Actions call no module: none of their items is unreachable.
@@ -84,7 +85,7 @@ def read_in(words: Mapping, asked: Iterable[Node], loops: "dict[str, Task]") -> 
     """The first of these names whose items an expression may read."""
     for expression, _ in read_places(words, asked):
         by_text = "hostvars" in expression or "vars" in expression
-        for found in ITEMS_READ.finditer(expression if by_text else without_texts(expression)):
+        for found in ITEMS_READ.finditer(expression if by_text else read_once(expression).bare):
             if found["name"] in loops and (by_text or not found["dot"]):
                 return found["name"]
     return ""

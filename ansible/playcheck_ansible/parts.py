@@ -6,16 +6,13 @@ import re
 from dataclasses import dataclass, replace
 from typing import Iterable, List, Optional, Tuple, Union
 
+from .expression_parser import Unfit
+from .truths import TRUE_FOR_FILTER, is_true
+
 # How tightly the profile binds: what stands in a looser part is put into parentheses.
 OR, AND, NOT, RELATION, OPERAND, PLAIN = range(6)
-# What Ansible's filter `bool` takes as true of texts, in all ways of writing them.
-TRUE_WORDS = ("yes", "on", "1", "true")
 
 Literal = Union[None, bool, int, float, str]
-
-
-class Unfit(Exception):
-    """The expression has something that is left as it is written."""
 
 
 @dataclass(frozen=True)
@@ -75,11 +72,7 @@ def written_ways(words: Iterable[str]) -> List[str]:
     return found
 
 
-TRUE_TEXTS = "[" + ", ".join(f"'{word}'" for word in written_ways(TRUE_WORDS)) + "]"
-
-
-def is_true(value: Literal) -> bool:
-    return value if isinstance(value, bool) else str(value).lower() in TRUE_WORDS
+TRUE_TEXTS = "[" + ", ".join(f"'{word}'" for word in written_ways(TRUE_FOR_FILTER)) + "]"
 
 
 def is_pattern(part: Part) -> bool:

@@ -8,6 +8,7 @@ from typing import TYPE_CHECKING, Iterable, List, Match, Optional, Set
 from .books import SECTIONS, Block, Book, Play, Raw, Task, steps_below
 from .flow_words import FLOW, PASSED
 from .gathering import gathered_by_tasks, gathered_facts
+from .identifiers import VARIABLE
 from .inclusion import leave_early_notifiers
 from .kinds import FIRST, asked_word, wrong_word
 from .names import mentioned, names_of_vars
@@ -21,7 +22,6 @@ from .values import as_bool, as_int
 if TYPE_CHECKING:
     from .modules import Modules
 
-VARIABLE = re.compile(r"[A-Za-z_][A-Za-z0-9_]{0,127}")
 PLAY_PASSED = (*PASSED, "gather_subset", "gather_timeout", "fact_path", "order", "module_defaults")
 PLAY_FLOW = tuple(word for word in FLOW if word != "module_defaults")
 LOOKED_UP = re.compile(r"\{\{\s*([A-Za-z_]\w*)\s*(?:\|\s*default\(\s*(?:'([^']*)'|\"([^\"]*)\")\s*(?:,\s*[Tt]rue\s*)?\)"

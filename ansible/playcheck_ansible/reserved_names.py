@@ -6,6 +6,7 @@ import re
 from typing import TYPE_CHECKING, Dict, Iterable, Iterator, Set
 
 from .books import Block, Book, Play, Task, steps_below
+from .identifiers import NAME
 from .mistakes import Mistake
 from .names import KNOWN, given_names, names_of_vars
 from .nodes import Mapping, has_template, is_text
@@ -27,7 +28,6 @@ inventory_hostname_short""".split())
 # Python's keywords, which Ansible takes for no variable.
 KEYWORDS = frozenset("""False None True and as assert async await break class continue def del elif else except finally
 for from global if import in is lambda nonlocal not or pass raise return try while with yield""".split())
-NAME = re.compile(r"[A-Za-z_][A-Za-z0-9_]*")
 
 
 def lose_reserved(book: Book, inventory: Inventory, extra: Iterable[str]) -> None:

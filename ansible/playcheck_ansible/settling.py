@@ -6,11 +6,12 @@ import re
 from typing import TYPE_CHECKING, Callable, List, Optional, Set, Tuple
 
 from .books import Block, Book, Play, Task
+from .expressions import read_once
 from .inclusion import topics_of
 from .lines import Line, Printer
 from .mistakes import Mistake
 from .modules import CHANGES_FLOW, PROFILE, SETS_UNSEEN, Modules
-from .names import names_of_vars, read_places, without_texts
+from .names import names_of_vars, read_places
 from .nodes import Mapping, Node, Sequence, has_template, made, pairs_in, texts_of
 from .problems import Place
 from .unjudged import CUT, Marker, leave_handlers
@@ -199,7 +200,7 @@ class Settler(Marker):
     def undocumented_field(self, task: Task) -> str:
         """Whether a task reads a field that its module's documentation gives no kind."""
         for expression, _ in read_places(task.words, task.asked):
-            for name, field in re.findall(r"(?<![\w.])([A-Za-z_]\w*)\.([A-Za-z_]\w*)", without_texts(expression)):
+            for name, field in read_once(expression).fields:
                 giver = self.giver(name)
                 known = self.modules.documented.get(giver.module() or "") if giver is not None else None
                 if known is not None and field not in known.fields | RESULT_FIELDS:

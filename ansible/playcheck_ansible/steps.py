@@ -8,8 +8,9 @@ from dataclasses import dataclass, field, replace
 from typing import Dict, Iterable, List, Optional, Set, Tuple
 
 from .books import PARTS, Block, Play, Raw, Step, Task, items_of, steps_below
+from .expressions import read_once
 from .modules import INCLUDES, short_name
-from .names import expression_names, given_names, mentioned
+from .names import given_names, mentioned
 from .nodes import Mapping, Node, Scalar, has_template, is_text, pairs_in, texts_of
 from .positions import read_file
 from .precedence import Given, Source
@@ -268,13 +269,13 @@ def is_asked_once(words: Mapping, steps: List[Step]) -> bool:
     node = words.get("when")
     texts = texts_of(node) if node is not None else []
     tests = [text.value for text in texts if re.search(r"\b(un)?defined\b", text.value)]
-    tested = set().union(*map(expression_names, tests))
+    tested: Set[str] = set().union(*(read_once(text).names for text in tests))
     return bool(texts) and not any(tested & mentioned(step.words) for step in steps_below(steps)
                                    if isinstance(step, (Block, Task)))
 
 
 def mentions_any(node: Optional[Node], names: Set[str]) -> bool:
-    return node is not None and any(expression_names(text.value) & names for text in texts_of(node))
+    return node is not None and any(read_once(text.value).names & names for text in texts_of(node))
 
 
 def tasks_below(steps: Iterable[Step]) -> List[Task]:

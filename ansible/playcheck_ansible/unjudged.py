@@ -5,10 +5,11 @@ from __future__ import annotations
 from typing import TYPE_CHECKING, Dict, List, Optional, Set
 
 from .books import Block, Book, Note, Play, Task, is_module, steps_below
+from .expressions import read_once
 from .further_facts import FURTHER
 from .magic import outside_names
 from .modules import SETS_UNSEEN, Modules
-from .names import FACTS, KNOWN, given_names, mentioned, names_of_vars, outside_form, outside_node, read_places
+from .names import FACTS, KNOWN, given_names, mentioned, names_of_vars, outside_node, read_places
 from .nodes import Mapping, is_text, pairs_in
 from .scope import Scope
 
@@ -174,7 +175,7 @@ def leave_outside(task: Task) -> None:
     if task.reason:
         return
     for expression, text in read_places(task.words, task.asked):
-        what = outside_form(expression)
+        what = read_once(expression).form
         if what:
             task.leave(f"{what}, which the profile lacks", text.place)
             return

@@ -8,12 +8,11 @@ import re
 from typing import TYPE_CHECKING, Dict, List, Optional
 
 from .nodes import Mapping, Node, Scalar, Sequence, Text, has_template, is_literal, is_text, made, plain
+from .truths import FALSE_WORDS, TRUE_WORDS
 
 if TYPE_CHECKING:
     from typing_extensions import TypeGuard
 
-TRUE_WORDS = ("yes", "on", "1", "true", "t", "y")
-FALSE_WORDS = ("no", "off", "0", "false", "f", "n")
 WHOLE = re.compile(r"\s*\{\{(?:(?!\}\}).)*\}\}\s*", re.S)
 OMITTED = re.compile(r"(\|\s*default\()\s*omit\s*(?:,\s*[Tt]rue\s*)?\)(\s*\}\})")
 # What stands for a parameter that `default(omit)` leaves out.

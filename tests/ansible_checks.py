@@ -1,5 +1,5 @@
 # SPDX-License-Identifier: MIT OR Apache-2.0
-# Tries playcheck-ansible on the books of tests/ansible and on hostile YAML: python3 tests/ansible_checks.py PROGRAM.
+# Tries playcheck-ansible on books and hostile YAML: python3 tests/ansible_checks.py PROGRAM [--quick].
 import json
 import os
 import re
@@ -9,18 +9,20 @@ from pathlib import Path
 
 from ansible_expressions import wrong_expressions
 from ansible_formats import wrong_colours, wrong_gitlab, wrong_junit, wrong_sarif, wrong_strict
-from ansible_lookups import wrong_long_names, wrong_lookups, wrong_time_limit
+from ansible_lookups import wrong_long_names, wrong_lookups, wrong_time_limit, wrong_undocumented
 from ansible_pipelines import wrong_action, wrong_completion, wrong_gitlab_job, wrong_hook, wrong_zsh
 from ansible_rewritings import wrong_rewritings
 from ansible_rows import wrong_rows
-from ansible_tools import SECONDS, TOOL, TOP, WAITED, run_tool
+from ansible_tools import SECONDS, TOOL, TOP, WAITED, fork_commands, is_forked, run_tool
 from ansible_words import wrong_words
-from check import Check, outcome_of
+from check import Check, Outcome, outcome_of
 
 CASES = TOP / "tests" / "ansible"
 CONVERTED = ("converted", "converted_stand_ins")
 LEAST_COMMANDS = 143
 MEGABYTES = 700
+SMALL = 20_000  # bytes
+NO_RUN = ": this book is for check, and not for run\n"
 INVENTORY = '{"all": {"hosts": ["h1"]}}'
 
 
@@ -97,10 +99,24 @@ def hostile_files():
     return {**files, "f30.yml": "- debug:\n", "book.yml": book, "hosts.json": INVENTORY}
 
 
+def hostile_outcome(name, data):
+    words = ["check", "book.yml", "-i", "hosts.json"]
+    files = data if isinstance(data, dict) else {"book.yml": data, "hosts.json": INVENTORY}
+    if not is_forked():
+        return outcome_of(TOOL, Check(name, words, None, {name: bytes_of(text) for name, text in files.items()}), WAITED)
+    with tempfile.TemporaryDirectory() as folder:
+        for file, text in files.items():
+            Path(folder, file).write_bytes(bytes_of(text))
+        done = run_tool(words, folder)
+    return Outcome(done.returncode, done.stdout.encode(), done.stderr.encode())
+
+
+def bytes_of(text):
+    return text.encode() if isinstance(text, str) else text
+
+
 def wrong_hostile(name, data, wanted, status):
-    files = {"book.yml": data.encode() if isinstance(data, str) else data, "hosts.json": INVENTORY}
-    files = data if isinstance(data, dict) else files
-    outcome = outcome_of(TOOL, Check(name, ["check", "book.yml", "-i", "hosts.json"], None, files), WAITED)
+    outcome = hostile_outcome(name, data)
     told = outcome.stderr.decode(errors="replace")
     is_named = told.startswith("playcheck-ansible: ") and wanted in told and told.count("\n") == 1
     if is_named and outcome.status == status and outcome.megabytes < MEGABYTES and outcome.seconds < SECONDS:
@@ -151,18 +167,19 @@ def wrong_conversion():
         words = ["convert", "book.yml", "-i", "../inventory.yml", "-o", made]
         done = run_tool(words, folder)
         found = {path.stem: json.loads(path.read_text(encoding="utf-8")) for path in Path(made).glob("*.json")}
-    if done.returncode or done.stderr or found != wanted:
+    told = "playcheck-ansible: 1 task is another one (book.yml:4:7) than in a run of Ansible" + NO_RUN
+    if done.returncode or done.stderr != told or found != wanted:
         yield f"convert: {done.stderr}, status {done.returncode}, wanted {wanted}, found {found}"
 
 
 def wrong_warnings():
     """`convert` says of how many expressions the values are others, and its map marks the lines that have them."""
     folder = CASES / "converted_stand_ins"
-    end = ": this book is for check, and not for run\n"
-    several = f"2 expressions stand for operations that the profile lacks (book.yml:12:16 first){end}"
-    one = f"1 expression stands for an operation that the profile lacks (one.yml:7:13){end}"
+    several = f"2 expressions stand for operations that the profile lacks (book.yml:12:16 first){NO_RUN}"
+    one = f"1 expression stands for an operation that the profile lacks (one.yml:7:13){NO_RUN}"
+    other = f"playcheck-ansible: 1 task is another one (one.yml:5:7) than in a run of Ansible{NO_RUN}"
     marked = [("Ask", 0), ("Exact", 0), ("Two", 2)]
-    for book, told, lines in [("book.yml", several, marked), ("one.yml", one, [("", 0), ("", 1), ("", 1)])]:
+    for book, told, lines in [("book.yml", several, marked), ("one.yml", one + other, [("", 0), ("", 1), ("", 1)])]:
         with tempfile.TemporaryDirectory() as made:
             done = run_tool(["convert", book, "-i", "../inventory.yml", "-o", made], folder)
             lines_of = json.loads(Path(made, "lines.json").read_text(encoding="utf-8"))
@@ -221,7 +238,12 @@ def lost_passes():
     passes = (leave_out, put_variables, further_facts, magic_variables, leave_readers_of_items, leave_readers_of_null,
               leave_early_notifiers, gathered_by_tasks,
               *TASK_PASSES, *PLAY_PASSES, *EXPRESSION_PASSES)
-    return [f"docs/FROM_ANSIBLE.md doesn't name {one.__name__}" for one in passes if f"`{one.__name__}`" not in page]
+    held = page.partition("### What holds it\n")[2].partition("\n## ")[0]
+    lost = [f"docs/FROM_ANSIBLE.md doesn't name {one.__name__}" for one in passes if f"`{one.__name__}`" not in page]
+    lost += [f"docs/FROM_ANSIBLE.md doesn't say what holds {one.__name__}" for one in passes
+             if not re.search(rf"^\|.*`{one.__name__}`.*\|.*\|.*\|$", held, re.M)]
+    return lost + [f"docs/FROM_ANSIBLE.md names {name}, which isn't there" for name in re.findall(r"`([a-z]+_[a-z_]+)`", held)
+                   if name.startswith(("pass_", "promise_", "unjudged_", "mistake_")) and not (CASES / name).is_dir()]
 
 
 def lost_files():
@@ -234,8 +256,26 @@ def lost_files():
 SEARCHES = (lost_transcripts, lost_titles, lost_files, lost_passes, lost_hook, wrong_long_texts, wrong_many_forms,
     wrong_conversion,
             wrong_warnings, wrong_signatures, wrong_gitlab, wrong_junit, wrong_strict, wrong_sarif, wrong_colours,
-            wrong_lookups, wrong_long_names, wrong_time_limit, wrong_expressions, wrong_rewritings, wrong_rows, wrong_words,
+            wrong_lookups, wrong_undocumented, wrong_long_names, wrong_time_limit, wrong_expressions,
+            wrong_rewritings, wrong_rows, wrong_words,
             wrong_completion, wrong_zsh, wrong_action, wrong_gitlab_job, wrong_hook)
+# Those about terminals and large files, or other programs than the front end.
+SLOW = (lost_hook, wrong_long_texts, wrong_many_forms, wrong_colours, wrong_completion, wrong_zsh, wrong_action,
+        wrong_gitlab_job, wrong_hook)
+
+
+def results(is_quick):
+    """What is wrong by each search, transcript and hostile book; the quick ones alone need no process of their own."""
+    quick = [search for search in SEARCHES if search not in SLOW]
+    for search in quick:
+        yield "\n".join(search())
+    for one in transcripts():
+        yield wrong_transcript(*one)
+    for search in () if is_quick else SLOW:
+        yield "\n".join(search())
+    for one in hostile():
+        if not is_quick or len(one[1]) < SMALL:
+            yield wrong_hostile(*one)
 
 
 def main():
@@ -246,14 +286,15 @@ def main():
         print("0 passed, 0 failed")
         return 0
     os.environ["PLAYCHECK"] = str(Path(sys.argv[1]).resolve())
-    results = ["\n".join(search()) for search in SEARCHES]
-    results += [wrong_transcript(*one) for one in transcripts()]
-    results += [wrong_hostile(*one) for one in hostile()]
-    for wrong in results:
+    is_quick = "--quick" in sys.argv[2:]
+    if is_quick:
+        fork_commands()
+    passed = failed = 0
+    for wrong in results(is_quick):
         if wrong:
-            print(f"FAILED: {wrong}")
-    failed = sum(bool(wrong) for wrong in results)
-    print(f"{len(results) - failed} passed, {failed} failed")
+            print(f"FAILED: {wrong}", flush=True)
+        failed, passed = failed + bool(wrong), passed + (not wrong)
+    print(f"{passed} passed, {failed} failed")
     return 1 if failed else 0
 
 

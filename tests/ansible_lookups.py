@@ -30,6 +30,7 @@ FAILS_ON_ONE = KNOWS_ONE.replace("#!/bin/sh\n", """#!/bin/sh
 case $* in *other.sort.thing*) echo "$@" >> "${0%/*}/../calls"
 echo "ERROR! module other.sort.thing missing documentation (or could not parse documentation): none" >&2; exit 1 ;; esac
 """)
+UNDOCUMENTED = 4
 CHECK = ["check", "one.yml", "broken.yml", "two.yml", "-i", "hosts.json", "-s", "own.json"]
 BROKEN = "playcheck-ansible: broken.yml:2:1: this is no YAML: did not find expected node content"
 NEITHER = "is neither built in nor declared"
@@ -78,10 +79,27 @@ def wrong_lookups():
             yield f"{name}: lost {lost}, told {found[1]}, calls {found[2]}, printed {found[0]}"
 
 
+def wrong_undocumented():
+    """ansible-doc is called again without each of some modules that have no documentation."""
+    names = [f"other.sort.thing{number}" for number in range(UNDOCUMENTED)]
+    lacks = "".join(f"case $* in *{name}*) echo 'ERROR! module {name} missing documentation' >&2; exit 1 ;; esac\n"
+                    for name in names)
+    book = BOOKS["one.yml"] + "".join(f"    - {name}: {{}}\n" for name in names)
+    with tempfile.TemporaryDirectory() as folder:
+        Path(folder, "bin").mkdir()
+        Path(folder, "bin", "ansible-doc").write_text(KNOWS_ONE.replace("#!/bin/sh\n", f"#!/bin/sh\n{lacks}"))
+        Path(folder, "bin", "ansible-doc").chmod(0o755)
+        Path(folder, "hosts.json").write_text(BOOKS["hosts.json"])
+        Path(folder, "one.yml").write_text(book)
+        done = run_tool(["check", "one.yml", "-i", "hosts.json"], folder, Path(folder, "bin"))
+    if CHOICE not in done.stdout.splitlines() or done.stderr:
+        yield f"{UNDOCUMENTED} modules without documentation: {done}"
+
+
 def wrong_long_names():
     """Modules with longer names than the format has are judged all the same, each by its own documentation."""
     names = [f"some.sort.{'long_' * 12}{end}" for end in ("one", "two")]
-    options = {"state": {"choices": ["absent", "present"]}}
+    options = {"state": {"choices": ["absent", "<any>"]}}
     documents = {names[0]: {"doc": {"options": options}}, names[1]: {"doc": {"options": {"level": {"type": "int"}}}}}
     book = "- hosts: all\n  gather_facts: false\n  tasks:\n"
     with tempfile.TemporaryDirectory() as folder:

@@ -78,6 +78,7 @@ STOOD_IN = [
     ("x | int == -1", "([x] | length) == -1"),
     ("x | join | lower", "([[x | join] | length] | join)"),
     ("x is failure", "x is failed"),
+    ("x | lower | default('a', true)", "([[x] | length] | join)"),
     ("x | regex_replace('(a)', '\\\\1')", "([[x] | length] | join)"),
     ("x is version('1')", "([x] | length == 1)"),
 ]
@@ -88,7 +89,7 @@ KEPT_FORMS = [
     "x | bool | gone", "x | ", "f(x)", "x | from_json", "x < y < z", "groups['a'][0]", "hostvars[item].x",
     "x is sameas(y)", "first(1)", "x.split(',') | first(1)", "x is gone('a')", "x | replace('a' 'b')", "x | bool(1)",
     "x[0] | string", "x | regex_replace('a', '\\\\1')", "x | regex_replace('a', y)", "x.split('')[0]", "x.split(y)[0]",
-    "x is version('1', 'foo')", "x is version('1', y)", "(" * 200 + "x | bool" + ")" * 200, "not " * 200 + "x | bool",
+    "x | lower | default(5, true)", "x is version('1', 'foo')", "x is version('1', y)", "(" * 200 + "x | bool" + ")" * 200, "not " * 200 + "x | bool",
 ]
 # Where only what is read counts.
 LOOSE = [

@@ -50,6 +50,7 @@ def said(row: Row) -> List[str]:
     return [*lines, *(f"! {line}" for line in done.stderr.splitlines())]
 
 
+HANDLER_OF_ROLE = {"roles/r/tasks/main.yml": "- ping:\n", "roles/r/handlers/main.yml": "- {name: RH, ping: }\n"}
 NOT_JUDGED = "not judged: task '{}': {}"
 UNSET = ("V01 task '{}', host h1: a variable that is perhaps undefined: '{}' is set nowhere: not in this book, not in "
          "the inventory")
@@ -183,6 +184,70 @@ ROWS = [
           ("documentation and no fields", ("--trust-returns",), {"ansible": {}}),
           ("documentation and a list of fields", ("--trust-returns",), {"ansible": {}, "ok": ["changed"]}),
           ("a field that isn't said to be there", (), {"ansible": {"name": "git"}, "ok": {"changed": {"kind": "bool"}}}))),
+    Row("sections without a value, serial as a text, the strategy debug", "  tasks:\n  - ping:\n  post_tasks:\n  vars:\n",
+        ["accepted, 1 of 1 tasks judged, at most 2 module calls"], (), "  serial: '1'\n  strategy: debug\n"),
+    Row("a message that is a number", tasks("{name: Five, debug: 5}"),
+        [left(4, "Five", "a value that hasn't the form which the profile wants"), "accepted, 0 of 1 tasks judged"]),
+    Row("a role that isn't there may give what is read before it",
+        "  pre_tasks:\n  - {name: Read, debug: {msg: '{{ v }}'}}\n  roles: [a]\n",
+        [left(4, "Read", "it reads 'v', which may come from what isn't judged"),
+         "roles/a/meta/main.yml:1: not judged: a role isn't put in place", "accepted, 1 of 3 tasks judged"], (), "",
+        {"roles/a/tasks/main.yml": "- ping:\n", "roles/a/meta/main.yml": "dependencies: [gone]\n"}),
+    Row("a collection that only lies beside the book", "  roles: [one.two.three]\n",
+        ["3: not judged: a role isn't put in place", "accepted, 0 of 1 tasks judged"],
+        files={"ansible_collections/one/two/roles/three/tasks/main.yml": "- ping:\n"}),
+    Row("a role from another file of tasks", tasks("{include_role: {name: r, tasks_from: other}}"),
+        ["accepted, 1 of 1 tasks judged, at most 2 module calls"],
+        files={"roles/r/tasks/main.yml": "- command: x\n- command: x\n", "roles/r/tasks/other.yml": "- ping:\n"}),
+    Row("a block's vars hold what an unjudged task gives",
+        tasks("{name: First, apt: {name: a}, register: r}",
+              "{vars: {v: '{{ r.x }}'}, block: [{name: Inner, ping: , when: v == 'a'}]}"),
+        [left(4, "First", UNKNOWN.format("apt")), left(5, "Inner", "it reads 'v': its value " + reads("r", 4)[3:]),
+         "accepted, 0 of 2 tasks judged"]),
+    Row("a block's vars have a form that the profile lacks",
+        tasks("{vars: {v: '{{ [1] | max }}'}, block: [{name: Inner, ping: , when: v == 1}]}"),
+        [left(4, "Inner", "it reads 'v': its value on line 4 has the filter `max`, which the profile lacks"),
+         "accepted, 0 of 1 tasks judged"]),
+    Row("the place of a module without arguments", "  tasks:\n  - name: Bare\n    stat:\n",
+        ["5: V07 task 'Bare': an unknown or missing parameter", "refused, 1 finding, 1 of 1 tasks judged"]),
+    Row("ignore_errors that is a mapping", tasks("{name: Odd, ping: , ignore_errors: {a: b}}"),
+        [left(4, "Odd", "a value that hasn't the form which the profile wants"), "accepted, 0 of 1 tasks judged"]),
+    Row("variables of another group", tasks("{name: Number, ping: , when: y > 3}"),
+        ["accepted, 1 of 1 tasks judged, at most 2 module calls"], (), "",
+        {"hosts.yml": "web: {hosts: {h1: {y: 4}}}\nzdb: {hosts: {h2: }, vars: {y: 5}}\n", "group_vars/web.yml": "y: five\n"}),
+    Row("a play that is a number", tasks("ping:") + "- 5\n", ["5: P02 play: no list of plays, or a play without `hosts`",
+        "refused, 1 finding, 1 of 1 tasks judged"]),
+    Row("a third handler notifies the second", tasks("{command: x, notify: c}") + "  handlers:\n  - {name: a, ping: }\n"
+        "  - {name: b, ping: }\n  - {name: c, command: x, notify: b}\n",
+        ["8: V12 handler 'c': a handler that notifies itself or an earlier one: what 'b' notifies stands before it "
+         "(line 7)", "refused, 1 finding, 4 of 4 tasks judged"]),
+    Row("a handler notifies that of a role before its include",
+        tasks("{name: Call, command: x, notify: H}", "{include_role: {name: r}}") +
+        "  handlers:\n  - {name: H, command: x, notify: RH}\n",
+        ["7: not judged: handler 'H': it may notify 'RH' before the role that has it is included",
+         "accepted, 3 of 4 tasks judged"], files=HANDLER_OF_ROLE),
+    Row("a handler of a role has the condition round its import",
+        tasks("{command: x, notify: RH}", "{meta: flush_handlers}", "{command: x, register: res}",
+              "{when: res.rc == 0, block: [{import_role: {name: r}}]}"),
+        ["7: V01 handler 'RH', host h1: a variable that is perhaps undefined: 'res' is set by 'command' (line 6), which "
+         "some way to here passes by", "refused, 1 finding, 5 of 5 tasks judged"],
+        files=HANDLER_OF_ROLE),
+    Row("a word round a role's import changes its handlers",
+        tasks("{command: x, notify: RH}", "{import_role: {name: r}, become_user: '{{ inventory_hostname }}'}"),
+        ["5: not judged: handler 'RH': `become_user` round its role changes it", "accepted, 2 of 3 tasks judged"],
+        files=HANDLER_OF_ROLE),
+    *(Row(f"a word of another form: {word}", tasks(f"{{name: Odd, ping: , {word}}}"),
+          [left(4, "Odd", f"`{word.partition(':')[0]}` is {what}"), "accepted, 0 of 1 tasks judged"])
+      for word, what in (("run_once: [a]", "no truth value"), ("run_once: soon", "no truth value"),
+                         ("debugger: foo", "none of Ansible's choices"), ("tags: ", "no list of texts"),
+                         ("tags: [{a: b}]", "no list of texts"), ("tags: 5", "no list of texts"),
+                         ("collections: 5", "no list of texts"), ("become_user: [a]", "no text"),
+                         ("delegate_to: [a]", "no text"), ("connection: {a: b}", "no text"))),
+    *(Row(f"a word of a play of another form: {word}", tasks("{name: Odd, ping: }"),
+          ["5: not judged: task 'Odd': " + what, "accepted, 0 of 1 tasks judged"], (), f"  {word}\n")
+      for word, what in (("any_errors_fatal: soon", "`any_errors_fatal` is no truth value"),
+                         ("max_fail_percentage: x", "`max_fail_percentage` is no number"),
+                         ("order: foo", "`order` is none of Ansible's choices"), ("tags: {a: b}", "`tags` is no list of texts"))),
     *(Row(f"an include with `{word}`", tasks(f"{{name: Inc, include_tasks: one.yml, {word}: {value}}}"),
           [left(4, "Inc", f"`include_tasks` with `{word}` isn't put in place"), "accepted, 0 of 1 tasks judged"], (),
           files={"one.yml": "- ping:\n"})

@@ -6,7 +6,9 @@ import subprocess
 import sys
 import tempfile
 from pathlib import Path
-from typing import Sequence
+from typing import Dict, Sequence, Set
+
+from ansible_forks import read_modules, run_forked
 
 TOP = Path(__file__).resolve().parent.parent
 TOOL = TOP / "playcheck-ansible"
@@ -14,6 +16,17 @@ SECONDS = 30
 WAITED = 300  # in seconds, for what may take SECONDS of the processor's time: a machine may have more to do
 NEEDED = ("bash", "cat", "dirname", "env", "find", "readlink", "sh", "sleep")
 FOLDER = tempfile.TemporaryDirectory(prefix="playcheck-tools-")
+FORKED: Set[int] = set()  # of this process; see fork_commands
+
+
+def fork_commands() -> None:
+    """From now on each command is run in a fork of this process."""
+    read_modules()
+    FORKED.add(os.getpid())
+
+
+def is_forked() -> bool:
+    return bool(FORKED)
 
 
 def make_tools() -> str:
@@ -29,8 +42,10 @@ def make_tools() -> str:
 
 
 def run_tool(words: Sequence[str], folder: "str | Path",
-             program_folder: "str | Path | None" = None) -> "subprocess.CompletedProcess[str]":
-    """Runs the front end in a folder; in a further one stand programs in the place of those of ansible-core."""
+             program_folder: "str | Path | None" = None, given: Dict[str, str] = {}) -> "subprocess.CompletedProcess[str]":
+    """Runs the front end in a folder, with variables that are given; a further one has programs of ansible-core."""
     path = os.pathsep.join(str(one) for one in (program_folder, make_tools()) if one)
+    if is_forked():
+        return run_forked(words, folder, {"PATH": path, **given})
     return subprocess.run([TOOL, *words], cwd=folder, capture_output=True, text=True, check=False, timeout=WAITED,
-                          stdin=subprocess.DEVNULL, env={**os.environ, "PATH": path})
+                          stdin=subprocess.DEVNULL, env={**os.environ, "PATH": path, **given})

@@ -8,6 +8,7 @@ import tempfile
 from pathlib import Path
 from typing import Any, Dict, Iterator, List, Tuple
 
+from ansible_tools import fork_commands
 from peer.runs import Ansible, interpreter
 
 Json = Dict[str, Any]
@@ -56,6 +57,7 @@ def main() -> int:
     options.add_argument("--books", type=int, default=BOOKS, help="how many of each part")
     options.add_argument("--part", choices=PARTS, action="append")
     given = options.parse_args()
+    fork_commands()
     python = interpreter()
     if not python:
         print("skipped: ansible-playbook isn't here")

@@ -37,11 +37,16 @@ class Part:
 
 SCRIPTS = ("tests/script_checks.py", PROGRAM)
 PROVE = ("tests/prove_checks.py",)
+STRANGERS = "tests/stranger_checks.py"
+FRONT_END = "tests/ansible_checks.py"
 LAUNCHER = ("tests/launcher_checks.py", PROGRAM)
 PARTS: Dict[str, Part] = {
     "launcher": Part(("playcheck", "launch.sh"), (LAUNCHER,), 90),
     "sources": Part(("sources.sh",), (SCRIPTS, PROVE, LAUNCHER), 90),
     "gate": Part(("test", "prove", "release", ".ci/run", "tests/counts.sh"), (SCRIPTS, PROVE), 90),
+    "front_end": Part(("ansible/playcheck_ansible/*.py",),
+                      ((FRONT_END, PROGRAM, "--quick"), (STRANGERS, PROGRAM, "--quick"), (FRONT_END, PROGRAM),
+                       (STRANGERS, PROGRAM)), 95),
     "modules": Part(("examples/local/modules/*", "examples/ssh/modules/*"), (("tests/local_checks.py", PROGRAM),), 90),
 }
 

@@ -6,7 +6,7 @@ import tempfile
 from pathlib import Path
 from typing import Dict, Iterator, List, Tuple
 
-from ansible_tools import TOOL, WAITED
+from ansible_tools import run_tool
 from stranger_ways import HOSTS
 
 FAULTY = '- hosts: {0}\n  gather_facts: false\n  tasks:\n    - command: "rm -rf /srv/{{{{ nope }}}}"\n'
@@ -63,9 +63,7 @@ def checked(files: Dict[str, str], *words: str) -> "subprocess.CompletedProcess[
             path.parent.mkdir(exist_ok=True)
             path.write_text(text, encoding="utf-8")
             path.chmod(0o755 if path.name == "x" else 0o644)
-        return subprocess.run([TOOL, "check", "site.yml", *words], cwd=folder, capture_output=True, text=True,
-                              check=False, timeout=WAITED, stdin=subprocess.DEVNULL,
-                              env={**os.environ, "HOME": folder})
+        return run_tool(["check", "site.yml", *words], folder, given={"HOME": folder, "PATH": os.environ["PATH"]})
 
 
 def wrong_table(table: Dict[str, Tuple[Dict[str, str], str, int]], *options: str) -> Iterator[str]:

@@ -158,6 +158,7 @@ class Book:
     plays: List[Union[Play, Raw]]
     node: Optional[Node] = None  # the book itself, where it is no list
     left_out: List[Task] = field(default_factory=list)  # tasks that a run passes by, by their tags
+    includes: List[Block] = field(default_factory=list)  # the blocks that stand for includes
 
     def read_plays(self) -> List[Play]:
         """Its plays, without what isn't one."""

@@ -157,12 +157,12 @@ def explain(words: argparse.Namespace) -> int:
 
 
 def convert(words: argparse.Namespace) -> int:
-    from .converting import warning_of, write_converted  # read where it is wanted, as in the other commands
+    from .converting import warnings_of, write_converted  # read where it is wanted, as in the other commands
 
     options = options_of(words)
     settler, inventory = settled(words.book, options, *with_lookup([words.book], options, words))
     write_converted(words.output, settler, inventory)
-    if warning := warning_of(settler.numbered.lines):
+    for warning in warnings_of(settler):
         told(warning)
     return 0
 

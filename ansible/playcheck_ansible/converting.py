@@ -5,15 +5,19 @@ from __future__ import annotations
 import contextlib
 import json
 import os
-from typing import TYPE_CHECKING, Dict, Iterable, Optional, Tuple
+from typing import TYPE_CHECKING, Dict, Iterable, Iterator, List, Optional, Tuple
 
+from .books import Block, Raw, Task
+from .nodes import Node, Scalar, Text
 from .problems import Place, Problem
 
 if TYPE_CHECKING:
     from .inventory import Inventory
     from .lines import Line
-    from .nodes import Text
     from .settling import Settler
+
+# Words that change what a run does, and that a book is judged without; a `meta` that does nothing becomes a message.
+UNPRINTED = ("run_once", "any_errors_fatal", "max_fail_percentage", "check_mode", "async", "vars_prompt", "meta")
 
 
 def write_converted(folder: str, settler: Settler, inventory: Inventory) -> None:
@@ -61,12 +65,39 @@ def place_of(text: Text) -> Place:
     return text.place
 
 
-def warning_of(lines: Iterable[Optional[Line]]) -> str:
-    """What is said of a book in which expressions have other values; of any other book nothing."""
-    found = by_text(lines)
-    if not found:
-        return ""
-    count, (first, _) = sum(found.values()), next(iter(found))
-    told = (f"1 expression stands for an operation that the profile lacks ({first})" if count == 1 else
-            f"{count} expressions stand for operations that the profile lacks ({first} first)")
-    return f"{told}: this book is for check, and not for run"
+def warnings_of(settler: Settler) -> Iterator[str]:
+    """What is said of a book of which a run does something else than Ansible; of any other book nothing."""
+    values, tasks = by_text(settler.numbered.lines), others(settler)
+    end = ": this book is for check, and not for run"
+    if values:
+        count, (first, _) = sum(values.values()), next(iter(values))
+        told = (f"1 expression stands for an operation that the profile lacks ({first})" if count == 1 else
+                f"{count} expressions stand for operations that the profile lacks ({first} first)")
+        yield f"{told}{end}"
+    if tasks:
+        one, several = f"1 task is another one ({tasks[0]})", f"{len(tasks)} tasks are others ({tasks[0]} first)"
+        yield f"{one if len(tasks) == 1 else several} than in a run of Ansible{end}"
+
+
+def others(settler: Settler) -> List[Place]:
+    """The places of the tasks that a run doesn't count or doesn't run as Ansible does, each once."""
+    lines = [line for line in settler.numbered.lines if line is not None and is_other(line)]
+    return sorted({line.place for line in lines} | {block.place for block in settler.book.includes})
+
+
+def is_other(line: Line) -> bool:
+    """Whether another task stands beside what a line stands for, or in its place, or a word that changes its run isn't printed."""
+    if line.kind in ("asked", "condition"):
+        return True
+    source = line.source
+    if isinstance(source, Raw):
+        return False
+    lost = [key for key, node in source.written.pairs.items()
+            if key in UNPRINTED and key not in source.words and not is_off(node)]
+    if isinstance(source, Block):
+        return bool(lost)
+    return bool(lost or source.reason or source.facts) or isinstance(source, Task) and source.has_no_bound
+
+
+def is_off(node: Node) -> bool:
+    return isinstance(node, Scalar) and node.value in (False, None)

@@ -4,6 +4,7 @@ from __future__ import annotations
 
 from typing import TYPE_CHECKING
 
+from .kinds import asked_word, wrong_word
 from .nodes import Mapping, Node, Pairs, Scalar, has_template, made, texts_of
 
 if TYPE_CHECKING:
@@ -21,7 +22,8 @@ def gathered_facts(play: Play, extra: Pairs) -> None:
     subset = play.words.get("gather_subset")
     if not isinstance(node, Scalar) or not isinstance(node.value, bool):
         play.words.put("gather_facts", made(True, node.place))
-        play.asked.append(node)
+        play.asked += asked_word("gather_facts", node)
+        play.reason = play.reason or wrong_word("gather_facts", node)
         leave_facts(play, "`gather_facts` is a template")
     elif subset is not None and leaves_facts_out(subset):
         leave_facts(play, "`gather_subset` leaves facts out that are else always there")

@@ -4,10 +4,10 @@ from __future__ import annotations
 
 import re
 from dataclasses import replace
-from typing import TYPE_CHECKING, Iterable
+from typing import TYPE_CHECKING, Dict, Iterable, Tuple
 
 from .identifiers import NAME
-from .nodes import Mapping, Node, Scalar, Sequence, Text, is_literal, is_text
+from .nodes import Mapping, Node, Scalar, Sequence, Text, is_literal, is_nothing, is_text
 from .truths import FALSE_WORDS, TRUE_WORDS
 from .values import is_whole, without_omit
 
@@ -15,10 +15,18 @@ if TYPE_CHECKING:
     from .literals import Values
 
 KINDS = {
-    **dict.fromkeys(("become", "diff", "no_log", "check_mode", "ignore_errors"), "bool"),
-    **dict.fromkeys(("timeout", "port", "delay", "retries", "async", "poll", "throttle", "verbosity", "pause"), "int"),
+    **dict.fromkeys(("become", "diff", "no_log", "check_mode", "ignore_errors", "run_once", "any_errors_fatal",
+                     "gather_facts"), "bool"),
+    **dict.fromkeys(("timeout", "port", "delay", "retries", "async", "poll", "throttle", "verbosity", "pause",
+                     "max_fail_percentage"), "int"),
     "delegate_to": "text", "success_msg": "text",
 }
+# Words that take neither a list nor a mapping, those that take one text or a list, and the texts that a word may be.
+TEXTS = ("become_exe", "become_flags", "become_method", "become_user", "connection", "debugger", "delegate_to",
+         "remote_user")
+LISTS: Dict[str, Tuple[type, ...]] = {"collections": (str,), "tags": (str, int)}
+CHOICES = {"debugger": ("always", "never", "on_failed", "on_skipped", "on_unreachable", ""),
+           "order": ("inventory", "sorted", "reverse_sorted", "reverse_inventory", "shuffle")}
 # Asked before the condition of their task, and not for each item.
 FIRST = ("throttle",)
 # Expressions that the profile reads for values of the kind alone.
@@ -43,6 +51,12 @@ def asked_word(key: str, node: Node) -> "list[Node]":
 
 def wrong_word(key: str, node: Node) -> str:
     """Why the value of a word can't be judged: a literal of another kind, or a template within a text."""
+    if key in TEXTS and not isinstance(node, Scalar):
+        return f"`{key}` is no text"
+    if key in LISTS and not is_list_of_texts(node, key):
+        return f"`{key}` is no list of texts"
+    if key in CHOICES and is_text(node) and is_literal(node) and node.value not in CHOICES[key]:
+        return f"`{key}` is none of Ansible's choices"
     kind = KINDS.get(key)
     if not kind or is_whole(node) or isinstance(node, Scalar) and node.value is None:
         return ""
@@ -52,6 +66,12 @@ def wrong_word(key: str, node: Node) -> str:
     if not is_literal(node):
         return f"`{key}` is a text with a template, and perhaps no {what}"
     return "" if is_of_kind(getattr(node, "value", node), kind) else f"`{key}` is no {what}"
+
+
+def is_list_of_texts(node: Node, key: str) -> bool:
+    if isinstance(node, Sequence):
+        return all(isinstance(item, Scalar) and isinstance(item.value, LISTS[key]) for item in node.items)
+    return is_text(node) or key == "collections" and is_nothing(node)
 
 
 def is_of_kind(value: object, kind: str) -> bool:

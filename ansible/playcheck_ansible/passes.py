@@ -53,7 +53,7 @@ def plain_keywords(task: Task, modules: Modules) -> None:
         node = words.get(key)
         if isinstance(node, Scalar) and isinstance(node.value, (int, float)):
             words.put(key, made(node.text, node.place))
-    for key in ("when", "vars", "notify", "loop", "changed_when", "failed_when", "name", "tags", "args"):
+    for key in ("when", "vars", "notify", "loop", "changed_when", "failed_when", "name", "args"):
         if key in words and is_nothing(words.get(key)):
             words.take(key)
 

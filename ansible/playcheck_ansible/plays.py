@@ -167,8 +167,9 @@ def play_words(play: Play, extra: Pairs) -> None:
     flow = {word: play.words.take(word) for word in PLAY_FLOW}
     bars = [word for word, node in flow.items() if is_on(node, word, play)]
     play.asked += [node for node in flow.values() if node is not None]
-    if bars:
-        play.reason = play.reason or f"`{bars[0]}` of the play changes the flow"
+    wrong = [wrong_word(word, node) for word, node in flow.items() if node is not None and wrong_word(word, node)]
+    if bars or wrong:
+        play.reason = play.reason or (f"`{bars[0]}` of the play changes the flow" if bars else wrong[0])
     for word in PLAY_PASSED:
         node = play.words.take(word)
         if word == "module_defaults" and node is not None and not is_nothing(node):

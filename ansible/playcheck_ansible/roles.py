@@ -5,10 +5,12 @@ from __future__ import annotations
 import os
 import re
 from dataclasses import dataclass, field
-from typing import TYPE_CHECKING, List, Optional
+from typing import TYPE_CHECKING, List, Optional, Tuple
 
 from .books import Play, Task, items_of
-from .nodes import Mapping, Node, Pairs, Sequence, has_template, is_nothing, is_text, items_or_one, made
+from .flow_words import FLOW, PASSED
+from .nodes import (Mapping, Node, Pairs, Scalar, Sequence, has_template, is_literal, is_nothing, is_text, items_or_one,
+                    made)
 from .positions import read_file
 from .problems import Place, Problem
 
@@ -40,6 +42,7 @@ class Role:
     needed: List[Role] = field(default_factory=list)  # those that were put in place
     beside: Pairs = field(default_factory=dict)  # the `vars` beside its name
     parameters: Pairs = field(default_factory=dict)  # what else stands there and is no keyword
+    around: Tuple[Mapping, ...] = ()  # the words of what stands round it, its own last
 
 
 def role_of(node: Node, context: Context, is_include: bool = False) -> Optional[Role]:
@@ -142,6 +145,19 @@ def block_words(role: Role, place: Place) -> Mapping:
                     if key in ROLE_WORDS and key not in ("vars", "role", "name")}, place)
 
 
+def inherit(handler: Task, words: Mapping) -> None:
+    """What a handler of a role has from words round the role: conditions before its own, and `ignore_errors`."""
+    for word, node in words.pairs.items():
+        own = handler.words.get(word)
+        is_off = isinstance(node, Scalar) and node.value in (False, None)
+        if word == "when":
+            handler.words.put(word, Sequence([*items_or_one(node), *items_or_one(own)], node.place))
+        elif word == "ignore_errors" and own is None:
+            handler.words.put(word, node)
+        elif word in (*FLOW, "notify") and not is_off or word in PASSED and not is_literal(node):
+            handler.leave(f"`{word}` round its role changes it", node.place)
+
+
 def put_handlers(play: Play, role: Role, handlers: List[Task]) -> None:
     """Adds a role's handlers to its play, each with its longer name as a topic."""
     there = {handler.name: handler for handler in play.sections.get("handlers", [])
@@ -151,6 +167,8 @@ def put_handlers(play: Play, role: Role, handlers: List[Task]) -> None:
         if other is not None:
             if handler.place != other.place:
                 other.leave(f"two handlers have the name '{handler.name}'")
+            elif handler.words.get("when") != other.words.get("when"):
+                other.leave("its role stands under several conditions")
             other.comes_with = other.comes_with and handler.comes_with
             continue
         handler.folder = role.folder

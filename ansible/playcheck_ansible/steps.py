@@ -16,7 +16,7 @@ from .positions import read_file
 from .precedence import Given, Source
 from .problems import Place, Problem
 from .role_variables import all_defaults, exported, given_to_play, given_to_tasks
-from .roles import Role, block_words, put_handlers, role_of
+from .roles import Role, block_words, inherit, put_handlers, role_of
 
 MOST_INCLUDES = 32
 MOST_FILES = 1000
@@ -46,6 +46,7 @@ class Context:
     play: str
     count: Count
     role_folder: str = ""
+    around: Tuple[Mapping, ...] = ()  # the words of blocks, imports and roles round it
     is_handlers: bool = False
     is_late: bool = False  # in what is read while the play runs: an include
     open: Tuple[str, ...] = ()
@@ -86,7 +87,9 @@ def role_block(role: Role, place: Place, context: Context, is_seen_by_all: bool)
     """A role as a block: the roles that it needs, then its tasks, under what stands beside its name."""
     context.count.add(place)
     inside = replace(context, file=role.tasks_file or context.file, open=(*context.open, role.tasks_file),
-                     is_handlers=False, role_folder=role.folder, is_late=not is_seen_by_all)
+                     is_handlers=False, role_folder=role.folder, is_late=not is_seen_by_all,
+                     around=(*context.around, role.words))
+    role.around = inside.around
     steps: List[Step] = []
     for node in role.needs:
         needed = role_of(node, inside) if len(inside.open) < MOST_INCLUDES else None
@@ -109,6 +112,8 @@ def put_role_parts(play: Play, context: Context) -> None:
         handlers = [step for step in steps_of(role.handlers, inside) if isinstance(step, Task)]
         for handler in handlers:
             handler.comes_with = "" if is_seen else role.folder
+            for words in reversed(role.around):
+                inherit(handler, words)
         put_handlers(play, role, handlers)
     for role in [*context.listed, *context.imported]:
         play.given += given_to_play(role)
@@ -116,6 +121,7 @@ def put_role_parts(play: Play, context: Context) -> None:
 
 def included_role(task: Task, kind: str, key: str, context: Context) -> List[Step]:
     """A role that a task includes, as a block."""
+    context = replace(context, around=(*context.around, task.words)) if kind == "import_role" else context
     node = task.words.get(key)
     role = role_of(node, context, True) if isinstance(node, Mapping) and not context.is_handlers else None
     if role is None or role.tasks_file in context.open or len(context.open) >= MOST_INCLUDES:
@@ -188,7 +194,7 @@ def block_of(node: Mapping, context: Context) -> Block:
         nodes = items_of(node.get(part))
         if nodes is not None and part in node:
             words.take(part)
-            parts[part] = steps_of(nodes, context)
+            parts[part] = steps_of(nodes, replace(context, around=(*context.around, words)))
     return Block(words, node.place, parts)
 
 
@@ -227,7 +233,8 @@ def put_in_place(task: Task, kind: str, key: str, path: str, context: Context) -
     if nodes is None:
         raise Problem(Place(path), "a list of tasks is wanted")
     is_late = context.is_late or kind == "include_tasks"
-    inside = replace(context, file=path, open=(*context.open, path), is_late=is_late)
+    around = (*context.around, task.words) if kind == "import_tasks" else context.around
+    inside = replace(context, file=path, open=(*context.open, path), is_late=is_late, around=around)
     steps = steps_of(nodes, inside)
     words = task.words.copy()
     words.take(key)

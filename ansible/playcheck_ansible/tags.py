@@ -16,6 +16,7 @@ class Chosen:
     def __init__(self, only: Iterable[str] = (), skip: Iterable[str] = ()) -> None:
         self.only, self.skip = set(only) or {"all"}, set(skip)
         self.left_out: List[Task] = []
+        self.includes: List[Block] = []  # those that are put in place: a run of Ansible counts each as a task
 
     def takes(self, tags: FrozenSet[str]) -> bool:
         """Whether a task with these tags is run: Ansible's own rules, in their order."""
@@ -57,6 +58,7 @@ class Chosen:
         for part in PARTS:
             if part in block.parts:
                 block.parts[part] = self.kept(block.parts[part], outer if block.is_include else tags)
+        self.includes += [block] * block.is_include
         if block.is_include and not block.asked and not set(block.words.pairs) - {"name", "tags"}:
             return block.parts["block"]
         return [block] if any(block.parts.values()) else []
@@ -74,7 +76,7 @@ def leave_out(book: Book, only: Iterable[str] = (), skip: Iterable[str] = ()) ->
                 play.sections[section] = chosen.kept(play.sections[section], tags)
         if not chosen.takes(frozenset(["always"])):
             play.words.put("gather_facts", made(False, play.place))
-    book.left_out = chosen.left_out
+    book.left_out, book.includes = chosen.left_out, chosen.includes
 
 
 def tags_of(words: Mapping) -> FrozenSet[str]:

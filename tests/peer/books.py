@@ -40,7 +40,7 @@ def inventory(source: random.Random) -> "Tuple[Json, Dict[str, Tuple[str, bool]]
 def play(source: random.Random, maker: TaskMaker) -> Json:
     made: Json = {"name": "P", "hosts": source.choice(["all", "all", "web"]), "gather_facts": False}
     for word, values, share in WORDS:
-        if source.random() < share:
+        if source.random() < share and not (maker.scope.is_exact and word == "any_errors_fatal"):
             made[word] = source.choice(values)
     maker.handlers = ["H1", "H2"][:source.choice([0, 1, 2])]
     if source.random() < 0.3:
@@ -55,9 +55,10 @@ def play(source: random.Random, maker: TaskMaker) -> Json:
 
 
 def book(seed: int, known: "Dict[str, Tuple[str, bool]]") -> Json:
-    """The files of a book, by name."""
+    """The files of a book, by name; each second one is such that its recap can be compared."""
     source = random.Random(seed)
-    scope = Scope(source, source.choice([0.02, 0.08, 0.25]), dict(known))
+    is_exact = seed % 2 == 1
+    scope = Scope(source, 0.02 if is_exact else source.choice([0.02, 0.08, 0.25]), dict(known), is_exact=is_exact)
     maker = TaskMaker(source, scope)
     plays = [play(source, maker)]
     if source.random() < 0.25:

@@ -7,8 +7,9 @@ from pathlib import Path
 from typing import Any, Callable, Dict, Iterator, List, Optional
 
 from .answers import answers
-from .front_end import Verdict, check
+from .front_end import Verdict, check, converted
 from .precedence import write
+from .recaps import other_counts
 from .runs import Ansible, Run
 
 Json = Dict[str, Any]
@@ -31,13 +32,22 @@ def broken_promise(verdict: Verdict, run: Run) -> str:
     return ""
 
 
-def judged_book(ansible: Ansible, folder: Path, verdict: Verdict, hosts: List[str],
-                seed: int) -> "Optional[tuple[str, Json]]":
-    """The first promise that a run breaks, with the answers of that run."""
+def trouble(ansible: Ansible, folder: Path, verdict: Verdict, given: Json, is_compared: bool) -> str:
+    """What a run with these answers shows of an accepted book that it shouldn't; its recap too, where that is compared."""
+    run = ansible.run(folder, given)
+    broken = broken_promise(verdict, run)
+    return broken or other_counts(folder, run, given) if is_compared else broken
+
+
+def judged_book(ansible: Ansible, folder: Path, verdict: Verdict, hosts: List[str], seed: int,
+                counts: "Dict[str, int]") -> "Optional[tuple[str, Json]]":
+    """The first promise that a run breaks, or recap that differs, with the answers of that run."""
     source = random.Random(seed)
+    is_compared = verdict.is_whole and not converted(folder)
+    counts["of them with recaps"] = counts.get("of them with recaps", 0) + is_compared
     for number in range(RUNS if verdict.is_whole else 2):
         given = answers(source, hosts, number)
-        broken = broken_promise(verdict, ansible.run(folder, given))
+        broken = trouble(ansible, folder, verdict, given, is_compared)
         if broken:
             return broken, given
     return None
@@ -56,7 +66,9 @@ def wrong_books(ansible: Ansible, folder: Path, seeds: "range", made: "Callable[
         verdicts = check([f"b{number}/book.yml" for number in range(len(books))], folder)
         for number, verdict in enumerate(verdicts):
             counts[verdict.report["verdict"]] = counts.get(verdict.report["verdict"], 0) + 1
-            found = judged_book(ansible, folder / f"b{number}", verdict, hosts, seed) if verdict.is_accepted else None
+            found = None
+            if verdict.is_accepted:
+                found = judged_book(ansible, folder / f"b{number}", verdict, hosts, seed, counts)
             if found:
                 small = smallest(ansible, folder, books[number], found[1], found[0])
                 yield f"seed {seed}, book {number}: {found[0]}\n{small}"

@@ -6,12 +6,13 @@ import json
 import os
 import re
 import subprocess
-import sys
 from dataclasses import dataclass
 from pathlib import Path
 from typing import Any, Dict, List, Sequence, Set
 
-TOP = Path(__file__).resolve().parent.parent.parent
+from ansible_tools import run_tool
+
+Json = Dict[str, Any]
 COUNT = re.compile(r"(\S+) : (.*)")
 
 
@@ -38,29 +39,26 @@ class Verdict:
         return {one["name"] for one in self.report["not_judged"]}
 
 
-def tool(words: Sequence[str], folder: Path) -> "subprocess.CompletedProcess[str]":
-    """Runs the front end in a folder, with the program that PLAYCHECK names and no program of Ansible."""
-    environment = {**os.environ, "PYTHONPATH": str(TOP / "ansible"), "PYTHONDONTWRITEBYTECODE": "1"}
-    command = [sys.executable, "-m", "playcheck_ansible", *words]
-    return subprocess.run(command, cwd=folder, capture_output=True, text=True, check=False, env=environment,
-                          stdin=subprocess.DEVNULL)
-
-
 def check(books: List[str], folder: Path, inventory: str = "hosts.yml", words: Sequence[str] = ()) -> List[Verdict]:
     """The verdicts on several books of one inventory; what can't be read is an error of the test."""
-    done = tool(["check", "--no-lookup", "--format", "json", *words, *books, "-i", inventory], folder)
+    done = run_tool(["check", "--no-lookup", "--format", "json", *words, *books, "-i", inventory], folder)
     if done.stderr:
         raise RuntimeError(f"{folder}: {done.stderr}")
     return [Verdict(report) for report in json.loads(done.stdout)["books"]]
 
 
-def run_converted(folder: Path, inventory: str = "../hosts.yml") -> "Dict[str, Dict[str, int]]":
-    """The recap of a run of the converted book without calls of modules; empty where it can't be run."""
-    done = tool(["convert", "--no-lookup", "book.yml", "-i", inventory, "-o", "converted"], folder)
-    made = folder / "converted"
+def converted(folder: Path, inventory: str = "../hosts.yml") -> str:
+    """Converts a book into a folder below its own; answers what is said of it."""
+    done = run_tool(["convert", "--no-lookup", "book.yml", "-i", inventory, "-o", "converted"], folder)
     if done.returncode:
         raise RuntimeError(f"{folder}: {done.stderr}")
-    (made / "answers.json").write_text("{}", encoding="utf-8")
+    return done.stderr
+
+
+def run_converted(folder: Path, answers: Json) -> "Dict[str, Dict[str, int]]":
+    """The recap of a run of the converted book with these answers of its hosts; empty where it can't be run."""
+    made = folder / "converted"
+    (made / "answers.json").write_text(json.dumps(answers), encoding="utf-8")
     words = [os.environ["PLAYCHECK"], "run", "book.json", "-i", "inventory.json", "-s", "signatures.json", "--answers",
              "answers.json", "-f", "1"]
     said = subprocess.run(words, cwd=made, capture_output=True, text=True, check=False).stdout

@@ -9,7 +9,7 @@ from typing import Dict, Iterator
 import yaml
 
 from .runs import Ansible
-from .front_end import check, run_converted
+from .front_end import check, converted, run_converted
 from .projects import HOSTS, Project
 
 
@@ -44,7 +44,8 @@ def wrong_values(ansible: Ansible, folder: Path, seed: int) -> Iterator[str]:
         if not verdict.is_accepted:
             yield f"project {seed}: refused: {verdict.report['findings'][:1]}"
             continue
-        recap = run_converted(folder / "b").get(host)
+        converted(folder / "b")
+        recap = run_converted(folder / "b", {}).get(host)
         skipped = verdict.unjudged()
         if verdict.is_whole and (recap is None or recap["ignored"] or recap["failed"]):
             yield f"project {seed}, {host}: a value is another one than {told[host]}: {recap}"

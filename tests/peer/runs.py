@@ -14,6 +14,7 @@ from typing import Any, Dict, List, Sequence
 IN_ANSIBLE = Path(__file__).resolve().parent.parent / "in_ansible"
 MODULES = ("command", "shell", "stat", "copy", "file", "service", "ping", "setup", "gather_facts")
 Json = Dict[str, Any]
+NAMES = {"failures": "failed"}  # in a recap as it is printed
 # Messages of failures that a script or a book wrote itself.
 WRITTEN = ("SCRIPTED", "WRITTEN", "Assertion failed", "One or more items failed", "Failed as requested")
 
@@ -25,13 +26,18 @@ class Run:
     status: int
     output: str
     events: List[Json] = field(default_factory=list)
-    calls: int = 0
+    called: "Dict[str, List[str]]" = field(default_factory=dict)  # the modules that each host called
 
     @property
-    def recap(self) -> Json:
+    def recap(self) -> "Dict[str, Dict[str, int]]":
+        """The counts of each host that had an event, by the words that Ansible prints."""
         last = self.events[-1] if self.events else {}
-        found: Json = last["hosts"] if last.get("kind") == "recap" else {}
-        return found
+        hosts: "Dict[str, Dict[str, int]]" = last["hosts"] if last.get("kind") == "recap" else {}
+        return {host: {NAMES.get(word, word): count for word, count in counts.items()} for host, counts in hosts.items()}
+
+    @property
+    def calls(self) -> int:
+        return sum(map(len, self.called.values()))
 
     def unwritten(self) -> List[str]:
         """The failures that no script wrote: task, host and message."""
@@ -98,5 +104,5 @@ class Ansible:
         status = json.loads(self.process.stdout.readline())["status"]
         path = folder / "events.jsonl"
         events = [json.loads(line) for line in path.read_text(encoding="utf-8").splitlines()] if path.exists() else []
-        calls = sum(one.stat().st_size for one in folder.glob("calls.*"))
-        return Run(status, (folder / "output.txt").read_text(encoding="utf-8", errors="replace"), events, calls)
+        called = {one.suffix[1:]: one.read_text(encoding="utf-8").split() for one in folder.glob("calls.*")}
+        return Run(status, (folder / "output.txt").read_text(encoding="utf-8", errors="replace"), events, called)

@@ -6,7 +6,7 @@ import random
 from dataclasses import dataclass, field
 from typing import Dict, Iterator, List, Optional, Tuple
 
-from .vocabulary import DEFAULTS, FIELDS, TESTS, VALUES
+from .vocabulary import DEFAULTS, FIELDS, LOOSE, TESTS, VALUES
 
 
 @dataclass(frozen=True)
@@ -35,6 +35,7 @@ class Scope:
     variables: Dict[str, Tuple[str, bool]] = field(default_factory=dict)
     registers: Dict[str, Register] = field(default_factory=dict)
     item: List[Tuple[str, str]] = field(default_factory=list)
+    is_exact: bool = False  # of forms that a converted book has as they are: its recap is that of Ansible
     is_late: bool = False  # in a handler or behind a rescue: what was set may be missing
 
     def chance(self, share: float) -> bool:
@@ -73,20 +74,26 @@ class Scope:
             return Read(f"({found.text} | default({DEFAULTS[found.kind]}))", found.kind)
         return Read(found.text, found.kind, "" if self.is_risky() else found.guard)
 
+    def has(self, form: str) -> bool:
+        return not (self.is_exact and form in LOOSE)
+
+    def form(self, forms: List[str]) -> str:
+        return self.source.choice([one for one in forms if self.has(one)])
+
     def condition(self, *kinds: str) -> str:
         found = self.guarded(*(kinds or tuple(TESTS)))
-        text = self.source.choice(TESTS[found.kind]).replace("{}", found.text)
+        text = self.form(TESTS[found.kind]).replace("{}", found.text)
         text = f"{found.guard} and {text}" if found.guard else text
         if self.chance(0.2):
             other = self.guarded("bool", "int")
-            second = self.source.choice(TESTS[other.kind]).replace("{}", other.text)
+            second = self.form(TESTS[other.kind]).replace("{}", other.text)
             second = f"{other.guard} and {second}" if other.guard else second
             text = f"({text}) {self.source.choice(['and', 'or'])} ({second})"
         return text
 
     def value(self) -> Read:
         found = self.guarded(*VALUES)
-        form, kind = self.source.choice(VALUES[found.kind])
+        form, kind = self.source.choice([one for one in VALUES[found.kind] if self.has(one[0])])
         return Read(form.replace("{}", found.text), kind, found.guard)
 
     def template(self) -> Read:

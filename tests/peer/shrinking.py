@@ -9,7 +9,7 @@ from typing import Any, Dict, Iterator
 
 import yaml
 
-from .front_end import check
+from .front_end import check, converted
 from .precedence import write
 from .runs import Ansible
 
@@ -48,7 +48,7 @@ def sort_of(told: str) -> str:
 
 def is_broken(ansible: Ansible, folder: Path, files: Json, answers: Json, sort: str) -> bool:
     """Whether it is accepted, and a run breaks its promise in the same way."""
-    from .flow import broken_promise
+    from .flow import trouble
 
     place = folder / "small"
     write(place, files)
@@ -56,7 +56,9 @@ def is_broken(ansible: Ansible, folder: Path, files: Json, answers: Json, sort: 
         verdict, = check(["small/book.yml"], folder)
     except (RuntimeError, ValueError):
         return False
-    broken = broken_promise(verdict, ansible.run(place, answers)) if verdict.is_accepted else ""
+    if not verdict.is_accepted:
+        return False
+    broken = trouble(ansible, place, verdict, answers, verdict.is_whole and not converted(place))
     return bool(broken) and sort_of(broken) == sort
 
 

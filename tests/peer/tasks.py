@@ -62,7 +62,8 @@ class TaskMaker:
         word, kinds = self.source.choice([("become", ("bool",)), ("throttle", ("int",)), ("timeout", ("int",)),
                                           ("delegate_to", ("text",)), ("no_log", ("bool",)), ("diff", ("bool",))])
         found = self.scope.guarded(*(kinds if not self.scope.is_risky() else ()))
-        task[word] = f"{{{{ {found.text} }}}}" if self.chance(0.5) and not found.guard else PLAIN_WORDS[word]
+        is_read = self.chance(0.5) and not found.guard and not self.scope.is_exact
+        task[word] = f"{{{{ {found.text} }}}}" if is_read else PLAIN_WORDS[word]
 
     def arguments(self, module: str, text: str) -> Any:
         form = copy.deepcopy(ARGUMENTS[module])
@@ -89,7 +90,7 @@ class TaskMaker:
             made = Register(module, may_skip, ignored, is_loop)
             made = made if is_loop else self.judged(task, register, made)
             self.scope.registers[register] = made
-        if self.chance(0.06):
+        if self.chance(0.06) and not self.scope.is_exact:
             task["run_once"] = True
         if self.chance(0.25) and self.handlers + self.role_handlers:
             task["notify"] = self.source.choice(self.handlers + self.role_handlers)
@@ -97,7 +98,8 @@ class TaskMaker:
 
     def judged(self, task: Json, register: str, made: Register) -> Register:
         """Puts conditions about a task's own result."""
-        own = Scope(self.source, self.scope.risk, {}, {register: Register(made.module, False, True, False)})
+        own = Scope(self.source, self.scope.risk, {}, {register: Register(made.module, False, True, False)},
+                    is_exact=self.scope.is_exact)
         if self.chance(0.15):
             task["changed_when"] = own.condition()
         if self.chance(0.15):
@@ -166,11 +168,11 @@ class TaskMaker:
 
     def include(self, depth: int) -> Json:
         name = f"tasks{self.number()}.yml"
-        word = self.source.choice(["include_tasks", "import_tasks"])
+        word = "import_tasks" if self.scope.is_exact else self.source.choice(["include_tasks", "import_tasks"])
         task: Json = {"name": self.name(), word: name}
         if self.chance(0.3):
             task["when"] = self.scope.condition()
-        if self.chance(0.1):
+        if self.chance(0.1) and not self.scope.is_exact:
             task["run_once"] = True
         self.files[name] = self.inner(self.source.choice([1, 2]), 2, "when" not in task and "run_once" not in task)
         return task
@@ -178,7 +180,7 @@ class TaskMaker:
     def role(self, depth: int) -> Json:
         name = f"role{self.number()}"
         handler = f"Handler of {name}"
-        word = self.source.choice(["include_role", "import_role"])
+        word = "import_role" if self.scope.is_exact else self.source.choice(["include_role", "import_role"])
         task: Json = {"name": self.name(), word: {"name": name}}
         if self.chance(0.3):
             task["when"] = self.scope.condition()

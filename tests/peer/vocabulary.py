@@ -53,6 +53,11 @@ VALUES: Dict[str, List[Tuple[str, str]]] = {
     "bool": [("{}", "bool"), ("{} | ternary('a', 'b')", "text"), ("'p' if {} else 'q'", "text")],
     "result": [("{} is succeeded", "bool"), ("{}.changed", "bool")],
 }
+# Those for which other expressions stand in a converted book, that compute other values.
+LOOSE = {"({} + 1) > 2", "{} | lower == 'a'", "{}.startswith('a')", "{} is match('a')", "{} is search('b')", "{} | int > 3",
+         "{}.split(',')[0] == 'a'", "{} | default('', true) == 'a'", "{} | regex_replace('a', 'b') == 'b'", "{} is string",
+         "{} + 1", "{} | string", "10 - {}", "{} // 2", "{} | upper", "{} ~ 'x'", "{} | trim", "{} | replace('a', 'b')",
+         "{} | quote", "{} | default('z', true)", "{} | int", "{} | ternary('a', 'b')", "'p' if {} else 'q'"}
 # Arguments of modules; `{}` stands for a text with templates.
 ARGUMENTS: Dict[str, object] = {
     "command": "{}", "shell": "{}", "ping": None, "stat": {"path": "{}"}, "copy": {"dest": "/d", "content": "{}"},

@@ -23,11 +23,12 @@ VALUES = ("port", "mode", "enabled", "answer", "seconds", "flags", "conf", "conf
           "only | default(omit)", "r.stdout_lines", "ansible_host", "ansible_connection", "inventory_hostname", "item")
 # Keywords of tasks as Ansible's documentation lists them, but for those whose value the scripted modules can't take.
 WORDS = ("any_errors_fatal", "become", "become_exe", "become_flags", "become_method", "become_user", "changed_when",
-         "check_mode", "delay", "delegate_facts", "delegate_to", "diff", "environment", "failed_when", "ignore_errors",
+         "check_mode", "collections", "debugger", "delay", "delegate_facts", "delegate_to", "diff", "environment",
+         "failed_when", "ignore_errors",
          "ignore_unreachable", "no_log", "port", "remote_user", "retries", "run_once", "tags", "throttle", "timeout",
          "until", "when")
 WORDS_OF_BLOCKS = ("become", "throttle", "timeout", "port", "delegate_to")
-LITERALS = ("5", "soon", "yes", "no", 7, True, 0, "1", "", "inf")
+LITERALS = ("5", "soon", "yes", "no", 7, True, 0, "1", "", "inf", ["a"], {"a": "b"})
 CONDITIONS = (None, None, None, "only is defined", False, "enabled", "mode == 'fast'")
 OPERATIONS = ("{} | int", "{} | float | int", "{} | int + 1", "({} | int) > 3", "{} | bool", "{} | length",
               "{} | lower", "{}.split('')[0]", "{}.split(',')[0]", "{} | regex_replace('a', '\\\\1')",
@@ -48,10 +49,11 @@ def lost_names(names: "Dict[str, List[str]]") -> Iterator[str]:
     """Names of the installed Ansible that the front end's lists lack."""
     sys.path.insert(0, str(HERE.parent.parent / "ansible"))
     from playcheck_ansible import names as profile
-    from playcheck_ansible import reserved_names, roles
+    from playcheck_ansible import modules, reserved_names, roles
 
     lists = {"globals": reserved_names.GLOBALS, "set_over": reserved_names.SET_OVER | profile.KNOWN,
-             "keywords": reserved_names.KEYWORDS, "beside_roles": roles.ROLE_WORDS}
+             "keywords": reserved_names.KEYWORDS, "beside_roles": roles.ROLE_WORDS,
+             "modules": {*modules.CORE, *modules.PROFILE, *modules.INCLUDES, "meta"}}
     for what, known in lists.items():
         lost = sorted(set(names[what]) - set(known))
         if lost:

@@ -9,6 +9,7 @@ from ansible.plugins.action import ActionBase
 NAME = os.path.splitext(os.path.basename(__file__))[0]
 # An answer of each module of the tests stands in each row, so that whatever is called gets one of its own shape.
 OTHER_NAMES = {"gather_facts": "setup"}
+NONE = {"failed": True, "msg": "SCRIPTED no answer"}
 
 
 class ActionModule(ActionBase):
@@ -18,19 +19,19 @@ class ActionModule(ActionBase):
     def run(self, tmp=None, task_vars=None):
         host = task_vars["inventory_hostname"]
         folder = os.environ["PEER_FOLDER"]
-        number = next_number(os.path.join(folder, f"calls.{host}"))
+        number = next_number(os.path.join(folder, f"calls.{host}"), NAME)
         with open(os.path.join(folder, "answers.json"), encoding="utf-8") as file:
             rows = json.load(file).get(host, [])
-        name = OTHER_NAMES.get(NAME, NAME)
-        answer = rows[number][name] if number < len(rows) else {"failed": True, "msg": "SCRIPTED no answer"}
+        answer = rows[number][OTHER_NAMES.get(NAME, NAME)] if number < len(rows) else NONE
         if answer.get("unreachable") is True:
             raise AnsibleConnectionFailure("SCRIPTED unreachable")
         return answer
 
 
-def next_number(path):
-    """How many calls of the host there were; each leaves a byte."""
-    with open(path, "ab") as file:
-        number = file.tell()
-        file.write(b".")
+def next_number(path, name):
+    """How many calls of the host there were; each leaves a line with its module."""
+    with open(path, "a+", encoding="utf-8") as file:
+        file.seek(0)
+        number = sum(1 for _ in file)
+        file.write(f"{name}\n")
     return number

@@ -1,5 +1,6 @@
 # SPDX-License-Identifier: MIT OR Apache-2.0
 # Small books with what is said of each: rules that a change of one word of the front end would break unseen.
+import json
 import re
 import tempfile
 from dataclasses import dataclass, field
@@ -66,6 +67,9 @@ def unset(line: int, name: str, variable: str) -> str:
 
 def reads(name: str, line: int) -> str:
     return f"it reads '{name}': it is set on line {line}, which isn't judged"
+
+
+WRONG_SIGNATURES = ["S02 the signatures have another form", "refused, 1 finding, 1 of 1 tasks judged"]
 
 
 ROWS = [
@@ -171,6 +175,15 @@ ROWS = [
     Row("a merge key and tags of scalars", tasks("&one {name: One, command: !!str 5, register: r}",
               "{<<: *one, name: Two, when: r.rc == 0}"),
         ["accepted, 2 of 2 tasks judged, at most 4 module calls"]),
+    Row("a block with the name of a role's handler", "  roles: [r]\n  handlers:\n  - {name: H, block: [{ping: }]}\n",
+        ["5: P03 block 'H': a keyword that the language lacks", "refused, 1 finding, 3 of 3 tasks judged"], (), "",
+        {"roles/r/tasks/main.yml": "- {ping: , notify: H}\n", "roles/r/handlers/main.yml": "- {name: H, ping: }\n"}),
+    *(Row(f"signatures with {what}", tasks("mine:"), WRONG_SIGNATURES, ("-s", "wrong.json", *words),
+          files={"wrong.json": json.dumps([{"name": "mine", "params": {}, **further}])})
+      for what, words, further in (
+          ("documentation and no fields", ("--trust-returns",), {"ansible": {}}),
+          ("documentation and a list of fields", ("--trust-returns",), {"ansible": {}, "ok": ["changed"]}),
+          ("a field that isn't said to be there", (), {"ansible": {"name": "git"}, "ok": {"changed": {"kind": "bool"}}}))),
     Row("sections without a value, serial as a text, the strategy debug", "  tasks:\n  - ping:\n  post_tasks:\n  vars:\n",
         ["accepted, 1 of 1 tasks judged, at most 2 module calls"], (), "  serial: '1'\n  strategy: debug\n"),
     Row("a message that is a number", tasks("{name: Five, debug: 5}"),

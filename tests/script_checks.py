@@ -144,14 +144,20 @@ def test_skips(tree: Tree) -> Rows:
     (tree.folder / "asked").unlink()
     tree.environment["NO_YAML"] = "1"
     (tree.tools / "cc").unlink()
+    write_program(tree.tools / "mypy", "exit 1")
     status, lines, errors = tree.run("./test")
     yield names_of(lines), names
-    wanted = parts_wanted(READY, [*OF_YAML, OF_ANSIBLE, "tests/refused_checks.py"])
-    yield (status, errors, lines[-2:]), (0, "", ["6 skipped, for the reasons above", f"{3 * len(wanted)} passed, 0 failed"])
+    wanted = parts_wanted(READY, [*OF_YAML, OF_ANSIBLE, "tests/type_checks.py", "tests/refused_checks.py"])
+    yield (status, errors, lines[-2:]), (0, "", ["7 skipped, for the reasons above", f"{3 * len(wanted)} passed, 0 failed"])
     yield sorted(tree.asked()), wanted
     reasons = [line.rpartition(": ")[2] for line in lines if line.startswith("(skipped: ")]
-    yield reasons, ["PyYAML isn't here)"] * 4 + ["ansible-playbook or PyYAML isn't here)", "neither cc nor gcc nor clang is here)"]
-    yield len({line for line in lines if line.startswith("(skipped: ")}), 6
+    yield reasons, ["PyYAML isn't here)"] * 4 + ["ansible-playbook or PyYAML isn't here)",
+                                                 "mypy with the stubs of PyYAML isn't here)",
+                                                 "neither cc nor gcc nor clang is here)"]
+    yield len({line for line in lines if line.startswith("(skipped: ")}), 7
+    (tree.tools / "mypy").unlink()
+    yield "(skipped: types of the front end: mypy with the stubs of PyYAML isn't here)" in tree.run("./test")[1], True
+    write_program(tree.tools / "mypy", "exit 0")
     for name in ("gcc", "clang"):
         write_program(tree.tools / name, "exit 1")
         lines = tree.run("./test")[1]

@@ -45,6 +45,7 @@ class Tree:
         write_program(self.tools / "python3", COUNTS)
         write_program(self.tools / "cc", "exit 1")
         write_program(self.tools / "ansible-playbook", "exit 1")
+        write_program(self.tools / "mypy", "exit 0")
 
     def write(self, name: str, text: str) -> None:
         (self.top / name).parent.mkdir(parents=True, exist_ok=True)

@@ -1,5 +1,7 @@
 # SPDX-License-Identifier: MIT OR Apache-2.0
 # Calls programs of ansible-core: nothing of the repository that is checked is run by them, unless an option says so.
+from __future__ import annotations
+
 import glob
 import os
 import tempfile

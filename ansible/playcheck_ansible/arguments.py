@@ -1,21 +1,28 @@
 # SPDX-License-Identifier: MIT OR Apache-2.0
 # The passes over the arguments of a task's module: one text taken apart, other names, values of the declared kinds.
+from __future__ import annotations
+
 import re
+from typing import TYPE_CHECKING, Dict, List
 
 from .kinds import asked_word, wrong_word
-from .modules import CHANGES_FLOW, FREE_FORM, FREE_TEXTS
-from .nodes import Mapping, Scalar, Sequence, has_template, is_literal, is_nothing, is_text, made, plain, texts_of
+from .modules import CHANGES_FLOW, FREE_FORM, FREE_TEXTS, Modules
+from .nodes import (Mapping, Record, Scalar, Sequence, has_template, is_literal, is_nothing, is_text, made, plain,
+                    texts_of)
 from .values import arguments_of, as_bool, converted, is_whole
 
-EMPTY = {"text": "", "bool": False, "int": 0, "list": [], "ints": []}
+if TYPE_CHECKING:
+    from .books import Task
+
+EMPTY: Record = {"text": "", "bool": False, "int": 0, "list": [], "ints": []}
 PATH = re.compile(r"[A-Za-z_][\w.'\"\[\]]*")
 
 
-def name_value_texts(task, modules):
+def name_value_texts(task: Task, modules: Modules) -> None:
     """`copy: src=a dest=b` becomes the object with these parameters."""
     module = task.module()
     node = task.words.get(module) if module else None
-    if not is_text(node) or module in FREE_FORM or module == "meta" or not modules.has(module):
+    if module is None or not is_text(node) or module in FREE_FORM or module == "meta" or not modules.has(module):
         return
     known = modules.documented.get(module)
     if known is not None and known.name in FREE_TEXTS:
@@ -26,7 +33,7 @@ def name_value_texts(task, modules):
         task.words.put(module, made(found, node.place))
 
 
-def merged_args(task, modules):
+def merged_args(task: Task, modules: Modules) -> None:
     """`args` are parameters of the module; those that stand at the module itself win."""
     given = task.words.take("args")
     module = task.module()
@@ -48,19 +55,19 @@ def merged_args(task, modules):
     task.words.put(module, merged)
 
 
-def messages(task, modules):
+def messages(task: Task, modules: Modules) -> None:
     """`debug: var` shows what it names, and says so where that isn't there; empty messages are Ansible's own."""
     node = task.words.get("debug")
-    if "debug" in task.words and (is_nothing(node) or isinstance(node, Mapping)):
+    if node is not None and (is_nothing(node) or isinstance(node, Mapping)):
         task.words.put("debug", shown(task, node if isinstance(node, Mapping) else Mapping({}, node.place)))
     node = task.words.get("fail")
-    if "fail" in task.words and (is_nothing(node) or isinstance(node, Mapping) and "msg" not in node):
+    if node is not None and (is_nothing(node) or isinstance(node, Mapping) and "msg" not in node):
         told = node.copy() if isinstance(node, Mapping) else Mapping({}, node.place)
         told.put("msg", made("Failed as requested from task", node.place))
         task.words.put("fail", told)
 
 
-def shown(task, node):
+def shown(task: Task, node: Mapping) -> Mapping:
     node = node.copy()
     verbosity = node.take("verbosity")
     if verbosity is not None and "register" in task.words:
@@ -83,16 +90,16 @@ def shown(task, node):
     return node
 
 
-def read_if_there(text):
+def read_if_there(text: str) -> str:
     """An expression that reads a path of any kind where it is there; any other expression as it is."""
     return f"{text} is defined and [{text}] | length == 1" if PATH.fullmatch(text) else text
 
 
-def parameters(task, modules):
+def parameters(task: Task, modules: Modules) -> None:
     """Other names of a parameter, parameters that change nothing in the shape of an answer, and values' kinds."""
     module = task.module()
     node = task.words.get(module) if module else None
-    if not isinstance(node, Mapping):
+    if module is None or not isinstance(node, Mapping):
         return
     node = node.copy()
     task.words.put(module, node)
@@ -103,28 +110,31 @@ def parameters(task, modules):
     if module == "set_fact":
         facts(node, task)
         return
-    if module in FREE_FORM and isinstance(node.get("argv"), Sequence):
-        words = [str(plain(item)) for item in node.take("argv").items]
+    argv = node.get("argv")
+    if module in FREE_FORM and isinstance(argv, Sequence):
+        node.take("argv")
+        words = [str(plain(item)) for item in argv.items]
         node.put("cmd", made(" ".join(words), node.place))
     rename(node, modules.aliases.get(module, {}))
     if module == "assert":
         assert_messages(node, task)
-    passed = {*modules.asked.get(module, ()), *modules.further(module, node.pairs)}
+    passed = {*modules.asked.get(module, ()), *modules.undocumented(module, node.pairs)}
     if module in modules.open:
         passed = {*passed, *node.pairs} - set(modules.parameters[module])
     pass_over_parameters(task, node, sorted(passed))
     for name, kind in modules.parameters.get(module, {}).items():
-        if name not in node:
+        given = node.get(name)
+        if given is None:
             continue
-        if module in modules.documented and not task.is_handler and is_whole(node.get(name)):
+        if module in modules.documented and not task.is_handler and is_whole(given):
             # Ansible converts whatever the template gives: what is asked is that it gives anything.
-            task.asked.append(converted(node.get(name), "omitted"))
-            node.put(name, made(EMPTY.get(kind, ""), node.get(name).place))
+            task.asked.append(converted(given, "omitted"))
+            node.put(name, made(EMPTY.get(kind, ""), given.place))
         elif module != "assert":
-            node.put(name, converted(node.get(name), kind, name))
+            node.put(name, converted(given, kind, name))
 
 
-def assert_messages(node, task):
+def assert_messages(node: Mapping, task: Task) -> None:
     """The messages of `assert` are texts, or lists of texts, which Ansible doesn't convert."""
     for name in ("fail_msg", "success_msg"):
         part = node.get(name)
@@ -140,26 +150,26 @@ def assert_messages(node, task):
             node.take(name)
 
 
-def rename(node, names):
+def rename(node: Mapping, names: Dict[str, str]) -> None:
     for name, other in names.items():
         if name in node and other not in node:
             place = node.keys.get(name)
-            node.put(other, node.take(name))
+            node.put(other, node.pairs.pop(name))
             node.keys[other] = place or node.place
 
 
-def pass_over_parameters(task, node, names):
+def pass_over_parameters(task: Task, node: Mapping, names: List[str]) -> None:
     for name in names:
-        if name not in node:
-            continue
         part = node.take(name)
+        if part is None:
+            continue
         if task.is_handler and not is_literal(part):
             task.leave(f"the parameter `{name}` of a handler holds a template", part.place)
         else:
             task.asked += [converted(text, "omitted") for text in texts_of(part)]
 
 
-def facts(node, task):
+def facts(node: Mapping, task: Task) -> None:
     """Ansible makes truth values of these words in `set_fact`, and `cacheable` keeps facts for later runs."""
     cacheable = node.take("cacheable")
     if cacheable is not None:

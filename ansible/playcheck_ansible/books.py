@@ -1,10 +1,19 @@
 # SPDX-License-Identifier: MIT OR Apache-2.0
 # A book as plays, blocks and tasks: what its nodes are, whatever file they stand in.
-from dataclasses import dataclass, field
+from __future__ import annotations
 
-from .nodes import Mapping, Scalar, Sequence, is_nothing
+from dataclasses import dataclass, field
+from typing import TYPE_CHECKING, Dict, Iterable, Iterator, List, Optional, Set, Tuple, Union
+
+from .nodes import Mapping, Node, Scalar, Sequence, Text, Value, is_nothing
 from .problems import Place
 
+if TYPE_CHECKING:
+    from .mistakes import Mistake
+    from .precedence import Given, Source
+
+# A place, and what is said of it.
+Note = Tuple[Place, str]
 SECTIONS = ("pre_tasks", "tasks", "post_tasks")
 PARTS = ("block", "rescue", "always")
 # Words of a task, of the profile and left out: any other key is a module.
@@ -23,42 +32,41 @@ class Task:
     place: Place
     play: str = ""
     is_handler: bool = False
-    asked: list = field(default_factory=list)  # values of words that are passed over: their templates are asked
+    asked: List[Node] = field(default_factory=list)  # values of words that are passed over: their templates are asked
     reason: str = ""  # why it isn't judged
-    reason_place: "Place | None" = None
+    reason_place: Optional[Place] = None
     is_still_asked: bool = False  # its templates are asked all the same
-    gives: set = field(default_factory=set)  # names that it sets beside those that it shows
-    notifies: list = field(default_factory=list)  # handlers that it notifies beside those that it shows
+    gives: Set[str] = field(default_factory=set)  # names that it sets beside those that it shows
+    notifies: List[str] = field(default_factory=list)  # handlers that it notifies beside those that it shows
     notifies_any: bool = False
     sets_unseen: bool = False  # it may set names that the book doesn't show
     forgets: bool = False  # it may bring hosts back that failed, or take variables away
     ends_host: bool = False  # it may end the play for a host that goes on with the next one
-    outer_names: set = field(default_factory=set)  # those that `vars` and words round it mention
-    collections: list = field(default_factory=list)  # those in which a short name of its module is looked for
-    mistakes: list = field(default_factory=list)  # what the documentation of its module forbids
+    outer_names: Set[str] = field(default_factory=set)  # those that `vars` and words round it mention
+    collections: List[str] = field(default_factory=list)  # those in which a short name of its module is looked for
+    mistakes: List[Mistake] = field(default_factory=list)  # what the documentation of its module forbids
     is_below_condition: bool = False  # a block round it has a condition
-    may_ignore: "Scalar | None" = None  # a template in the place of `ignore_errors`
-    facts: list = field(default_factory=list)  # what sets the further facts that it gathers
+    may_ignore: Optional[Text] = None  # a template in the place of `ignore_errors`
+    facts: List[Value] = field(default_factory=list)  # what sets the further facts that it gathers
     has_no_bound: bool = False  # how often it is tried isn't known, or more often than the profile has it
     is_outlived: bool = False  # where it fails its host's play may go on: it is ignored or rescued, or more always runs
     is_free: bool = False  # hosts run it in no order
     comes_with: str = ""  # of a handler: the folder of the role whose inclusion makes it known
     folder: str = ""  # of a handler: that of its role
 
-    def __post_init__(self):
+    def __post_init__(self) -> None:
         self.written = self.words.copy()
 
     @property
-    def name(self):
-        node = self.written.get("name")
-        return str(node.value) if isinstance(node, Scalar) and node.value is not None else ""
+    def name(self) -> str:
+        return name_in(self.written.get("name"))
 
-    def leave(self, reason, place=None):
+    def leave(self, reason: str, place: Optional[Place] = None) -> None:
         """Says that it isn't judged; the first reason counts."""
         if not self.reason:
             self.reason, self.reason_place = reason, place or self.place
 
-    def module(self):
+    def module(self) -> Optional[str]:
         """The key that is its module, or None where there is none or several."""
         found = [key for key in self.words.pairs if is_module(key)]
         return found[0] if len(found) == 1 else None
@@ -68,33 +76,32 @@ class Task:
 class Block:
     words: Mapping
     place: Place
-    parts: dict  # block, rescue, always to their steps
-    asked: list = field(default_factory=list)
-    given: list = field(default_factory=list)  # what it gives to the tasks in it, beside `vars` of its own
+    parts: Dict[str, List[Step]]  # block, rescue, always to their steps
+    asked: List[Node] = field(default_factory=list)
+    given: List[Given] = field(default_factory=list)  # what it gives to the tasks in it, beside `vars` of its own
     is_role: bool = False  # the collections of its play aren't its
     is_include: bool = False  # it has tags of its own, and where its condition is false it sets nothing
     is_asked_once: bool = False  # an include whose condition is asked before its tasks, and not by each of them
-    lost: dict = field(default_factory=dict)  # names of `vars` that the profile can't have, with the reason
+    lost: Dict[str, str] = field(default_factory=dict)  # names of `vars` that the profile can't have, with the reason
     folder: str = ""  # of the role that it stands for
 
-    def __post_init__(self):
+    def __post_init__(self) -> None:
         self.written = self.words.copy()
 
     @property
-    def name(self):
-        node = self.written.get("name")
-        return str(node.value) if isinstance(node, Scalar) and node.value is not None else ""
+    def name(self) -> str:
+        return name_in(self.written.get("name"))
 
 
 @dataclass
 class Raw:
     """What isn't a task or a block: printed as it is, for the program to refuse."""
 
-    node: "Mapping | Sequence | Scalar"
+    node: Node
     name = ""
 
     @property
-    def place(self):
+    def place(self) -> Place:
         return self.node.place
 
 
@@ -102,47 +109,70 @@ class Raw:
 class Play:
     words: Mapping
     place: Place
-    sections: dict  # pre_tasks, tasks, post_tasks, handlers to their steps
-    asked: list = field(default_factory=list)
+    sections: Dict[str, List[Step]]  # pre_tasks, tasks, post_tasks, handlers to their steps
+    asked: List[Node] = field(default_factory=list)
     reason: str = ""  # why none of its tasks is judged
     has_no_host: bool = False  # the inventory has no host of its `hosts`
-    given: list = field(default_factory=list)  # what all of its tasks are given, with the sources
-    late: dict = field(default_factory=dict)  # names that roles give from some task on, with their source and the reason
-    unseen_files: list = field(default_factory=list)  # files of variables that couldn't be read
-    lost: dict = field(default_factory=dict)  # names of `vars` that the profile can't have, with the reason
-    prompted: set = field(default_factory=set)  # names whose values are asked for at the start
-    facts: list = field(default_factory=list)  # what sets the further facts that it gathers
+    given: List[Given] = field(default_factory=list)  # what all of its tasks are given, with the sources
+    # Names that roles give from some task on, with their source and the reason.
+    late: Dict[str, Tuple[Source, str]] = field(default_factory=dict)
+    unseen_files: List[Note] = field(default_factory=list)  # files of variables that couldn't be read
+    lost: Dict[str, str] = field(default_factory=dict)  # names of `vars` that the profile can't have, with the reason
+    prompted: Set[str] = field(default_factory=set)  # names whose values are asked for at the start
+    facts: List[Value] = field(default_factory=list)  # what sets the further facts that it gathers
 
-    def __post_init__(self):
+    def __post_init__(self) -> None:
         self.written = self.words.copy()
 
     @property
-    def name(self):
-        node = self.written.get("name") or self.written.get("hosts")
-        return str(node.value) if isinstance(node, Scalar) and node.value is not None else ""
+    def name(self) -> str:
+        return name_in(self.written.get("name") or self.written.get("hosts"))
 
-    def steps(self):
+    def steps(self) -> Iterator[Step]:
         """All steps, in the order in which they are counted."""
         for section in (*SECTIONS, "handlers"):
             yield from steps_below(self.sections.get(section, []))
 
-    def tasks(self):
+    def tasks(self) -> List[Task]:
         return [step for step in self.steps() if isinstance(step, Task)]
+
+    def blocks(self) -> List[Block]:
+        return [step for step in self.steps() if isinstance(step, Block)]
+
+    def containers(self) -> List[Union[Play, Block]]:
+        """The play itself, and all its blocks in the order in which they are counted."""
+        return [self, *self.blocks()]
+
+    def holders(self) -> List[Holder]:
+        """The play itself, and all its blocks and tasks in the order in which they are counted."""
+        return [self, *(step for step in self.steps() if not isinstance(step, Raw))]
+
+
+Step = Union[Task, Block, Raw]
+Holder = Union[Play, Block, Task]
 
 
 @dataclass
 class Book:
     file: str
-    plays: list
-    node: "object | None" = None  # the book itself, where it is no list
-    left_out: list = field(default_factory=list)  # tasks that a run passes by, by their tags
-    includes: list = field(default_factory=list)  # the blocks that stand for includes
+    plays: List[Union[Play, Raw]]
+    node: Optional[Node] = None  # the book itself, where it is no list
+    left_out: List[Task] = field(default_factory=list)  # tasks that a run passes by, by their tags
+    includes: List[Block] = field(default_factory=list)  # the blocks that stand for includes
 
-    def tasks(self):
-        return [task for play in self.plays if isinstance(play, Play) for task in play.tasks()]
+    def read_plays(self) -> List[Play]:
+        """Its plays, without what isn't one."""
+        return [play for play in self.plays if isinstance(play, Play)]
+
+    def tasks(self) -> List[Task]:
+        return [task for play in self.read_plays() for task in play.tasks()]
 
 
-def steps_below(steps):
+def name_in(node: Optional[Node]) -> str:
+    return str(node.value) if isinstance(node, Scalar) and node.value is not None else ""
+
+
+def steps_below(steps: Iterable[Step]) -> Iterator[Step]:
     for step in steps:
         yield step
         if isinstance(step, Block):
@@ -150,11 +180,11 @@ def steps_below(steps):
                 yield from steps_below(step.parts.get(part, []))
 
 
-def is_module(key):
+def is_module(key: str) -> bool:
     return key not in TASK_WORDS and key[:5] != "with_"
 
 
-def items_of(node):
+def items_of(node: Optional[Node]) -> Optional[List[Node]]:
     """The items of a list; of nothing none; None where it is something else."""
     if node is None or is_nothing(node):
         return []

@@ -1,21 +1,23 @@
 # SPDX-License-Identifier: MIT OR Apache-2.0
 # Checks one book: reads it, runs the passes, asks the program, and puts its answer into the words of the files.
+from __future__ import annotations
+
 from dataclasses import dataclass, field, replace
+from typing import TYPE_CHECKING, List, Optional, Tuple
 
 from .ansible_core import Trust
-from .books import Play, Raw
+from .books import Book, Play, Raw
 from .codes import OWN_TITLES, TITLES
 from .connections import connection_variables
 from .facts import trust_facts
 from .further_facts import further_facts
 from .hosts import host_patterns, with_localhost
-from .inventory import read_inventories
+from .inventory import Inventory, read_inventories
 from .literals import run_literal_passes
 from .loading import load_book
 from .magic import magic_variables
 from .plays import leave_all, run_book_passes
-from .problems import Place
-from .program import Asker
+from .program import Answer, Asker
 from .reserved_names import lose_reserved, mistaken_names
 from .returns import measured
 from .settling import Settler
@@ -23,6 +25,12 @@ from .tags import leave_out
 from .unjudged import CUT
 from .variables import put_variables
 
+if TYPE_CHECKING:
+    from .lines import Line
+    from .mistakes import Mistake
+    from .modules import Modules
+    from .nodes import Pairs
+    from .problems import Place
 
 # What a counted line that no file has is called.
 KINDS = {"asked": "task", "facts": "play", "condition": "block"}
@@ -53,9 +61,9 @@ class Unjudged:
 @dataclass
 class Report:
     book: str
-    findings: list = field(default_factory=list)
-    unjudged: list = field(default_factory=list)
-    notes: list = field(default_factory=list)  # words of plays and blocks that weren't asked
+    findings: List[Finding] = field(default_factory=list)
+    unjudged: List[Unjudged] = field(default_factory=list)
+    notes: List[Unjudged] = field(default_factory=list)  # words of plays and blocks that weren't asked
     tasks: int = 0
     judged: int = 0
     left_out: int = 0  # tasks that a run passes by, by their tags
@@ -64,31 +72,31 @@ class Report:
     is_strict: bool = False  # what isn't judged is refused
 
     @property
-    def is_whole(self):
+    def is_whole(self) -> bool:
         return self.judged == self.tasks and not self.notes
 
     @property
-    def is_accepted(self):
+    def is_accepted(self) -> bool:
         return not self.findings and (self.is_whole or not self.is_strict)
 
 
 @dataclass
 class Options:
-    inventories: list
-    modules: object
-    extra: dict = field(default_factory=dict)
+    inventories: List[str]
+    modules: Modules
+    extra: Pairs = field(default_factory=dict)
     go_on: bool = False
     trusts_facts: bool = False
-    tags: tuple = ()
-    skip_tags: tuple = ()
+    tags: Tuple[str, ...] = ()
+    skip_tags: Tuple[str, ...] = ()
     trust: Trust = Trust()  # what of the repository that is checked may be run
 
 
-def prepared(path, options, book):
+def prepared(path: str, options: Options, book: Book) -> Tuple[Book, Inventory]:
     """The book with its passes run, and the inventory that it is judged with."""
     inventory = read_inventories(options.inventories, path, options.trust)
     leave_out(book, options.tags, options.skip_tags)
-    plays = [play for play in book.plays if isinstance(play, Play)]
+    plays = book.read_plays()
     for play in plays:
         put_variables(play, inventory)
     run_book_passes(book, options.modules, options.extra)
@@ -108,7 +116,7 @@ def prepared(path, options, book):
     return book, inventory
 
 
-def settled(path, options, book=None):
+def settled(path: str, options: Options, book: Optional[Book] = None) -> Tuple[Settler, Inventory]:
     """The book as it was judged last, with the inventory that it was judged with."""
     options = replace(options, modules=measured(options.modules))
     book, inventory = prepared(path, options, book or load_book(path))
@@ -119,11 +127,11 @@ def settled(path, options, book=None):
     return settler, inventory
 
 
-def check_book(path, options, book=None):
+def check_book(path: str, options: Options, book: Optional[Book] = None) -> Report:
     return report_of(path, settled(path, options, book)[0])
 
 
-def report_of(path, settler):
+def report_of(path: str, settler: Settler) -> Report:
     tasks = settler.tasks
     report = Report(path, tasks=len(tasks), left_out=len(settler.book.left_out))
     report.findings = numbered(settler)
@@ -139,7 +147,7 @@ def report_of(path, settler):
     return report
 
 
-def numbered(settler):
+def numbered(settler: Settler) -> List[Finding]:
     """The findings in the order of their counted lines; those of the front end itself get theirs now."""
     numbers = {id(line.step): number for number, line in enumerate(settler.numbered.lines) if line is not None}
     for line, found in settler.findings:
@@ -148,7 +156,7 @@ def numbered(settler):
     return sorted((found for _, found in settler.findings), key=lambda found: found.number)
 
 
-def finding_of(answer, line, settler):
+def finding_of(answer: Answer, line: Optional[Line], settler: Settler) -> Finding:
     from .hints import hint  # read where it is wanted: an accepted book has no finding
 
     found = hint(answer, line, settler)
@@ -163,7 +171,8 @@ def finding_of(answer, line, settler):
                    found.detail, found.help, answer.line)
 
 
-def finding_of_mistake(mistake, line):
+def finding_of_mistake(mistake: Mistake, line: Line) -> Finding:
     """The finding of what the front end sees itself."""
-    return Finding(mistake.code, OWN_TITLES[mistake.code], mistake.place, "", line.name, line.play.name, line.kind,
+    play = line.play.name if line.play is not None else ""
+    return Finding(mistake.code, OWN_TITLES[mistake.code], mistake.place, "", line.name, play, line.kind,
                    mistake.detail)

@@ -1,12 +1,15 @@
 # SPDX-License-Identifier: MIT OR Apache-2.0
 # The command line: which words there are, and the status with which it ends.
+from __future__ import annotations
+
 import argparse
 import errno
+import io
 import json
 import os
 import sys
 import traceback
-from typing import List
+from typing import TYPE_CHECKING, Iterator, List, NoReturn, Tuple
 
 from . import __version__
 from .ansible_core import RUN, TRUST, passed_over, trust_of
@@ -16,13 +19,16 @@ from .formats import FORMATS
 from .limits import ALLOWANCE, OutOfTime, reason_of
 from .loading import load_book
 from .looking_up import NOT_INSTALLED, looked_up, used_modules
-from .modules import PROFILE, UNKNOWN, read_signatures, short_name
-from .nodes import Mapping, is_nothing, made
+from .modules import PROFILE, UNKNOWN, ansible_name, read_signatures, short_name
+from .nodes import Mapping, Node, Pairs, is_nothing, made
 from .positions import node_of, read_file
 from .printing import told
 from .problems import Place, Problem
 from .processes import on_path
 from .values import arguments_of
+
+if TYPE_CHECKING:
+    from .books import Book
 
 BAD_WORDS = 64
 NO_MEMORY = 3
@@ -34,7 +40,7 @@ EPILOG = """status: 0 all books are accepted, 1 a refusal (or, with --strict, a 
 
 
 class Words(argparse.ArgumentParser):
-    def error(self, message):
+    def error(self, message: str) -> NoReturn:
         told(f"{message}; --help tells more")
         self.exit(BAD_WORDS)
 
@@ -136,7 +142,8 @@ def write_out(text: str) -> None:
     try:
         if sys.stdout is None:
             raise OSError(errno.EBADF, os.strerror(errno.EBADF))
-        sys.stdout.reconfigure(errors="backslashreplace")  # type: ignore[union-attr]
+        if isinstance(sys.stdout, io.TextIOWrapper):  # the tests have others
+            sys.stdout.reconfigure(errors="backslashreplace")
         sys.stdout.write(text)
         sys.stdout.flush()
     except OSError as error:
@@ -144,12 +151,12 @@ def write_out(text: str) -> None:
         raise Problem(None, f"the output can't be written: {error.strerror}") from None
 
 
-def explain(words):
+def explain(words: argparse.Namespace) -> int:
     write_out(section_of(words.code.upper()))
     return 0
 
 
-def convert(words):
+def convert(words: argparse.Namespace) -> int:
     from .converting import warnings_of, write_converted  # read where it is wanted, as in the other commands
 
     options = options_of(words)
@@ -160,17 +167,17 @@ def convert(words):
     return 0
 
 
-def signatures(words):
+def signatures(words: argparse.Namespace) -> int:
     """Prints the signatures of modules, and says on standard error which of them can't be declared."""
     from .documented import documentation, signatures_of, without_file
 
-    names = []
+    names: List[str] = []
     for name in words.names:
         names += used_modules(load_book(name)) if name.endswith(SUFFIXES) else [short_name(name)]
     names = sorted(set(names) - set(PROFILE))
     trust = trust_of(False, words.trust_repository, words.names)
     declared, left = signatures_of(documentation(names, trust)) if names else ([], {})
-    found = {module["ansible"]["name"] for module in declared}
+    found = {ansible_name(module) for module in declared}
     for name in names:
         if name not in found:
             told(f"the module {name} isn't declared: {left.get(name, UNKNOWN)}")
@@ -178,7 +185,7 @@ def signatures(words):
     return 0 if declared or not names else BAD_WORDS
 
 
-def options_of(words):
+def options_of(words: argparse.Namespace) -> Options:
     inventories = [path for group in words.inventory for path in group]
     extra = {}
     for text in words.extra_vars:
@@ -198,12 +205,12 @@ def books_in(words: argparse.Namespace) -> List[str]:
     return [words.book] if "book" in words else list(words.books)
 
 
-def divided(texts):
+def divided(texts: List[str]) -> Tuple[str, ...]:
     """The tags of options that may be given more than once, each a text with commas."""
     return tuple(word.strip() for text in texts for word in text.split(",") if word.strip())
 
 
-def variables_of(text):
+def variables_of(text: str) -> Pairs:
     """The variables of one `-e`."""
     if text.startswith("@"):
         return variables_in(read_file(text[1:]), text[1:])
@@ -215,7 +222,7 @@ def variables_of(text):
     return made(found, Place("-e")).pairs
 
 
-def variables_in(node, path):
+def variables_in(node: Node, path: str) -> Pairs:
     if is_nothing(node):
         return {}
     if not isinstance(node, Mapping):
@@ -223,13 +230,13 @@ def variables_in(node, path):
     return node.pairs
 
 
-def with_lookup(paths, options, words):
+def with_lookup(paths: List[str], options: Options, words: argparse.Namespace) -> List[Book]:
     """Looks the modules of books up, and answers the book where it is one alone, since it is read by now."""
-    read = []
+    read: List[Book] = []
     if words.no_lookup or not on_path("ansible-doc"):
         options.modules.unasked = "`--no-lookup` is given" if words.no_lookup else NOT_INSTALLED
     else:
-        names = []
+        names: List[str] = []
         for path in paths:
             ALLOWANCE.begin()
             try:
@@ -243,7 +250,7 @@ def with_lookup(paths, options, words):
     return read if len(paths) == 1 else []
 
 
-def check(words):
+def check(words: argparse.Namespace) -> int:
     options = options_of(words)
     reports, statuses = [], [0]
     paths = list(books_of(words.books))
@@ -267,7 +274,7 @@ def check(words):
     return max(statuses)
 
 
-def books_of(paths):
+def books_of(paths: List[str]) -> Iterator[str]:
     """The books; of a folder all files that are lists of plays."""
     for path in paths:
         if not os.path.isdir(path):
@@ -278,7 +285,7 @@ def books_of(paths):
             yield from (os.path.join(folder, name) for name in sorted(files) if is_book(os.path.join(folder, name)))
 
 
-def is_book(path):
+def is_book(path: str) -> bool:
     """Whether a file of a folder is a playbook: a list with an item that has `hosts` or `import_playbook`."""
     if not path.endswith(SUFFIXES):
         return False
@@ -291,7 +298,7 @@ def is_book(path):
                for key in item.pairs)) for item in getattr(node, "items", []))
 
 
-def has_colour(choice):
+def has_colour(choice: str) -> bool:
     if choice != "auto":
         return choice == "always"
     return sys.stdout is not None and sys.stdout.isatty() and not os.environ.get("NO_COLOR")

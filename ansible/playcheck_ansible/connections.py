@@ -4,14 +4,13 @@ from __future__ import annotations
 
 from typing import TYPE_CHECKING
 
-from .books import Block, Book, Play, Raw, Task
+from .books import Block, Book, Play, Task
 from .kinds import is_of_kind
-from .nodes import Mapping, Scalar, is_text
+from .nodes import Node, Scalar, Text, is_text, pairs_in
 from .values import is_whole
 
 if TYPE_CHECKING:
     from .inventory import Inventory
-    from .precedence import Node
 
 KINDS = {**dict.fromkeys(("ansible_port", "ansible_ssh_port", "ansible_timeout", "ansible_ssh_timeout"), "int"),
          "ansible_become": "bool"}
@@ -22,18 +21,16 @@ def connection_variables(book: Book, inventory: Inventory) -> None:
     """Asks for the kinds of such variables where a book gives them; with a wrong one in the inventory nothing is judged."""
     wrong = next((name for name, value in inventory.variables()
                   if name in KINDS and value is not None and not is_of_kind(value, KINDS[name])), "")
-    for play in (one for one in book.plays if isinstance(one, Play)):
+    for play in book.read_plays():
         if wrong:
             play.reason = play.reason or f"the inventory's '{wrong}' is no {WHAT[KINDS[wrong]]}"
-        for step in [play, *play.steps()]:
-            if not isinstance(step, Raw):
-                ask_given(step)
+        for holder in play.holders():
+            ask_given(holder)
 
 
 def ask_given(step: Play | Block | Task) -> None:
     for key in ("vars", "set_fact"):
-        node = step.words.get(key)
-        for name, part in node.pairs.items() if isinstance(node, Mapping) else ():
+        for name, part in pairs_in(step.words.get(key)).items():
             if name in KINDS:
                 step.asked += asked_value(part, KINDS[name])
     register = step.words.get("register") if isinstance(step, Task) else None
@@ -52,5 +49,5 @@ def asked_value(node: Node, kind: str) -> "list[Node]":
     return [] if is_of_kind(node.value, kind) else [asked_text(node, "", kind)]
 
 
-def asked_text(node: Node, text: str, kind: str) -> Scalar:
+def asked_text(node: Node, text: str, kind: str) -> Text:
     return Scalar("{{ '' }}", node.place, text, True, wanted=kind)

@@ -1,17 +1,26 @@
 # SPDX-License-Identifier: MIT OR Apache-2.0
 # Writes what the program is asked: the book, the inventory and the signatures in JSON, and what each line is.
+from __future__ import annotations
+
 import contextlib
 import json
 import os
+from typing import TYPE_CHECKING, Dict, Iterable, Iterator, List, Optional, Tuple
 
-from .nodes import Scalar
+from .books import Block, Raw, Task
+from .nodes import Node, Scalar, Text
 from .problems import Place, Problem
+
+if TYPE_CHECKING:
+    from .inventory import Inventory
+    from .lines import Line
+    from .settling import Settler
 
 # Words that change what a run does, and that a book is judged without; a `meta` that does nothing becomes a message.
 UNPRINTED = ("run_once", "any_errors_fatal", "max_fail_percentage", "check_mode", "async", "vars_prompt", "meta")
 
 
-def write_converted(folder, settler, inventory):
+def write_converted(folder: str, settler: Settler, inventory: Inventory) -> None:
     try:
         os.makedirs(folder, exist_ok=True)
         write(folder, "book.json", settler.numbered.json)
@@ -37,7 +46,7 @@ def write(folder: str, name: str, value: object) -> None:
         raise
 
 
-def line_json(number, line):
+def line_json(number: int, line: Line) -> Dict[str, object]:
     """A counted line: what it is, where it stands, whether it is judged, and how many expressions have other values."""
     place = line.place
     reason = getattr(line.step, "reason", "") if line.step is not None else ""
@@ -46,13 +55,17 @@ def line_json(number, line):
             "not_judged": reason or None, "stand_ins": sum(by_text([line]).values())}
 
 
-def by_text(lines):
+def by_text(lines: Iterable[Optional[Line]]) -> Dict[Tuple[Place, str], int]:
     """How many expressions of each text of the files have other values; a text may be printed more than once."""
-    printed = (sorted(line.stand_ins(), key=lambda text: text.place) for line in lines if line is not None)
+    printed = (sorted(line.stand_ins(), key=place_of) for line in lines if line is not None)
     return {(text.place, text.text): text.stand_ins for texts in printed for text in texts}
 
 
-def warnings_of(settler):
+def place_of(text: Text) -> Place:
+    return text.place
+
+
+def warnings_of(settler: Settler) -> Iterator[str]:
     """What is said of a book of which a run does something else than Ansible; of any other book nothing."""
     values, tasks = by_text(settler.numbered.lines), others(settler)
     end = ": this book is for check, and not for run"
@@ -62,24 +75,29 @@ def warnings_of(settler):
                 f"{count} expressions stand for operations that the profile lacks ({first} first)")
         yield f"{told}{end}"
     if tasks:
-        told = f"1 task is another one ({tasks[0]})" if len(tasks) == 1 else f"{len(tasks)} tasks are others ({tasks[0]} first)"
-        yield f"{told} than in a run of Ansible{end}"
+        one, several = f"1 task is another one ({tasks[0]})", f"{len(tasks)} tasks are others ({tasks[0]} first)"
+        yield f"{one if len(tasks) == 1 else several} than in a run of Ansible{end}"
 
 
-def others(settler):
+def others(settler: Settler) -> List[Place]:
     """The places of the tasks that a run doesn't count or doesn't run as Ansible does, each once."""
     lines = [line for line in settler.numbered.lines if line is not None and is_other(line)]
-    found = {line.place for line in lines} | {block.place for block in settler.book.includes}
-    return sorted(found, key=lambda place: (place.file, place.line, place.column))
+    return sorted({line.place for line in lines} | {block.place for block in settler.book.includes})
 
 
-def is_other(line):
+def is_other(line: Line) -> bool:
     """Whether another task stands beside what a line stands for, or in its place, or a word that changes its run isn't printed."""
-    written, words = getattr(line.source, "written", {}), getattr(line.source, "words", {})
-    lost = [key for key in UNPRINTED if key in written and key not in words and not is_off(written.get(key))]
-    return bool(line.kind in ("asked", "condition") or getattr(line.source, "reason", "") or getattr(line.source, "facts", ())
-                or getattr(line.source, "has_no_bound", False) or lost)
+    if line.kind in ("asked", "condition"):
+        return True
+    source = line.source
+    if isinstance(source, Raw):
+        return False
+    lost = [key for key, node in source.written.pairs.items()
+            if key in UNPRINTED and key not in source.words and not is_off(node)]
+    if isinstance(source, Block):
+        return bool(lost)
+    return bool(lost or source.reason or source.facts) or isinstance(source, Task) and source.has_no_bound
 
 
-def is_off(node):
+def is_off(node: Node) -> bool:
     return isinstance(node, Scalar) and node.value in (False, None)

@@ -1,8 +1,11 @@
 # SPDX-License-Identifier: MIT OR Apache-2.0
 # With `--trust-facts`: facts that are perhaps there are taken as there wherever facts are gathered.
-import re
+from __future__ import annotations
 
-from .books import Block, Raw, Task
+import re
+from typing import Match
+
+from .books import Block, Book, Raw, Task
 from .rewriting import rewrite_words
 
 TEXTS = ("os_family", "distribution")
@@ -16,7 +19,7 @@ FACT = re.compile(rf"(?<![\w.])(?:ansible_facts\.|ansible_facts\['|ansible_)({NA
 QUOTED = re.compile(r"(\['\w+'\])|('(?:[^'\\]|\\.)*'|\"(?:[^\"\\]|\\.)*\")")
 
 
-def trust_facts(book):
+def trust_facts(book: Book) -> None:
     for play in book.plays:
         if isinstance(play, Raw):
             continue
@@ -26,7 +29,7 @@ def trust_facts(book):
                 rewrite_words(step.words, trusted)
 
 
-def trusted(expression):
+def trusted(expression: str) -> str:
     """An expression with each fact read with a default, but for what stands in its texts."""
     parts, at = [], 0
     for quoted in QUOTED.finditer(expression):
@@ -36,5 +39,5 @@ def trusted(expression):
     return "".join([*parts, FACT.sub(with_default, expression[at:])])
 
 
-def with_default(found):
+def with_default(found: Match[str]) -> str:
     return f"({found[0]} | default({INSTEAD[found[1]]}))"

@@ -4,14 +4,13 @@ from __future__ import annotations
 
 import re
 from dataclasses import dataclass
-from typing import TYPE_CHECKING, Iterator
+from typing import TYPE_CHECKING, Callable, Iterator
 
-from .books import Task
+from .books import Block, Play, Task
 from .literal_operands import is_plain
-from .nodes import Sequence, has_template, is_literal, plain
+from .nodes import Sequence, Value, has_template, is_literal, plain
 
 if TYPE_CHECKING:
-    from .books import Block, Play
     from .literals import Values
 
 # Fields of results that are numbers or truth values, or texts of digits.
@@ -22,6 +21,8 @@ WHOLE_PATH = re.compile(r"\s*\{\{\s*([A-Za-z_][\w.]*)\s*\}\}\s*")
 # A template whose value is a number.
 NUMBER = re.compile(r"\s*\{\{[^{}]*\|\s*(?:int|length|count)\s*\}\}\s*")
 DEEPEST = 8
+# Answers whether `int` takes what a path holds.
+IsFinite = Callable[[str], bool]
 
 
 @dataclass(frozen=True)
@@ -46,16 +47,16 @@ class Finite:
         if path[len(name):] and re.split(r"\W+", path.rstrip("]'\""))[-1] in NUMBERS:
             return True
         written = self.values.written.get(name)
-        return bool(written) and all(self.takes(value, depth) for value in written)
+        return written is not None and bool(written) and all(self.takes(value, depth) for value in written)
 
-    def takes(self, value: object, depth: int) -> bool:
+    def takes(self, value: Value, depth: int) -> bool:
         if not isinstance(value, str) or not has_template(value):
             return value is not None and all(map(is_plain, texts_in(value)))
         path = WHOLE_PATH.fullmatch(value)
         return NUMBER.fullmatch(value) is not None or path is not None and self(path[1], depth + 1)
 
 
-def texts_in(value: object) -> Iterator[str]:
+def texts_in(value: Value) -> Iterator[str]:
     waiting = [value]
     while waiting:
         one = waiting.pop()

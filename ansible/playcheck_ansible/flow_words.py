@@ -1,8 +1,16 @@
 # SPDX-License-Identifier: MIT OR Apache-2.0
 # The passes over words of a task that change its flow, and over those that change neither flow nor variables.
+from __future__ import annotations
+
+from typing import TYPE_CHECKING, Callable, Dict
+
 from .kinds import asked_word, wrong_word
 from .nodes import Scalar, is_literal, made, plain
 from .values import as_int
+
+if TYPE_CHECKING:
+    from .books import Task
+    from .modules import Modules
 
 # Words that change neither the flow nor the variables.
 PASSED = ("tags", "become", "become_exe", "become_flags", "become_method", "become_user", "environment", "no_log",
@@ -13,7 +21,7 @@ FLOW = ("run_once", "any_errors_fatal", "ignore_unreachable", "delegate_facts", 
         "module_defaults", "max_fail_percentage")
 
 
-def flow_words(task, modules):
+def flow_words(task: Task, modules: Modules) -> None:
     """Words that change the flow, which the profile lacks: with them a task isn't judged."""
     for key in FLOW:
         node = task.words.get(key)
@@ -27,12 +35,12 @@ def flow_words(task, modules):
             return
 
 
-def checks_alone(task):
+def checks_alone(task: Task) -> bool:
     """In the check mode a module may be skipped, which its register would say."""
     return "register" in task.words
 
 
-def runs_for_all(task):
+def runs_for_all(task: Task) -> bool:
     """Of a task that is run for one host, the others get the result: it hangs on that host's condition and values.
 
     Where that host is unreachable the others get a result without fields, and read it where the play goes on. In no
@@ -43,23 +51,27 @@ def runs_for_all(task):
     facts = task.words.get("set_fact")
     hangs = task.is_below_condition or "when" in task.words or loops or task.is_outlived or task.is_free
     return ("register" in task.words and hangs
-            or facts is not None and not is_literal(facts) or not is_literal(task.words.get("run_once")))
+            or facts is not None and not is_literal(facts) or not is_literal(task.words["run_once"]))
 
 
-def is_left_running(task):
+def is_left_running(task: Task) -> bool:
     """A task that isn't waited for registers the number of its job; a template may say so."""
     poll = plain(as_int(task.words.get("poll") or made(None, task.place)))
     is_waited_for = poll is None or isinstance(poll, int) and poll > 0
     return "register" in task.words and not is_waited_for
 
 
-ONLY_BY_RESULT = {"check_mode": checks_alone, "run_once": runs_for_all, "async": is_left_running,
-                  "poll": lambda task: False}
+def is_never(task: Task) -> bool:
+    return False
 
 
-def pass_over(task, key):
+ONLY_BY_RESULT: Dict[str, Callable[[Task], bool]] = {
+    "check_mode": checks_alone, "run_once": runs_for_all, "async": is_left_running, "poll": is_never}
+
+
+def pass_over(task: Task, key: str) -> None:
     """Takes a word away, whose templates and kind are asked; those of a handler can't be."""
-    node = task.words.take(key)
+    node = task.words.pairs.pop(key)
     wrong = wrong_word(key, node)
     if task.is_handler and not is_literal(node):
         task.leave(f"`{key}` of a handler holds a template", node.place)
@@ -69,7 +81,7 @@ def pass_over(task, key):
         task.asked += asked_word(key, node)
 
 
-def passed_words(task, modules):
+def passed_words(task: Task, modules: Modules) -> None:
     """Words that change neither the flow nor variables: their templates are asked, and they are passed over."""
     for key in PASSED:
         if key in task.words:

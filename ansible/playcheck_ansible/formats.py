@@ -1,15 +1,22 @@
 # SPDX-License-Identifier: MIT OR Apache-2.0
 # Prints reports: for people with the place and a caret, and as JSON; pipelines.py has the other formats.
+from __future__ import annotations
+
+from typing import TYPE_CHECKING, Dict, List, Tuple
+
 from .pipelines import github_format, sarif_format
 from .positions import read_bytes
 from .printing import json_of, line_of
-from .problems import Problem
+from .problems import Place, Problem
 from .wording import message_of, not_judged_of, verdict_of
+
+if TYPE_CHECKING:
+    from .checking import Report, Unjudged
 
 RED, BOLD, PLAIN = "\033[31m", "\033[1m", "\033[0m"
 
 
-def excerpt(place, lines):
+def excerpt(place: Place, lines: List[str]) -> List[str]:
     """The line of a place with a caret under its column."""
     if not 0 < place.line <= len(lines):
         return []
@@ -18,11 +25,11 @@ def excerpt(place, lines):
     return [f"{place.line:>5} | {before}{after}", f"{'':5} | {blank}^"]
 
 
-def divided(text, at):
+def divided(text: str, at: int) -> Tuple[str, str]:
     return text[:at], text[at:]
 
 
-def excerpted(text):
+def excerpted(text: str) -> str:
     """A part of a line of a file, with its tabs."""
     return "\t".join(map(line_of, text.split("\t")))
 
@@ -30,10 +37,10 @@ def excerpted(text):
 class Sources:
     """The lines of the files that are shown, each read once."""
 
-    def __init__(self):
-        self.files = {}
+    def __init__(self) -> None:
+        self.files: Dict[str, List[str]] = {}
 
-    def lines(self, path):
+    def lines(self, path: str) -> List[str]:
         if path not in self.files:
             try:
                 self.files[path] = read_bytes(path).decode("utf-8-sig", "replace").splitlines()
@@ -42,7 +49,7 @@ class Sources:
         return self.files[path]
 
 
-def text_format(reports, has_colour):
+def text_format(reports: List[Report], has_colour: bool) -> str:
     sources = Sources()
     printed = []
     for report in reports:
@@ -58,11 +65,11 @@ def text_format(reports, has_colour):
     return "".join(line + "\n" for line in printed)
 
 
-def json_format(reports, has_colour):
+def json_format(reports: List[Report], has_colour: bool) -> str:
     return json_of({"books": [book_json(report) for report in reports]})
 
 
-def book_json(report):
+def book_json(report: Report) -> Dict[str, object]:
     return {
         "book": report.book,
         "verdict": "accepted" if report.is_accepted else "refused",
@@ -80,18 +87,18 @@ def book_json(report):
     }
 
 
-def place_json(one):
+def place_json(one: Unjudged) -> Dict[str, object]:
     return {"file": one.place.file, "line": one.place.line, "column": one.place.column, "name": one.name,
             "reason": one.reason}
 
 
-def gitlab_format(reports, has_colour):
+def gitlab_format(reports: List[Report], has_colour: bool) -> str:
     from .gitlab_junit import gitlab_format as printed  # read where it is wanted: it takes as long as all the rest
 
     return printed(reports, has_colour)
 
 
-def junit_format(reports, has_colour):
+def junit_format(reports: List[Report], has_colour: bool) -> str:
     from .gitlab_junit import junit_format as printed
 
     return printed(reports, has_colour)

@@ -1,12 +1,21 @@
 # SPDX-License-Identifier: MIT OR Apache-2.0
 # What a refusal of a host, a handler or a part of a block is about: hints that look at more of the book than one task.
+from __future__ import annotations
+
 import itertools
 import re
+from typing import TYPE_CHECKING, Iterable, List, Optional
 
+from .books import Play, Raw, Step, Task
+from .expressions import read_once
 from .hosts import divided
-from .names import expression_names, read_places
-from .nodes import plain, texts_of
+from .names import read_places
+from .nodes import Node, Scalar, plain, texts_of
 from .wording import Hint, named, nearest, shown, where
+
+if TYPE_CHECKING:
+    from .lines import Line
+    from .settling import Settler
 
 HOSTVARS = re.compile(r"hostvars\s*(?:\[\s*['\"]([^'\"]+)['\"]\s*\]|\.\s*(\w+))")
 GROUPS = re.compile(r"(?<![\w.])groups\s*(?:\[\s*['\"]([^'\"]+)['\"]\s*\]|\.\s*(\w+))")
@@ -17,7 +26,7 @@ OTHERS = ("hostvars", "ansible_play_batch")
 NEVER_FAIL = ("debug", "set_fact", "meta")
 
 
-def unknown_host(task, line, settler):
+def unknown_host(task: Task, line: Line, settler: Settler) -> Optional[Hint]:
     """A host or a group that an expression names and the inventory lacks."""
     hosts, groups = settler.inventory.hosts, {*settler.inventory.groups, "all", "ungrouped"}
     for expression, node in read_places(task.words, task.asked):
@@ -29,9 +38,9 @@ def unknown_host(task, line, settler):
     return None
 
 
-def unknown_hosts(play, settler):
+def unknown_hosts(play: Play, settler: Settler) -> Hint:
     """A word of a play's `hosts` that names nothing."""
-    node = play.words.get("hosts")
+    node = play.words["hosts"]
     known = {*settler.inventory.hosts, *settler.inventory.groups, "all", "ungrouped", "localhost"}
     for text in texts_of(node):
         for word in divided(text.value):
@@ -40,15 +49,15 @@ def unknown_hosts(play, settler):
     return Hint(node.place, f"hosts: {shown(node)}")
 
 
-def lacking(name, known, what):
+def lacking(name: str, known: Iterable[str], what: str) -> str:
     near = nearest(name, known)
     meant = f". Did you mean '{near}'?" if near else ""
     return f"the inventory has no {what} '{name}'{meant}"
 
 
-def other_host(task, line, settler):
+def other_host(task: Task, line: Line, settler: Settler) -> Optional[Hint]:
     """A variable of another host, which may be in another batch."""
-    serial = line.play.words.get("serial")
+    serial = line.play.words.get("serial") if line.play is not None else None
     later = f"be in another batch (serial: {plain(serial)})" if serial is not None else "not have come so far"
     for expression, node in read_places(task.words, task.asked):
         path = OTHER_HOST.search(expression)
@@ -58,26 +67,26 @@ def other_host(task, line, settler):
     return None
 
 
-def judged_by_others(task, line, settler):
+def judged_by_others(task: Task, line: Line, settler: Settler) -> Optional[Hint]:
     """What hangs on other hosts in the words that judge a result."""
     for key in ("changed_when", "failed_when", "until"):
         for text in texts_of(task.words.get(key)) if key in task.words else ():
-            read = [name for name in OTHERS if name in expression_names(text.value)]
+            read = [name for name in OTHERS if name in read_once(text.value).names]
             if read:
                 return Hint(text.place, f"`{key}` reads '{read[0]}'")
     return None
 
 
-def second_handler(task, line, settler):
+def second_handler(task: Task, line: Line, settler: Settler) -> Optional[Hint]:
     """A handler with the name of an earlier one."""
-    first = next((other for other in line.play.sections.get("handlers", []) if other.name == task.name), task)
-    place = task.written.get("name").place
+    first = next((other for other in line.handlers if other.name == task.name), task)
+    place = task.written["name"].place if "name" in task.written else task.place
     return Hint(place, f"it is that of an earlier one{where(first.place, place)}") if first is not task else None
 
 
-def earlier_handler(task, line, settler):
+def earlier_handler(task: Task, line: Line, settler: Settler) -> Optional[Hint]:
     """The handler that another one notifies, though it doesn't stand behind it."""
-    handlers = line.play.sections.get("handlers", [])
+    handlers = line.handlers
     place = next((number for number, other in enumerate(handlers) if other is task), -1)
     for text in texts_of(task.words.get("notify")) if "notify" in task.words else ():
         for other in handlers[:place + 1]:
@@ -87,11 +96,11 @@ def earlier_handler(task, line, settler):
     return None
 
 
-def topics(handler):
-    return [text.value for text in texts_of(handler.words.get("listen"))] if "listen" in handler.words else []
+def topics(handler: Step) -> List[str]:
+    return [text.value for text in texts_of(handler.words.get("listen"))] if not isinstance(handler, Raw) else []
 
 
-def entered_before(name, node, reader, giver, settler):
+def entered_before(name: str, node: Node, reader: Task, giver: Task, settler: Settler) -> str:
     """Of a name that a `rescue` or an `always` reads: the task whose failure leads there before the name is set."""
     for block in settler.blocks_round(reader):
         part = next((part for part in ("rescue", "always") if settler.is_in(reader, block, part)), "")
@@ -104,8 +113,8 @@ def entered_before(name, node, reader, giver, settler):
     return ""
 
 
-def may_fail(task):
+def may_fail(task: Task) -> bool:
     """Whether a failure of a task can lead out of its block."""
     ignores = task.words.get("ignore_errors")
-    is_ignored = ignores is not None and ignores.value is True and task.may_ignore is None
+    is_ignored = isinstance(ignores, Scalar) and ignores.value is True and task.may_ignore is None
     return not is_ignored and task.module() not in NEVER_FAIL

@@ -1,13 +1,19 @@
 # SPDX-License-Identifier: MIT OR Apache-2.0
 # Prints reports as GitLab's report of code quality and as JUnit's XML.
+from __future__ import annotations
+
 import hashlib
 import json
 import re
 import xml.etree.ElementTree as xml
+from typing import TYPE_CHECKING, Dict, List, Tuple, Union
 
 from .pipelines import NOT_JUDGED, left_of, path_of
 from .printing import json_of, line_of
 from .wording import message_of, not_judged_of, outcome_of, verdict_of
+
+if TYPE_CHECKING:
+    from .checking import Finding, Report, Unjudged
 
 # Places in texts, which move with lines that are put in before them.
 MOVING = re.compile(r"lines? \d+(?:, \d+)*|:\d+(?::\d+)?")
@@ -15,11 +21,13 @@ MOVING = re.compile(r"lines? \d+(?:, \d+)*|:\d+(?::\d+)?")
 NO_XML = re.compile("[^\t\n\r\x20-\ud7ff\ue000-\ufffd\U00010000-\U0010ffff]")
 
 
-def gitlab_format(reports, has_colour):
+def gitlab_format(reports: List[Report], has_colour: bool) -> str:
     """A list of issues; a finding keeps its fingerprint where only its line has moved."""
-    issues, seen = [], {}
+    issues: List[object] = []
+    seen: Dict[Tuple[str, ...], int] = {}
     for report in reports:
-        found = [(one.code, "critical", message_of(one), one) for one in report.findings]
+        found: List[Tuple[str, str, str, Union[Finding, Unjudged]]] = []
+        found += [(one.code, "critical", message_of(one), one) for one in report.findings]
         severity = "major" if report.is_strict else "info"
         found += [(NOT_JUDGED, severity, not_judged_text(one), one) for one in left_of(report)]
         for code, severity, text, one in found:
@@ -31,24 +39,24 @@ def gitlab_format(reports, has_colour):
     return json_of(issues)
 
 
-def fingerprint(parts):
+def fingerprint(parts: Tuple[object, ...]) -> str:
     return hashlib.sha256(json.dumps(parts).encode()).hexdigest()
 
 
-def not_judged_text(one):
+def not_judged_text(one: Unjudged) -> str:
     return f"not judged: {not_judged_of(one)}"
 
 
-def junit_format(reports, has_colour):
+def junit_format(reports: List[Report], has_colour: bool) -> str:
     """A suite for each book: a case for each finding and each task that isn't judged, and one where it is accepted."""
     suites = xml.Element("testsuites", name="playcheck")
     for report in reports:
         suite = xml.SubElement(suites, "testsuite", name=xml_text(report.book))
         for one in report.findings:
             add_case(suite, report, one, f"{one.code} {message_of(one)}", "failure", one.code)
-        for one in left_of(report):
+        for left in left_of(report):
             outcome = "failure" if report.is_strict else "skipped"
-            add_case(suite, report, one, not_judged_text(one), outcome, NOT_JUDGED)
+            add_case(suite, report, left, not_judged_text(left), outcome, NOT_JUDGED)
         if report.is_accepted:
             xml.SubElement(suite, "testcase", name=outcome_of(report), classname=xml_text(report.book))
         xml.SubElement(suite, "system-out").text = xml_text(verdict_of(report))
@@ -58,7 +66,7 @@ def junit_format(reports, has_colour):
     return f'<?xml version="1.0" encoding="UTF-8"?>\n{xml.tostring(suites, encoding="unicode")}\n'
 
 
-def add_case(suite, report, one, text, outcome, code):
+def add_case(suite: xml.Element, report: Report, one: Finding | Unjudged, text: str, outcome: str, code: str) -> None:
     case = xml.SubElement(suite, "testcase", name=xml_text(text), classname=xml_text(report.book),
                           file=xml_text(one.place.file))
     if one.place.line:
@@ -69,13 +77,13 @@ def add_case(suite, report, one, text, outcome, code):
         told.text = xml_text(f"{one.place}: {text}")
 
 
-def count_cases(element, below):
+def count_cases(element: xml.Element, below: xml.Element) -> None:
     element.set("tests", str(len(list(below.iter("testcase")))))
     element.set("failures", str(len(list(below.iter("failure")))))
     element.set("errors", "0")
     element.set("skipped", str(len(list(below.iter("skipped")))))
 
 
-def xml_text(text):
+def xml_text(text: str) -> str:
     """A text in one line, with a sign in the place of each letter that XML can't have."""
     return NO_XML.sub("\ufffd", line_of(text))

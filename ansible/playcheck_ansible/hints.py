@@ -1,18 +1,26 @@
 # SPDX-License-Identifier: MIT OR Apache-2.0
 # Where in a task a refusal points to, what it is about, and what may have been meant: by the texts, after the answer.
+from __future__ import annotations
+
 import re
 from dataclasses import dataclass
+from typing import TYPE_CHECKING, Iterable, List, Optional, Set, Tuple
 
-from .books import TASK_WORDS, Block, Play, Task, is_module
+from .books import TASK_WORDS, Block, Holder, Play, Raw, Task, is_module
+from .expressions import read_once
 from .further_facts import FURTHER
 from .further_hints import (earlier_handler, entered_before, judged_by_others, other_host, second_handler, unknown_host,
                             unknown_hosts)
 from .modules import PROFILE
-from .names import (CONDITIONS, FACTS, GRAMMAR, expression_names, given_names, names_of_vars, read_places,
-                    without_texts)
-from .nodes import Mapping, texts_of
+from .names import CONDITIONS, FACTS, GRAMMAR, Read, given_names, names_of_vars, read_places
+from .nodes import Mapping, Node, Scalar, Text, texts_of
 from .problems import Place
 from .wording import Hint, named, nearest, shown, where
+
+if TYPE_CHECKING:
+    from .lines import Line
+    from .program import Answer
+    from .settling import Settler
 
 GUARD = r"\s*(?:is\s+(?:not\s+)?(?:defined|undefined)|\|\s*default)"
 DEFAULTED = re.compile(r"\s*([A-Za-z_][\w.]*)\s*\|\s*default\([^()]*\)\s*")
@@ -27,33 +35,27 @@ class Culprit:
     place: Place
 
 
-def culprit(task, known):
+def culprit(task: Task, known: Set[str]) -> Optional[Culprit]:
     """The first name that a task reads without a guard and that is set nowhere."""
     places = list(read_places(task.words, task.asked))
     return culprit_in([place for place in places if place[1].is_first], known) or \
         culprit_in([place for place in places if not place[1].is_first], known)
 
 
-def culprit_in(places, known):
+def culprit_in(places: List[Read], known: Set[str]) -> Optional[Culprit]:
     for expression, node in places:
-        for name in ordered_names(expression):
+        for name in [token.text for token in read_once(expression).reads]:
             if name not in known and name not in GRAMMAR and not is_guarded(name, places):
                 return Culprit(name, node.place)
     return None
 
 
-def ordered_names(expression):
-    bare = without_texts(expression)
-    found = [match[0] for match in re.finditer(r"(?<![\w.])[A-Za-z_]\w*", bare)]
-    return [name for name in found if name in expression_names(expression)]
-
-
-def is_guarded(name, places):
+def is_guarded(name: str, places: List[Read]) -> bool:
     guard = re.compile(rf"\b{re.escape(name)}{GUARD}")
     return any(guard.search(expression) for expression, _ in places)
 
 
-def first_text(task):
+def first_text(task: Task) -> Optional[Text]:
     """The first text that holds an expression."""
     for _, node in read_places(task.words, task.asked):
         if node.place.line:
@@ -61,7 +63,7 @@ def first_text(task):
     return None
 
 
-def key_place(task, keys):
+def key_place(task: Task, keys: Iterable[str]) -> Optional[Place]:
     for key in keys:
         node = task.written.get(key)
         if node is not None:
@@ -69,20 +71,20 @@ def key_place(task, keys):
     return None
 
 
-def module_place(task):
+def module_place(task: Task) -> Place:
     """Where the arguments of a task's module stand."""
     keys = [key for key in task.written.pairs if key.split(".")[-1] == (task.module() or "").split(".")[-1]]
     node = task.written.get(keys[0]) if keys else None
     return node.place if node is not None else task.place
 
 
-def hint(answer, line, settler):
+def hint(answer: Answer, line: Optional[Line], settler: Settler) -> Hint:
     """The place, the detail and the help of a refusal."""
     if line is None:
         return Hint(Place(settler.book.file))
     step = line.step
     if not isinstance(step, Task):
-        return of_holder(answer, line, settler)
+        return of_holder(answer, line.source, line, settler)
     maker = {"V01": unset, "V03": missing, "V04": wrong_kind, "V05": unheard, "V07": parameter, "V08": reserved,
              "V10": chain, "V02": other_host, "P05": several, "P09": second_handler, "V06": unknown_host,
              "V09": judged_by_others, "V12": earlier_handler}.get(answer.code)
@@ -93,20 +95,19 @@ def hint(answer, line, settler):
 DEFAULT_KEYS = {"V09": ("changed_when", "failed_when", "until"), "V12": ("notify",), "P09": ("name",)}
 
 
-def of_holder(answer, line, settler):
-    holder = line.step or line.play
+def of_holder(answer: Answer, holder: Holder | Raw, line: Line, settler: Settler) -> Hint:
     if answer.code == "V10":
-        return chain(line.step, line, settler) or Hint(holder.place)
-    if answer.code == "V06" and isinstance(holder, Play) and holder.words.get("hosts") is not None:
+        return chain(holder, line, settler) or Hint(holder.place)
+    if answer.code == "V06" and isinstance(holder, Play) and "hosts" in holder.words:
         return unknown_hosts(holder, settler)
-    if line.kind == "condition":
-        return Hint(holder.words.get("when").place)
+    if line.kind == "condition" and isinstance(holder, Block) and "when" in holder.words:
+        return Hint(holder.words["when"].place)
     if line.kind == "asked" and isinstance(holder, (Play, Block)) and holder.asked:
         return of_words(answer, holder, settler)
     return Hint(holder.place)
 
 
-def of_words(answer, holder, settler):
+def of_words(answer: Answer, holder: Play | Block, settler: Settler) -> Hint:
     """Of the words of a play or a block that are passed over."""
     places = list(read_places(Mapping({}, holder.place), holder.asked))
     names = settler.names_in_scope(holder)
@@ -114,7 +115,7 @@ def of_words(answer, holder, settler):
     return nowhere(found, names, settler) if found else Hint(places[0][1].place if places else holder.place)
 
 
-def unset(task, line, settler):
+def unset(task: Task, line: Line, settler: Settler) -> Optional[Hint]:
     names = settler.names_in_scope(task)
     found = culprit(task, names)
     if not found:
@@ -127,17 +128,17 @@ def unset(task, line, settler):
     return nowhere(found, names, settler)
 
 
-def nowhere(found, names, settler):
+def nowhere(found: Culprit, names: Set[str], settler: Settler) -> Hint:
     """A name that nothing sets, and the one that may be meant."""
     near = nearest(found.name, names - GRAMMAR)
     meant = f". Did you mean '{near}'{where(settler.place_of_name(near), found.place)}?" if near else ""
     return Hint(found.place, f"'{found.name}' is set nowhere: not in this book, not in the inventory{meant}")
 
 
-def reading_hint(task, line, settler):
+def reading_hint(task: Task, line: Line, settler: Settler) -> Optional[Hint]:
     """A name that is set on some ways alone."""
     for expression, node in read_places(task.words, task.asked):
-        for name in ordered_names(expression):
+        for name in [token.text for token in read_once(expression).reads]:
             if name in PERHAPS_FACTS or name in FURTHER and name not in settler.given():
                 return Hint(node.place, f"'{name}' is a fact that is perhaps missing",
                             f"Guard: when: {name} is defined, or {name} | default('')")
@@ -146,21 +147,21 @@ def reading_hint(task, line, settler):
                 told = (entered_before(name, node, task, giver, settler)
                         or f"'{name}' is set by {named(giver, node.place)}, which some way to here passes by")
                 return Hint(node.place, told, f"Guard: when: {name} is defined")
-    node = first_text(task)
-    return Hint(node.place) if node is not None else None
+    first = first_text(task)
+    return Hint(first.place) if first is not None else None
 
 
-def missing(task, line, settler):
+def missing(task: Task, line: Line, settler: Settler) -> Optional[Hint]:
     for expression, node in read_places(task.words, task.asked):
-        for path in re.findall(r"(?<![\w.])([A-Za-z_]\w*)\.([A-Za-z_]\w*)", without_texts(expression)):
+        for path in read_once(expression).fields:
             giver = settler.giver(path[0])
             if giver is not None:
                 return missing_of(path, node, giver, settler)
-    node = first_text(task)
-    return Hint(node.place) if node is not None else None
+    first = first_text(task)
+    return Hint(first.place) if first is not None else None
 
 
-def missing_of(path, node, giver, settler):
+def missing_of(path: Tuple[str, str], node: Node, giver: Task, settler: Settler) -> Hint:
     text = ".".join(path)
     by = named(giver, node.place)
     when = settler.condition(giver)
@@ -174,8 +175,8 @@ def missing_of(path, node, giver, settler):
 WANTED = {"bool": "a truth value", "int": "a whole number", "text": "a text"}
 
 
-def wrong_kind(task, line, settler):
-    wanted = [node for node in line.nodes if getattr(node, "wanted", "")] if line.kind == "asked" else []
+def wrong_kind(task: Task, line: Line, settler: Settler) -> Optional[Hint]:
+    wanted = [node for node in line.nodes if isinstance(node, Scalar) and node.wanted] if line.kind == "asked" else []
     if len(wanted) == 1:
         return Hint(wanted[0].place, f"{WANTED[wanted[0].wanted]} is wanted here")
     for key in CONDITIONS:
@@ -188,12 +189,12 @@ def wrong_kind(task, line, settler):
         found = DEFAULTED.fullmatch(expression)
         if found:
             return Hint(node.place, f"'{found[1]}' and its default may be of two kinds")
-    node = first_text(task)
-    return Hint(node.place) if node is not None else None
+    first = first_text(task)
+    return Hint(first.place) if first is not None else None
 
 
-def unheard(task, line, settler):
-    handlers = [one for one in line.play.sections.get("handlers", []) if isinstance(one, Task)]
+def unheard(task: Task, line: Line, settler: Settler) -> Optional[Hint]:
+    handlers = [one for one in line.handlers if isinstance(one, Task)]
     known = {one.name: one for one in handlers}
     for one in handlers:
         if "listen" in one.words:
@@ -206,11 +207,11 @@ def unheard(task, line, settler):
     return None
 
 
-def parameter(task, line, settler):
+def parameter(task: Task, line: Line, settler: Settler) -> Optional[Hint]:
     module = task.module()
     node = task.words.get(module) if module else None
-    known = set(settler.modules.parameters.get(module, {}))
-    if not isinstance(node, Mapping) or not known:
+    known = set(settler.modules.parameters.get(module or "", {}))
+    if module is None or not isinstance(node, Mapping) or not known:
         return None
     documented = settler.modules.documented.get(module)
     called = documented.name if documented is not None else module
@@ -224,14 +225,14 @@ def parameter(task, line, settler):
     return Hint(place, f"{called} has no parameter '{unknown}'.{meant} Known: {listed}")
 
 
-def reserved(task, line, settler):
+def reserved(task: Task, line: Line, settler: Settler) -> Optional[Hint]:
     node = task.written.get("register") or task.written.get("vars") or task.written.get(task.module() or "")
     names = given_names(task) | names_of_vars(task.words)
     detail = f"'{sorted(names)[0]}'" if len(names) == 1 else ""
     return Hint(node.place, detail) if node is not None else None
 
 
-def chain(task, line, settler):
+def chain(task: Holder | Raw, line: Line, settler: Settler) -> Optional[Hint]:
     found = settler.cycle()
     if not found:
         return None
@@ -240,7 +241,7 @@ def chain(task, line, settler):
     return Hint(found[0][1], f"vars go round: {' -> '.join(name for name, _ in found)} ({told})")
 
 
-def several(task, line, settler):
+def several(task: Task, line: Line, settler: Settler) -> Optional[Hint]:
     found = [key for key in task.words.pairs if is_module(key)]
     for key in found:
         near = nearest(key, TASK_WORDS)

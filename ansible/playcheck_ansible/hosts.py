@@ -1,26 +1,32 @@
 # SPDX-License-Identifier: MIT OR Apache-2.0
 # Patterns of hosts that the profile lacks are put in as the hosts that they name; and Ansible's own localhost.
+from __future__ import annotations
+
 import fnmatch
 import re
+from typing import TYPE_CHECKING, Dict, List, Match, Optional
 
 from .inventory import BASE, Inventory
 from .inventory_names import LONGEST
 from .matching import SlowPattern, matching
-from .nodes import has_template, is_text, made, texts_of
+from .nodes import has_template, made, texts_of
+
+if TYPE_CHECKING:
+    from .books import Play
 
 LOCAL = ("localhost", "127.0.0.1", "::1")
 NO_HOSTS = "playcheck_no_hosts"
 NO_MATCH = "no host of the inventory is of the play's `hosts`, so Ansible passes it over"
 
 
-def host_patterns(play, inventory, added, is_given):
+def host_patterns(play: Play, inventory: Inventory, added: List[str], is_given: bool) -> None:
     """Names the hosts of a pattern with `!`, `&`, `*`, `~` or a range, and of `all` where a localhost was added.
 
     A play without a host isn't judged, but where no inventory is given.
     """
     node = play.words.get("hosts")
-    texts = [text.value for text in texts_of(node) if is_text(text)] if node is not None else []
-    if not texts or any(has_template(text) for text in texts):
+    texts = [text.value for text in texts_of(node)]
+    if node is None or not texts or any(has_template(text) for text in texts):
         return
     words = [word for text in texts for word in divided(text)]
     hides_local = added and not set(words) & set(LOCAL) and set(words) & {"all", "ungrouped"}
@@ -50,7 +56,7 @@ def empty_group(inventory: Inventory) -> str:
     return there
 
 
-def divided(text):
+def divided(text: str) -> List[str]:
     """The words of a pattern: a colon in brackets is that of a range."""
     ends, begins, is_inside = [len(text)], [], False
     for mark in reversed(list(re.finditer(r"[\[\],:]", text))):
@@ -63,10 +69,10 @@ def divided(text):
     return [word for word in reversed(words) if word]
 
 
-def matched(words, inventory, added):
+def matched(words: List[str], inventory: Inventory, added: List[str]) -> Optional[List[str]]:
     """The hosts of a pattern by Ansible's rules, or None where a word of it names nothing."""
     words = list(dict.fromkeys(words))
-    hosts = {}  # in their order
+    hosts: Dict[str, None] = {}  # in their order
     first = [word for word in words if word[0] not in "!&"] or ["all"]
     for word in first:
         some = of_word(word, inventory, added)
@@ -83,7 +89,7 @@ def matched(words, inventory, added):
     return list(hosts)
 
 
-def of_word(word, inventory, added):
+def of_word(word: str, inventory: Inventory, added: List[str]) -> Optional[List[str]]:
     match = re.fullmatch(r"(.+)\[(-?\d+)(?:(:)(-?\d*))?\]", word)
     if match:
         some = of_word(match[1], inventory, added)
@@ -101,7 +107,7 @@ def of_word(word, inventory, added):
     return None
 
 
-def of_glob(word, inventory, added):
+def of_glob(word: str, inventory: Inventory, added: List[str]) -> Optional[List[str]]:
     """The hosts of a pattern with signs, or None where it is none or longer than any name."""
     if len(word) > LONGEST:
         return None
@@ -116,7 +122,7 @@ def of_glob(word, inventory, added):
     return list(dict.fromkeys(host for name in fitting for host in inventory.hosts_of(name)))
 
 
-def ranged(hosts, match):
+def ranged(hosts: List[str], match: Match[str]) -> List[str]:
     """The part of a list that `[1]`, `[0:3]` or `[1:]` names; its end is of it."""
     first = int(match[2])
     if not match[3]:
@@ -125,10 +131,10 @@ def ranged(hosts, match):
     return hosts[first:last + 1 if last != -1 else None]
 
 
-def with_localhost(inventory, plays):
+def with_localhost(inventory: Inventory, plays: List[Play]) -> List[str]:
     """Adds the localhost that Ansible has of itself, where a play names it and the inventory lacks it."""
-    named = {word for play in plays if play.words.get("hosts") is not None
-             for text in texts_of(play.words.get("hosts")) if is_text(text) for word in divided(text.value)}
+    named = {word for play in plays
+             for text in texts_of(play.words.get("hosts")) for word in divided(text.value)}
     missing = [name for name in LOCAL if name in named and name not in inventory.hosts
                and name not in inventory.groups]
     for name in missing:

@@ -9,7 +9,8 @@ class Inclusions:
 
     def __init__(self, play: Play) -> None:
         self.bringers: "dict[str, set[str]]" = {}  # a handler's name or topic to the folders of the roles that bring it
-        for handler in play.sections.get("handlers", []):
+        handlers = [step for step in play.sections.get("handlers", []) if isinstance(step, Task)]
+        for handler in handlers:
             for topic in topics_of(handler):
                 self.bringers.setdefault(topic, set()).add(handler.comes_with)
 

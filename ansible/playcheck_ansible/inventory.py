@@ -1,30 +1,42 @@
 # SPDX-License-Identifier: MIT OR Apache-2.0
 # The inventory of a book: groups, hosts and their variables, in the one form that the program reads.
-import os
-from typing import Any, Dict, Iterable, List, Optional, Set, Tuple
+from __future__ import annotations
 
-from .ansible_core import Trust
+import os
+from typing import TYPE_CHECKING, Dict, Iterable, Iterator, List, Optional, Set, Tuple, TypedDict
+
 from .inventory_layers import Layers
 from .inventory_sources import read_source
-from .nodes import Mapping, has_template, is_nothing, is_text, plain
+from .nodes import Mapping, Record, Value, has_template, is_nothing, is_text, plain_pairs
 from .positions import read_file
 from .problems import Place, Problem
+
+if TYPE_CHECKING:
+    from .ansible_core import Trust
 
 SUFFIXES = ("", ".yml", ".yaml", ".json")
 BASE = ("all", "ungrouped")
 MOST_LEVELS = 16
 
 
+class Group(TypedDict):
+    """The hosts and the groups that a group lists, and its own variables."""
+
+    hosts: List[str]
+    vars: Record
+    children: List[str]
+
+
 class Inventory:
     """Groups, variables of groups and of hosts, as `ansible-inventory --list` has them."""
 
     def __init__(self) -> None:
-        self.groups: Dict[str, Dict[str, Any]] = {}  # a name to {"hosts": [..], "vars": {..}, "children": [..]}
-        self.hosts: Dict[str, Dict[str, Any]] = {}  # a name to its variables
+        self.groups: Dict[str, Group] = {}
+        self.hosts: Dict[str, Record] = {}  # a name to its variables
         self.listed: Set[Tuple[str, str]] = set()  # the hosts and the children that groups list, each with its group
         self.unsettled: Dict[str, str] = {}  # variables of which it isn't known which place wins, with the reason
 
-    def group(self, name: str) -> Dict[str, Any]:
+    def group(self, name: str) -> Group:
         return self.groups.setdefault(name, {"hosts": [], "vars": {}, "children": []})
 
     def add_hosts(self, group: str, names: Iterable[str]) -> None:
@@ -73,18 +85,19 @@ class Inventory:
     def children_of(self, name: str) -> List[str]:
         return self.groups[name]["children"] if name in self.groups else []
 
-    def json(self):
-        groups = {name: {key: part for key, part in group.items() if part or key == "hosts"}
-                  for name, group in self.groups.items()}
+    def json(self) -> Dict[str, object]:
+        groups: Dict[str, Dict[str, object]] = {
+            name: {key: part for key, part in group.items() if part or key == "hosts"}
+            for name, group in self.groups.items()}
         groups.setdefault("all", {"hosts": []})
         listed = {host for group in self.groups.values() for host in group["hosts"]}
         alone = [host for host in self.hosts if host not in listed]
         if alone:
-            ungrouped = groups.setdefault("ungrouped", {"hosts": []})
-            ungrouped["hosts"] = [*ungrouped.get("hosts", []), *alone]
+            before = self.groups["ungrouped"]["hosts"] if "ungrouped" in self.groups else []
+            groups.setdefault("ungrouped", {})["hosts"] = [*before, *alone]
         return {**groups, "_meta": {"hostvars": {host: given for host, given in self.hosts.items() if given}}}
 
-    def all_hosts(self):
+    def all_hosts(self) -> List[str]:
         """The hosts in the order in which the groups list them."""
         listed = [host for name in sorted(self.groups) for host in self.groups[name]["hosts"]]
         return list(dict.fromkeys([*listed, *self.hosts]))
@@ -105,28 +118,28 @@ class Inventory:
                 waiting += reversed(self.groups[one]["children"])
         return list(found)
 
-    def variables(self):
+    def variables(self) -> Iterator[Tuple[str, Value]]:
         for group in self.groups.values():
             yield from group["vars"].items()
         for given in self.hosts.values():
             yield from given.items()
 
-    def names(self):
+    def names(self) -> Set[str]:
         return {name for name, _ in self.variables()}
 
-    def all_have(self, name):
+    def all_have(self, name: str) -> bool:
         """Whether each host has a variable, by itself or by a group."""
         having = {host for group, parts in self.groups.items() if name in parts["vars"]
                   for host in self.hosts_of(group)}
         return all(host in having or name in given for host, given in self.hosts.items())
 
-    def opaque_names(self):
+    def opaque_names(self) -> Dict[str, str]:
         """Variables that the program may not read, with the reason."""
         return {name: f"the inventory's '{name}' holds a template or a decimal number"
                 for name, value in self.variables() if is_opaque(value)} | self.unsettled
 
 
-def is_opaque(value):
+def is_opaque(value: Value) -> bool:
     if isinstance(value, dict):
         return any(is_opaque(part) for part in value.values())
     if isinstance(value, list):
@@ -167,7 +180,7 @@ def add_variable_files(inventory: Inventory, folder: str, layers: Layers, is_of_
             inventory.hosts[name].update(given)
 
 
-def variable_files(folder, kind, name):
+def variable_files(folder: str, kind: str, name: str) -> List[Record]:
     """The variables of a group or a host: of the first file of its name, or of all files of such a folder."""
     if "/" in name or name in ("", ".", ".."):
         return []
@@ -194,10 +207,10 @@ def files_below(folder: str, levels: int = 0) -> List[str]:
     return found
 
 
-def variables_in(path):
+def variables_in(path: str) -> Record:
     node = read_file(path)
     if is_nothing(node) or is_text(node) and node.value.startswith("$ANSIBLE_VAULT"):
         return {}
     if not isinstance(node, Mapping):
         raise Problem(node.place, "a mapping of variables is wanted")
-    return plain(node)
+    return plain_pairs(node)

@@ -1,15 +1,18 @@
 # SPDX-License-Identifier: MIT OR Apache-2.0
 # Reads inventories in Ansible's INI form: hosts, groups, children and variables, each fault told by its line.
+from __future__ import annotations
+
 import re
 import warnings
 from typing import TYPE_CHECKING, Dict, List, NoReturn, Optional, Tuple
 
 from .inventory_names import NameFault, host_names
-from .inventory_values import Plain, value_of, words_of
+from .inventory_values import value_of, words_of
 from .problems import Place, Problem
 
 if TYPE_CHECKING:
     from .inventory import Inventory
+    from .nodes import Value
 
 SECTION = re.compile(r"\[([^:\]\s]+)(?::(\w+))?\]\s*(?:#.*)?")
 GROUP = re.compile(r"([^:\]\s]+)\s*(?:#.*)?")
@@ -118,7 +121,7 @@ class Reader:
             for variable, value in variables:
                 self.set_variable(name, variable, value)
 
-    def assigned(self, word: str) -> Tuple[str, Plain]:
+    def assigned(self, word: str) -> Tuple[str, Value]:
         name, sign, value = word.partition("=")
         if not sign:
             self.fault(f"a variable as name=value is wanted, not {word}")
@@ -129,17 +132,22 @@ class Reader:
         if len(self.inventory.hosts) > MOST_HOSTS:
             self.fault(f"more than {MOST_HOSTS:,} hosts")
 
-    def set_variable(self, owner: str, name: str, value: Plain) -> None:
+    def set_variable(self, owner: str, name: str, value: Value) -> None:
         """A variable of a group of this name, or else of a host."""
         if not self.is_there(owner):
             self.inventory.hosts[owner][name] = value
             return
         if name == PRIORITY:
-            try:
-                value = int(value)  # type: ignore[arg-type]
-            except (TypeError, ValueError, OverflowError):
-                self.fault(f"`{PRIORITY}` is no whole number")
+            value = self.priority(value)
         self.inventory.group(owner)["vars"][name] = value
+
+    def priority(self, value: Value) -> int:
+        try:
+            if isinstance(value, (int, float, str)):
+                return int(value)
+        except (ValueError, OverflowError):
+            pass
+        self.fault(f"`{PRIORITY}` is no whole number")
 
     def take_variable(self, line: str) -> None:
         name, sign, text = line.partition("=")

@@ -4,6 +4,7 @@ from __future__ import annotations
 
 from typing import TYPE_CHECKING, Dict, List, Optional, Set, Tuple
 
+from .nodes import Value
 from .precedence import Source
 
 if TYPE_CHECKING:
@@ -14,7 +15,7 @@ MOST_ASKED = 1_000_000
 MOST_WRITTEN = 65_536
 PRIORITY = "ansible_group_priority"
 
-Values = Dict[str, object]
+Values = Dict[str, Value]
 
 
 class Layers:

@@ -1,5 +1,7 @@
 # SPDX-License-Identifier: MIT OR Apache-2.0
 # Names of hosts in inventories as Ansible reads them: with ports, and with ranges as web[01:10].
+from __future__ import annotations
+
 import re
 import string
 from typing import List, Optional, Tuple

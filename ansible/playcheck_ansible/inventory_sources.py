@@ -1,16 +1,18 @@
 # SPDX-License-Identifier: MIT OR Apache-2.0
 # Reads what `-i` names: a list of hosts, a file in INI, YAML or JSON, a folder of such; programs only where they may.
+from __future__ import annotations
+
 import json
 import os
 import re
 from functools import lru_cache
-from typing import TYPE_CHECKING, Any, Dict
+from typing import TYPE_CHECKING
 
 from .ansible_core import READERS, RUN, Trust, run_ansible
 from .inventory_ini import read_ini
 from .inventory_names import divided_port
 from .inventory_yaml import is_listed, take_groups, take_listed
-from .nodes import Mapping, is_nothing, plain
+from .nodes import Mapping, Record, is_nothing, plain, plain_pairs
 from .positions import node_of, read_bytes, text_in
 from .printing import told
 from .problems import Place, Problem
@@ -127,7 +129,7 @@ def read_yaml(inventory: "Inventory", path: str, data: bytes, trust: Trust) -> b
         may_run(path, f"for the plugin {plain(plugin)}", trust)
         return take_asked(inventory, path, trust)
     if is_listed(node):
-        take_listed(inventory, plain(node))
+        take_listed(inventory, plain_pairs(node))
     else:
         take_groups(inventory, node)
     return bool(node.pairs)
@@ -137,13 +139,15 @@ def take_asked(inventory: "Inventory", path: str, trust: Trust, plugins: str = R
     """Adds what `ansible-inventory` says of a file or a folder."""
     value = asked(os.path.abspath(path), path, trust, plugins)
     take_listed(inventory, value)
-    names = {name for name, group in value.items() if name not in ("_meta", "all", "ungrouped") or group.get("hosts")
-             or group.get("vars")}
-    return bool(names) or bool(value.get("_meta", {}).get("hostvars"))
+    names = {name for name, group in value.items() if name not in ("_meta", "all", "ungrouped")
+             or isinstance(group, list) and group
+             or isinstance(group, dict) and (group.get("hosts") or group.get("vars"))}
+    meta = value.get("_meta")
+    return bool(names) or isinstance(meta, dict) and bool(meta.get("hostvars"))
 
 
 @lru_cache(64)
-def asked(path: str, shown: str, trust: Trust, plugins: str) -> Dict[str, Any]:
+def asked(path: str, shown: str, trust: Trust, plugins: str) -> Record:
     """What `ansible-inventory` prints; its warnings are told, once for all books."""
     place = Place(shown)
     said, warned, status = run_ansible("ansible-inventory", ["-i", path, "--list"], SECONDS, trust, place, plugins)

@@ -1,8 +1,13 @@
 # SPDX-License-Identifier: MIT OR Apache-2.0
 # Words and values of inventories in INI: a line divided as a shell does, and values that Python's literals write.
+from __future__ import annotations
+
 import ast
 import re
-from typing import Any, Dict, List, Union
+from typing import TYPE_CHECKING, List, Match
+
+if TYPE_CHECKING:
+    from .nodes import Value
 
 MOST_LEVELS = 30
 # In the place of a value that no JSON has: a decimal number, which is held and not read.
@@ -12,9 +17,6 @@ PIECES = re.compile(r"""'(?P<single>[^']*)'|"(?P<double>(?:[^"\\]|\\.)*)"|\\(?P<
                     r"""(?P<plain>[^ \t\r\n'"\\#]+)""", re.S)
 ESCAPED = re.compile(r"""\\(["\\])""")
 SURROGATE = re.compile("[\ud800-\udfff]")
-
-Plain = Union[None, bool, int, float, str, List[Any], Dict[str, Any]]
-
 
 def words_of(line: str) -> List[str]:
     """The words of a line, without a comment; a ValueError where a quote isn't closed."""
@@ -41,7 +43,7 @@ def text_of(piece: "re.Match[str]") -> str:
     return ESCAPED.sub(r"\1", piece[kind]) if kind == "double" else piece[kind]
 
 
-def value_of(text: str) -> Plain:
+def value_of(text: str) -> Value:
     """A value as Python writes it; any other text is itself. A ValueError where Ansible can't read it either."""
     try:
         found = ast.literal_eval(text)
@@ -54,7 +56,7 @@ def value_of(text: str) -> Plain:
     return plain_of(found.decode() if isinstance(found, bytes) else found, 0)
 
 
-def plain_of(found: object, levels: int) -> Plain:
+def plain_of(found: object, levels: int) -> Value:
     """A value as JSON has it; what it can't have is held as a value that isn't read."""
     if found is None or isinstance(found, (bool, int)):
         return found if not isinstance(found, int) or found.bit_length() < 4096 else OPAQUE

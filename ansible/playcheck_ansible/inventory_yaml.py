@@ -1,9 +1,11 @@
 # SPDX-License-Identifier: MIT OR Apache-2.0
 # Takes inventories in YAML and JSON: Ansible's own form with groups inside one another, and that of programs.
-from typing import TYPE_CHECKING, Any, Dict, List, Optional, Tuple
+from __future__ import annotations
+
+from typing import TYPE_CHECKING, List, Optional, Tuple
 
 from .inventory_names import NameFault, host_names
-from .nodes import Mapping, Node, Scalar, Sequence, is_nothing, is_text, plain
+from .nodes import Mapping, Node, Record, Scalar, Sequence, is_nothing, is_text, plain, plain_pairs
 from .problems import Place, Problem
 
 if TYPE_CHECKING:
@@ -16,7 +18,7 @@ def is_listed(node: Mapping) -> bool:
         isinstance(part.get(key), Sequence) for key in ("hosts", "children")) for part in node.pairs.values())
 
 
-def take_listed(inventory: "Inventory", value: Dict[str, Any]) -> None:
+def take_listed(inventory: "Inventory", value: Record) -> None:
     for name, group in value.items():
         if name == "_meta":
             continue
@@ -32,15 +34,16 @@ def take_listed(inventory: "Inventory", value: Dict[str, Any]) -> None:
         inventory.hosts.setdefault(host, {}).update(mapping_in(hosts, host, "hostvars"))
 
 
-def names_in(group: Dict[str, Any], key: str, name: str) -> List[str]:
+def names_in(group: Record, key: str, name: str) -> List[str]:
     """The texts of a list, of nothing none."""
     found = group.get(key) or []
-    if not isinstance(found, list) or not all(isinstance(one, str) for one in found):
+    names = [one for one in found if isinstance(one, str)] if isinstance(found, list) else None
+    if names is None or names != found:
         raise Problem(None, f"`{key}` of '{name}' in the inventory is no list of names")
-    return found
+    return names
 
 
-def mapping_in(group: Dict[str, Any], key: str, name: str) -> Dict[str, Any]:
+def mapping_in(group: Record, key: str, name: str) -> Record:
     found = group.get(key) or {}
     if not isinstance(found, dict):
         raise Problem(None, f"`{key}` of '{name}' in the inventory is no mapping")
@@ -76,14 +79,14 @@ def take_hosts(inventory: "Inventory", group: str, pattern: str, given: Node, pl
         raise Problem(place, str(error)) from None
     for name in names:
         inventory.add_host(group, name, port)
-        inventory.hosts[name].update(plain(given) if isinstance(given, Mapping) else {})
+        inventory.hosts[name].update(plain_pairs(given) if isinstance(given, Mapping) else {})
 
 
 def pairs_of(node: Optional[Node], what: str) -> List[Tuple[str, Node]]:
     if node is None or is_nothing(node):
         return []
     if is_text(node):
-        return [(plain(node), Scalar(None, node.place))]
+        return [(node.value, Scalar(None, node.place))]
     if not isinstance(node, Mapping):
         raise Problem(node.place, f"`{what}` is a mapping in an inventory of this form")
     return list(node.pairs.items())

@@ -4,14 +4,15 @@ from __future__ import annotations
 
 import re
 from dataclasses import replace
-from typing import TYPE_CHECKING, Iterable
+from typing import TYPE_CHECKING, Dict, Iterable, Tuple
 
-from .nodes import Mapping, Scalar, Sequence, is_literal, is_nothing, is_text
-from .values import FALSE_WORDS, TRUE_WORDS, is_whole, without_omit
+from .identifiers import NAME
+from .nodes import Mapping, Node, Scalar, Sequence, Text, is_literal, is_nothing, is_text
+from .truths import FALSE_WORDS, TRUE_WORDS
+from .values import is_whole, without_omit
 
 if TYPE_CHECKING:
     from .literals import Values
-    from .precedence import Node
 
 KINDS = {
     **dict.fromkeys(("become", "diff", "no_log", "check_mode", "ignore_errors", "run_once", "any_errors_fatal",
@@ -23,7 +24,7 @@ KINDS = {
 # Words that take neither a list nor a mapping, those that take one text or a list, and the texts that a word may be.
 TEXTS = ("become_exe", "become_flags", "become_method", "become_user", "connection", "debugger", "delegate_to",
          "remote_user")
-LISTS = {"collections": str, "tags": (str, int)}
+LISTS: Dict[str, Tuple[type, ...]] = {"collections": (str,), "tags": (str, int)}
 CHOICES = {"debugger": ("always", "never", "on_failed", "on_skipped", "on_unreachable", ""),
            "order": ("inventory", "sorted", "reverse_sorted", "reverse_inventory", "shuffle")}
 # Asked before the condition of their task, and not for each item.
@@ -31,7 +32,6 @@ FIRST = ("throttle",)
 # Expressions that the profile reads for values of the kind alone.
 FORCED = {"bool": "not ({0})", "int": "({0}) < 1", "text": "[[{0}] | join, ({0}) | length] | length"}
 PATH = re.compile(r"[A-Za-z_]\w*(?:\.[A-Za-z_]\w*)*")
-NAME = re.compile(r"[A-Za-z_]\w*")
 
 
 def asked_word(key: str, node: Node) -> "list[Node]":
@@ -40,7 +40,7 @@ def asked_word(key: str, node: Node) -> "list[Node]":
     if not kind or not is_whole(node):
         return [node]
     node = without_omit(node, kind) if "omit" in node.value else node
-    asked = [replace(node, wanted=kind, is_first=key in FIRST)]
+    asked: "list[Node]" = [replace(node, wanted=kind, is_first=key in FIRST)]
     inside = bare(node)
     if key == "delegate_to" and PATH.fullmatch(inside) and inside.partition(".")[0] != "item":
         # Where it isn't there, this is told at the task's own time; what it is, before its condition.
@@ -84,10 +84,9 @@ def is_of_kind(value: object, kind: str) -> bool:
                                                                                             value) is not None
 
 
-def bare(node: Scalar) -> str:
+def bare(node: Text) -> str:
     """The expression of a template that is a whole text."""
-    text: str = node.value.strip()
-    return text[2:-2].strip()
+    return node.value.strip()[2:-2].strip()
 
 
 def forced(nodes: Iterable[Node], values: Values) -> "list[Node]":

@@ -31,10 +31,13 @@ def is_separator(given: "list[Part]") -> bool:
 
 def is_replacement(given: "list[Part]") -> bool:
     """Whether a pattern and what stands for it are literals, and the one has the groups that the other names."""
-    if len(given) < 2 or not is_pattern(given[0]) or not given[1].literal or given[1].kind != "text":
+    if len(given) < 2:
+        return False
+    pattern, replacement = (part.literal[0] if part.literal else None for part in given[:2])
+    if not isinstance(pattern, str) or not isinstance(replacement, str):
         return False
     try:
-        re.sub(given[0].literal[0] if given[0].literal else "", given[1].literal[0], "")
+        re.sub(pattern, replacement, "")
     except (re.error, IndexError):
         return False
     return True

@@ -1,18 +1,21 @@
 # SPDX-License-Identifier: MIT OR Apache-2.0
 # The passes over expressions: `bool` and `default(.., true)` where all values of a name are known, and stand_ins.py.
+from __future__ import annotations
+
 import re
+from typing import Callable, Dict, Iterable, Iterator, List, Match, Optional, Pattern, Protocol, Set, Tuple
 
-from .books import Block, Raw, Task
-from .inventory import is_opaque
+from .books import Book, Holder, Task
+from .expressions import read_once
 from .finite import Finite, has_plain_items
+from .inventory import Inventory, is_opaque
 from .kinds import forced
-from .names import KNOWN, MAGIC, expression_names, given_names, outside_form, read_places, without_texts
-from .nodes import Mapping, Scalar, is_literal, plain
-from .rewriting import changed_texts, rewrite_words
+from .names import KNOWN, MAGIC, Read, given_names, read_places
+from .nodes import Atom, Scalar, Text, Value, is_literal, pairs_in, plain
+from .rewriting import Change, changed_texts, rewrite_words
 from .stand_ins import rewritten, stand_ins
+from .truths import is_true
 
-# What Ansible's filter `bool` takes as true; any other text is false.
-TRUTHS = ("yes", "on", "1", "true")
 DEFAULT = r"\s*\|\s*default\((?P<default>[^(),]*)(?P<falsy>,\s*(?:boolean\s*=\s*)?[Tt]rue\s*)?\)"
 NAME = r"(?<![\w.\])])(?<!\.\s)(?P<name>[A-Za-z_]\w*)"
 BOOL = re.compile(NAME + rf"(?:{DEFAULT})?\s*\|\s*bool\b(?:\(\s*\))?(?!\s*[|.\[(])")
@@ -21,124 +24,125 @@ QUOTED_TRUE, QUOTED_FALSE = "'true'", "'false'"
 WORDS = {"true": True, "True": True, "false": False, "False": False}
 
 
-def run_literal_passes(book, inventory):
+def run_literal_passes(book: Book, inventory: Inventory) -> None:
     values = Values(book, inventory)
-    for play in book.plays:
-        if isinstance(play, Raw):
-            continue
-        for one in [play, *(step for step in play.steps() if isinstance(step, (Block, Task)))]:
-            Expressions(one, values).rewrite()
+    for play in book.read_plays():
+        for holder in play.holders():
+            Expressions(holder, values).rewrite()
 
 
 class Expressions:
     """The expressions of a play or a step: changes them, and marks the texts of which one has another value since."""
 
-    def __init__(self, holder, values):
+    def __init__(self, holder: Holder, values: Values) -> None:
         self.holder, self.values = holder, values
         self.finite = Finite(values, has_plain_items(holder))
-        self.inexact = set()
+        self.inexact: Set[str] = set()
 
-    def rewrite(self):
+    def rewrite(self) -> None:
         holder = self.holder
         if "debug" in holder.words:
-            holder.words.put("debug", changed_texts(holder.words.get("debug"), self.change_asked))
+            holder.words.put("debug", changed_texts(holder.words["debug"], self.change_asked))
         rewrite_words(holder.words, self.change)
         holder.asked = [changed_texts(node, self.change_asked) for node in forced(holder.asked, self.values)]
         if isinstance(holder, Task) and holder.may_ignore is not None:
-            ignored(holder, self.change)
+            holder.may_ignore = ignored(holder, holder.may_ignore, self.change)
             self.mark([(holder.may_ignore.value, holder.may_ignore)])
         self.mark(read_places(holder.words, holder.asked))
 
-    def change(self, expression):
+    def change(self, expression: str) -> str:
         return self.written(plain_defaults(plain_truths(expression, self.values), self.values), False)
 
-    def change_asked(self, expression):
+    def change_asked(self, expression: str) -> str:
         return self.written(self.change(expression), True)
 
-    def written(self, expression, is_loose):
+    def written(self, expression: str, is_loose: bool) -> str:
         new, is_exact = rewritten(expression, is_loose, self.finite)
         if new == expression and isinstance(self.holder, Task) and "int" in expression \
                 and rewritten(expression, is_loose)[0] != expression:
             self.holder.leave("`int` of what may be the text `inf`, of which it makes no number")
-        if not is_exact or bare(expression) in self.inexact:
+        if not is_exact or self.inexact and bare(expression) in self.inexact:
             self.inexact.add(bare(new))
         return new
 
-    def mark(self, places):
+    def mark(self, places: Iterable[Read]) -> None:
         for expression, text in places if self.inexact else ():
             text.stand_ins += bare(expression) in self.inexact
 
 
-def bare(expression):
+def bare(expression: str) -> str:
     """An expression without the braces round it."""
     inside = re.fullmatch(r"\s*\{\{(.*)\}\}\s*", expression, re.S)
     return (inside[1] if inside else expression).strip()
 
 
-def ignored(task, change):
+def ignored(task: Task, node: Text, change: Change) -> Text:
     """A template in the place of `ignore_errors` has to be a condition of the profile."""
-    node = task.may_ignore
-    task.may_ignore = Scalar(change(f"({node.value}) | bool"), node.place, node.text, True)
-    what = outside_form(task.may_ignore.value)
-    if what or "item" in expression_names(node.value):
+    condition = Scalar(change(f"({node.value}) | bool"), node.place, node.text, True)
+    what = read_once(condition.value).form
+    if what or "item" in read_once(node.value).names:
         task.leave(f"`ignore_errors` with {what or '`item`'}", node.place)
+    return condition
 
 
 class Values:
     """The literal values that anything gives a name: None where another value is possible too."""
 
-    def __init__(self, book, inventory):
+    def __init__(self, book: Book, inventory: Inventory) -> None:
         self.book, self.inventory = book, inventory
-        self.of_names = None  # found where it is first asked for
-        self.written = {}  # all that gives a name its value by `vars` and `set_fact`, and None for what registers it
+        self.of_names: Optional[Dict[str, Optional[List[Value]]]] = None  # found where it is first asked for
+        # All that gives a name its value by `vars` and `set_fact`, and None for what registers it.
+        self.written: Dict[str, List[Value]] = {}
 
-    def find(self):
-        self.of_names = {}
+    def find(self) -> Dict[str, Optional[List[Value]]]:
+        found: Dict[str, Optional[List[Value]]] = {}
+        for name, value, is_known in self.givings():
+            self.written.setdefault(name, []).append(value)
+            known = found.get(name, [])
+            found[name] = [*known, value] if is_known and known is not None else None
+        for play in self.book.read_plays():
+            lost = [name for holder in play.containers() for name in holder.lost]
+            found.update(dict.fromkeys([*play.prompted, *lost]))
+        return found
+
+    def givings(self) -> Iterator[Tuple[str, Value, bool]]:
+        """Each name with a value that it is given, and whether that is literal: of a result it is None."""
         for name, value in self.inventory.variables():
-            self.add(name, value, not is_opaque(value))
-        for play in self.book.plays:
-            if isinstance(play, Raw):
-                continue
-            for step in [play, *(step for step in play.steps() if isinstance(step, (Block, Task)))]:
-                self.add_vars(step)
-            for name in play.prompted:
-                self.of_names[name] = None
+            yield name, value, not is_opaque(value)
+        for holder in (holder for play in self.book.read_plays() for holder in play.holders()):
+            for name, node in pairs_in(holder.words.get("vars")).items():
+                yield name, plain(node), is_literal(node)
         for task in self.book.tasks():
-            self.add_task(task)
+            facts = pairs_in(task.words.get("set_fact"))
+            for name in given_names(task):
+                part = facts.get(name)
+                yield name, plain(part) if part is not None else None, part is not None and is_literal(part)
 
-    def add(self, name, value, is_known):
-        self.written.setdefault(name, []).append(value)
-        known = self.of_names.get(name, [])
-        self.of_names[name] = [*known, value] if is_known and known is not None else None
-
-    def add_vars(self, holder):
-        given = holder.words.get("vars")
-        for name, node in given.pairs.items() if isinstance(given, Mapping) else ():
-            self.add(name, plain(node), is_literal(node))
-        for name in getattr(holder, "lost", ()):
-            self.of_names[name] = None
-
-    def add_task(self, task):
-        node = task.words.get("set_fact")
-        facts = node.pairs if isinstance(node, Mapping) else {}
-        for name in given_names(task):
-            part = facts.get(name)
-            self.add(name, plain(part) if part is not None else None, part is not None and is_literal(part))
-
-    def known(self, name):
+    def known(self, name: str) -> Optional[List[Value]]:
         """All values that a name may have, or None where they aren't known; a name that nothing gives has none."""
         if self.of_names is None:
-            self.find()
+            self.of_names = self.find()
         is_outside = name in KNOWN or name in MAGIC or name.startswith("ansible_")
         return None if is_outside else self.of_names.get(name, [])
 
 
-def plain_truths(expression, values):
+class KnownValues(Protocol):
+    def known(self, name: str) -> Optional[List[Value]]:
+        """All values that a name may have, or None where they aren't known."""
+
+
+# The text of a group of a match, as the expression has it.
+Group = Callable[[Match[str], str], str]
+
+
+def plain_truths(expression: str, values: KnownValues) -> str:
     """`x | bool` is `x` where each value that `x` may have is a truth value, and a comparison where each is a text."""
+    if "bool" not in expression:
+        return expression
     return replaced(expression, BOOL, lambda found, text: truth(found, text, values))
 
 
-def truth(found, text, values):
+def truth(found: Match[str], text: Group, values: KnownValues) -> Optional[str]:
     name = found["name"]
     known, default = values.known(name), None
     if found["default"] is None and name in WORDS:
@@ -153,39 +157,36 @@ def truth(found, text, values):
     if all(isinstance(value, bool) for value in known):
         return name + default_text(default, "true", "false")
     if all(isinstance(value, str) for value in known):
-        words = sorted({"true", *(value for value in known if is_true(value))})
+        words = sorted({"true", *(str(value) for value in known if is_true(value))})
         listed = ", ".join(f"'{word}'" for word in words)
         return f"({name}{default_text(default, QUOTED_TRUE, QUOTED_FALSE)} in [{listed}])"
     return None
 
 
-def is_true(value):
-    """What Ansible's filter `bool` makes of a value."""
-    return value if isinstance(value, bool) else str(value).lower() in TRUTHS
-
-
-def default_text(default, when_true, when_false):
+def default_text(default: Optional[bool], when_true: str, when_false: str) -> str:
     return "" if default is None else f" | default({when_true if default else when_false})"
 
 
-def plain_defaults(expression, values):
+def plain_defaults(expression: str, values: KnownValues) -> str:
     """`default(x, true)` is `default(x)` where no value that stands before it may be empty or false."""
+    if "default" not in expression:
+        return expression
     return replaced(expression, FALSY, lambda found, text: unconditional(found, text, values))
 
 
-def unconditional(found, text, values):
+def unconditional(found: Match[str], text: Group, values: KnownValues) -> Optional[str]:
     known = values.known(found["name"])
     if not found["falsy"] or known is None or not all(known):
         return None
     return f"{found['name']} | default({text(found, 'default')})"
 
 
-def replaced(expression, pattern, change):
+def replaced(expression: str, pattern: Pattern[str], change: Callable[[Match[str], Group], Optional[str]]) -> str:
     """The expression with what a pattern finds outside of its texts replaced, where `change` answers something."""
     if "|" not in expression:
         return expression
     parts, at = [], 0
-    for found in pattern.finditer(without_texts(expression, "'")):
+    for found in pattern.finditer(read_once(expression).filled("'")):
         new = change(found, lambda match, group: expression[match.start(group):match.end(group)].strip())
         if new is not None:
             parts += [expression[at:found.start()], new]
@@ -193,7 +194,7 @@ def replaced(expression, pattern, change):
     return "".join([*parts, expression[at:]])
 
 
-def literal(text):
+def literal(text: str) -> Atom:
     """The value of a literal as an expression writes it, or None where it is something else."""
     if text in WORDS:
         return WORDS[text]

@@ -1,46 +1,50 @@
 # SPDX-License-Identifier: MIT OR Apache-2.0
 # Reads a book: its plays, those that it imports, and their files of variables.
+from __future__ import annotations
+
 import os
 from dataclasses import replace
+from typing import List, Optional, Tuple, Union
 
-from .books import Book, Play, Raw, Task, items_of
+from .books import Book, Play, Raw, Step, Task, items_of
 from .looking_up import note_collections
-from .nodes import Mapping, Scalar, Sequence, has_template, is_nothing, is_text, made, plain
+from .nodes import Mapping, Node, Pairs, Scalar, Sequence, has_template, is_nothing, is_text, items_or_one, made, plain
 from .positions import read_file
 from .precedence import Given, Source
 from .problems import Place, Problem
-from .steps import (MOST_INCLUDES, Context, Count, found_file, include_key, left_include, put_role_parts,
-                    role_blocks, steps_of)
+from .steps import (MOST_INCLUDES, Context, Count, found_file, include_key, left_include, put_role_parts, role_blocks,
+                    steps_of)
 from .tags import tags_of
 
 # The profile has so many lines at most.
 MOST_STEPS = 4096
 
 
-def load_book(path):
+def load_book(path: str) -> Book:
     book = Book(path, *plays_of(read_file(path), path, (), Count()))
-    steps = sum(1 for play in book.plays if isinstance(play, Play) for _ in play.steps())
+    steps = sum(1 for play in book.read_plays() for _ in play.steps())
     if steps > MOST_STEPS:
         raise Problem(Place(path), f"more than {MOST_STEPS:,} tasks and blocks, with what its aliases stand for")
     note_collections(book)
     return book
 
 
-def plays_of(node, path, open_files, count):
+def plays_of(node: Node, path: str, open_files: Tuple[str, ...],
+             count: Count) -> Tuple[List[Play | Raw], Optional[Node]]:
     """The plays of a file, or none and the node itself where it is no list."""
     if not isinstance(node, Sequence):
         return [], node
-    plays = []
+    plays: List[Union[Play, Raw]] = []
     for item in node.items:
         key = include_key(item, ("import_playbook",))
-        if key:
+        if isinstance(item, Mapping) and key:
             plays += imported_plays(item, key, path, open_files, count)
         else:
             plays.append(play_of(item, path, count) if isinstance(item, Mapping) else Raw(item))
     return plays, None
 
 
-def imported_plays(item, key, path, open_files, count):
+def imported_plays(item: Mapping, key: str, path: str, open_files: Tuple[str, ...], count: Count) -> List[Play | Raw]:
     named = item.get(key)
     if not is_text(named) or has_template(named.value):
         return [left_play(item, key)]
@@ -60,15 +64,15 @@ def imported_plays(item, key, path, open_files, count):
     return plays
 
 
-def left_play(item, key):
+def left_play(item: Mapping, key: str) -> Play:
     """In the place of a playbook whose name isn't known: a play with a task that isn't judged."""
-    task = Task(Mapping({key: item.get(key)}, item.place, {key: item.keys[key]}), item.place)
+    task = Task(Mapping({key: item[key]}, item.place, {key: item.keys[key]}), item.place)
     words = {"hosts": made("all", item.place), "gather_facts": made(False, item.place)}
-    tasks = [left_include(task, "`import_playbook` with a name that is no literal text")]
+    tasks: List[Step] = [left_include(task, "`import_playbook` with a name that is no literal text")]
     return Play(Mapping(words, item.place), item.place, {"tasks": tasks})
 
 
-def add_words(play, item, key):
+def add_words(play: Play | Raw, item: Mapping, key: str) -> None:
     """Gives an imported play what stands beside its import."""
     if isinstance(play, Raw):
         return
@@ -84,7 +88,7 @@ def add_words(play, item, key):
             play.asked.append(part)
 
 
-def play_of(item, path, count):
+def play_of(item: Mapping, path: str, count: Count) -> Play:
     words = item.copy()
     name = item.get("name") or item.get("hosts")
     context = Context(path, os.path.dirname(path), str(plain(name)) if isinstance(name, Scalar) else "", count)
@@ -105,7 +109,7 @@ def play_of(item, path, count):
     return play
 
 
-def put_vars_files(play, context):
+def put_vars_files(play: Play, context: Context) -> None:
     files = items_of(play.words.get("vars_files"))
     for node in files or ():
         play.given.append(Given(Source.VARS_FILES, variables_of(node, play, context)))
@@ -113,10 +117,9 @@ def put_vars_files(play, context):
         play.words.take("vars_files")
 
 
-def variables_of(node, play, context):
+def variables_of(node: Node, play: Play, context: Context) -> Pairs:
     """The variables of a file; what can't be read by its name is said, and names may come from it."""
-    choices = node.items if isinstance(node, Sequence) else [node]
-    for choice in choices:
+    for choice in items_or_one(node):
         if not is_text(choice) or has_template(choice.value):
             play.unseen_files.append((node.place, "a file of variables named by a template: its names aren't known"))
             return {}

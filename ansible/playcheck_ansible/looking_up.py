@@ -1,22 +1,26 @@
 # SPDX-License-Identifier: MIT OR Apache-2.0
 # Looks up the modules of books in Ansible's documentation: one call for all that are neither built in nor declared.
+from __future__ import annotations
+
 import re
+from typing import Callable, Iterable, Iterator, List
 
 from .ansible_core import TRUST, Trust, own_text
-from .books import Block, Play, Task, is_module
-from .modules import INCLUDES, PREFIXES, UNKNOWN, Modules, short_name
+from .books import Block, Book, Holder, Play, Step, Task, is_module
+from .identifiers import NAME
+from .modules import INCLUDES, PREFIXES, UNKNOWN, Modules, ansible_name, short_name
 from .nodes import Mapping, is_text, texts_of
 from .problems import Problem
 
 SECONDS = 60
 # What is no name of a module isn't asked: it might be taken for an option.
-NAME = re.compile(r"[A-Za-z_][A-Za-z0-9_]*(\.[A-Za-z_][A-Za-z0-9_]*)*")
+MODULE = re.compile(rf"{NAME.pattern}(\.{NAME.pattern})*")
 MOST_COLLECTIONS = 16
 NOT_INSTALLED = "ansible-doc isn't installed"
 FAILED = "ansible-doc failed"
 
 
-def note_collections(book):
+def note_collections(book: Book) -> None:
     """Tells each task the collections in which the short name of its module is looked for: the innermost given ones."""
     for play in book.plays:
         if isinstance(play, Play):
@@ -24,7 +28,7 @@ def note_collections(book):
                 note_below(section, collections_of(play, []))
 
 
-def note_below(steps, outer):
+def note_below(steps: List[Step], outer: List[str]) -> None:
     for step in steps:
         if isinstance(step, Task):
             step.collections = collections_of(step, outer)
@@ -33,14 +37,14 @@ def note_below(steps, outer):
                 note_below(part, collections_of(step, [] if step.is_role else outer))
 
 
-def collections_of(holder, outer):
+def collections_of(holder: Holder, outer: List[str]) -> List[str]:
     node = holder.words.get("collections")
     if node is None:
         return outer
     return [text.value for text in texts_of(node) if text.value + "." not in PREFIXES][:MOST_COLLECTIONS]
 
 
-def used_modules(book):
+def used_modules(book: Book) -> Iterator[str]:
     """The modules that a book's tasks may name, those of `action` too; of a short name those of the collections too."""
     for task in book.tasks():
         for name in named_modules(task):
@@ -49,7 +53,7 @@ def used_modules(book):
                 yield from (f"{one}.{name}" for one in task.collections)
 
 
-def named_modules(task):
+def named_modules(task: Task) -> Iterator[str]:
     for key in task.words.pairs:
         if is_module(key) and short_name(key) not in INCLUDES:
             yield short_name(key)
@@ -59,9 +63,9 @@ def named_modules(task):
             yield short_name(named.value.split()[0])
 
 
-def looked_up(names, modules, told, trust):
+def looked_up(names: Iterable[str], modules: Modules, told: Callable[[object], None], trust: Trust) -> Modules:
     """The modules with those of these names that Ansible's documentation has; what fails is told."""
-    wanted = sorted({name for name in names if NAME.fullmatch(name) and not modules.has(name)
+    wanted = sorted({name for name in names if MODULE.fullmatch(name) and not modules.has(name)
                      and name not in modules.written})
     if not wanted:
         return modules
@@ -74,7 +78,7 @@ def looked_up(names, modules, told, trust):
         modules.unasked = FAILED
         return modules
     declared, left = signatures_of({name: documents[name] for name in wanted if name in documents})
-    found = {module["ansible"]["name"] for module in declared}
+    found = {ansible_name(module) for module in declared}
     unknown = {name: left.get(name) or reason_of(name, trust) for name in wanted if name not in found}
     return Modules([*modules.declared, *declared], unknown)
 

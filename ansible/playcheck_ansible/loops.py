@@ -1,32 +1,38 @@
 # SPDX-License-Identifier: MIT OR Apache-2.0
 # The passes over loops: `with_dict`, `with_list` and `with_items`, a loop variable with a name of its own, labels.
-import re
+from __future__ import annotations
 
+import re
+from typing import TYPE_CHECKING, List, Optional
+
+from .expressions import read_once
+from .identifiers import VARIABLE
 from .kinds import asked_word, wrong_word
-from .names import (GRAMMAR, KNOWN, MAGIC, expression_names, expressions_of, given_names, mentioned,
-                    names_of_vars, read_places, text_spans, without_texts)
-from .nodes import Mapping, Sequence, has_template, is_nothing, is_text, made, texts_of
-from .rewriting import changed_texts, rewrite_words
+from .names import GRAMMAR, KNOWN, MAGIC, expressions_of, given_names, mentioned, names_of_vars, read_places
+from .nodes import Mapping, Node, Sequence, has_template, is_nothing, is_text, items_or_one, made, pairs_in, texts_of
+from .rewriting import Change, changed_texts, rewrite_words
 from .values import is_whole
 
-VARIABLE = re.compile(r"[A-Za-z_][A-Za-z0-9_]{0,127}")
+if TYPE_CHECKING:
+    from .books import Task
+    from .modules import Modules
 
 
-def dict_loops(task, modules):
+def dict_loops(task: Task, modules: Modules) -> None:
     """`with_dict` of literal mappings is a list of their pairs."""
     node = task.words.get("with_dict")
-    dicts = node.items if isinstance(node, Sequence) else [node]
-    if node is None or not all(isinstance(one, Mapping) for one in dicts):
+    dicts = [one for one in items_or_one(node) if isinstance(one, Mapping)]
+    if node is None or len(dicts) < len(items_or_one(node)):
         return
     if any(has_template(key) for one in dicts for key in one.pairs):
         return
-    items = [made({"key": key, "value": part}, one.keys.get(key) or part.place)
-             for one in dicts for key, part in one.pairs.items()]
+    items: List[Node] = [made({"key": key, "value": part}, one.place_of(key))
+                         for one in dicts for key, part in one.pairs.items()]
     task.words.put("loop", Sequence(items, node.place))
     task.words.take("with_dict")
 
 
-def loop_variables(task, modules):
+def loop_variables(task: Task, modules: Modules) -> None:
     """A loop variable with a name of its own is `item`, where nothing else of the task has one of the two names."""
     control = task.words.get("loop_control")
     named = control.get("loop_var") if isinstance(control, Mapping) else None
@@ -35,18 +41,17 @@ def loop_variables(task, modules):
     lists = [key for key in task.words.pairs if key == "loop" or key.startswith("with_")]
     if lists and not (is_text(named) and named.value == "item"):
         reason = loop_variable_bar(task, named, lists)
-        if reason:
+        if reason or not is_text(named):
             task.leave(f"`loop_var`: {reason}", named.place)
             return
         rewrite_words(task.words, renaming(named.value), lists)
         task.asked = [changed_texts(node, renaming(named.value)) for node in task.asked]
-        control = task.words.get("loop_control")
-    control = control.copy()
-    control.take("loop_var")
-    task.words.put("loop_control", control)
+    changed = task.words["loop_control"]
+    others = {key: node for key, node in pairs_in(changed).items() if key != "loop_var"}
+    task.words.put("loop_control", Mapping(others, changed.place))
 
 
-def loop_variable_bar(task, named, lists):
+def loop_variable_bar(task: Task, named: Node, lists: List[str]) -> str:
     """Why a loop variable can't be `item`; nothing where it can."""
     if not is_text(named) or not VARIABLE.fullmatch(named.value):
         return "it isn't a name"
@@ -56,7 +61,7 @@ def loop_variable_bar(task, named, lists):
     both = {name, "item"}
     of_list = [expression for key in lists for expression, _ in expressions_of(task.words.get(key), False)]
     others = given_names(task) | names_of_vars(task.words) | task.outer_names
-    if both & set().union(others, *map(expression_names, of_list)):
+    if both & set().union(others, *(read_once(expression).names for expression in of_list)):
         return f"'{name}' or 'item' is used elsewhere too"
     inside = Mapping({key: part for key, part in task.words.pairs.items() if key not in lists}, task.place)
     if "item" in mentioned(inside, task.asked):
@@ -70,33 +75,29 @@ def loop_variable_bar(task, named, lists):
     return ""
 
 
-def is_hidden(name, expression):
+def is_hidden(name: str, expression: str) -> bool:
     """Whether an expression may name a variable otherwise than by a plain read of it."""
-    quoted = " ".join(expression[start:end] for start, end in text_spans(expression))
-    by_text = "vars" in expression or "lookup" in expression or "query" in expression
-    return by_text and name in quoted or re.search(rf"\b{name}\s*=(?!=)", without_texts(expression)) is not None
+    one = read_once(expression)
+    by_text = any(word in expression for word in ("vars", "lookup", "query"))
+    return by_text and any(name in token.text for token in one.texts) or name in one.keywords
 
 
-def renaming(name):
+def renaming(name: str) -> Change:
     """A change of expressions: each read of the name becomes one of `item`."""
-    read = re.compile(rf"(?<![A-Za-z0-9_.])(?<!\.\s){name}(?![A-Za-z0-9_])")
 
-    def change(expression):
-        parts, at = [], 0
-        for found in read.finditer(without_texts(expression)):
-            parts += [expression[at:found.start()], "item"]
-            at = found.end()
-        return "".join([*parts, expression[at:]])
+    def change(expression: str) -> str:
+        one = read_once(expression)
+        return one.replaced([(token, "item") for token in one.reads if token.text == name])
 
     return change
 
 
-def loops(task, modules):
+def loops(task: Task, modules: Modules) -> None:
     """`with_list`, and `with_items` one level flat, are `loop`; a label of `loop_control` is asked."""
     if "with_list" in task.words:
-        task.words.put("loop", task.words.take("with_list"))
-    if "with_items" in task.words:
-        node = task.words.take("with_items")
+        task.words.put("loop", task.words.pairs.pop("with_list"))
+    node = task.words.take("with_items")
+    if node is not None:
         flat = flat_items(node)
         if flat is None:
             task.leave("`with_items` with a list in a template beside others", node.place)
@@ -119,7 +120,7 @@ def loops(task, modules):
         task.asked += asked_word(key, node)
 
 
-def flat_items(node):
+def flat_items(node: Node) -> Optional[Node]:
     """The items of `with_items`, or None where a template among them may be a list."""
     if not isinstance(node, Sequence):
         return node

@@ -1,15 +1,21 @@
 # SPDX-License-Identifier: MIT OR Apache-2.0
 # Names that Ansible itself gives: those whose kind is known become variables of the inventory or of a play.
+from __future__ import annotations
+
 import os
 import re
+from typing import TYPE_CHECKING, Callable, Dict, Iterable, Iterator, List, Set
 
-from .books import Block, Play, Raw, Task, steps_below
+from .books import Book, Holder, Play, Raw, Task, steps_below
 from .further_facts import FURTHER
 from .names import MAGIC, mentioned
-from .nodes import Mapping, Scalar, texts_of
+from .nodes import Mapping, Record, Scalar, pairs_in, texts_of
+
+if TYPE_CHECKING:
+    from .inventory import Inventory
 
 # What holds in a run without options for it, on each host; the versions and the number of forks stand for any.
-ALWAYS = {
+ALWAYS: Record = {
     "ansible_check_mode": False, "ansible_diff_mode": False, "ansible_verbosity": 0, "ansible_forks": 5,
     "ansible_playbook_python": "/usr/bin/python3",
     "ansible_version": {"full": "2.14.0", "string": "2.14.0", "major": 2, "minor": 14, "revision": 0},
@@ -29,15 +35,16 @@ KEYWORDS = {"remote_user": "user", "port": "port"}
 NAMES = re.compile(r"\b(?:ansible_\w+|play_hosts|playbook_dir|inventory_hostname_short)\b")
 
 
-def magic_variables(book, inventory, tags=(), skip_tags=()):
+def magic_variables(book: Book, inventory: Inventory, tags: Iterable[str] = (), skip_tags: Iterable[str] = ()) -> None:
     """Gives the names that the book reads and that nothing else gives; those with a known value get that."""
-    plays = [play for play in book.plays if not isinstance(play, Raw)]
-    read = {name for play in plays for holder in holders(play) for name in names_in(holder)} - given_in(plays)
-    known = {name: value for name, value in {
-        **ALWAYS, **dict.fromkeys(HOSTS, inventory.all_hosts()),
-        "ansible_run_tags": list(tags) or ["all"], "ansible_skip_tags": list(skip_tags),
-        "playbook_dir": os.path.dirname(os.path.abspath(book.file))}.items() if name in read}
-    missing = {name: value for name, value in known.items() if name not in inventory.names()}
+    plays = book.read_plays()
+    read = {name for play in plays for holder in play.holders() for name in names_in(holder)} - given_in(plays)
+    known: Record = {
+        **ALWAYS, **dict.fromkeys(HOSTS, [*inventory.all_hosts()]),
+        "ansible_run_tags": [*tags] or ["all"], "ansible_skip_tags": [*skip_tags],
+        "playbook_dir": os.path.dirname(os.path.abspath(book.file))}
+    names = inventory.names()
+    missing = {name: value for name, value in known.items() if name in read and name not in names}
     if missing:
         inventory.group("all")["vars"].update(missing)
     if "inventory_hostname_short" in read:
@@ -49,24 +56,16 @@ def magic_variables(book, inventory, tags=(), skip_tags=()):
         give_connections(play, connections)
 
 
-def holders(play):
-    return [play, *(step for step in play.steps() if isinstance(step, (Block, Task)))]
-
-
-def names_in(holder):
+def names_in(holder: Holder) -> Iterator[str]:
     for node in [*holder.words.pairs.values(), *holder.asked]:
         for text in texts_of(node):
             yield from NAMES.findall(text.value)
 
 
-def given_in(plays):
+def given_in(plays: List[Play]) -> Set[str]:
     """Names that `vars` or `set_fact` of a book give."""
-    found = set()
-    for holder in (holder for play in plays for holder in holders(play)):
-        for key in ("vars", "set_fact"):
-            node = holder.words.get(key)
-            found |= set(node.pairs) if isinstance(node, Mapping) else set()
-    return found
+    return {name for play in plays for holder in play.holders() for key in ("vars", "set_fact")
+            for name in pairs_in(holder.words.get(key))}
 
 
 def leave_early_readers(play: Play, names: "set[str]") -> None:
@@ -84,10 +83,9 @@ def leave_early_readers(play: Play, names: "set[str]") -> None:
 
 def readers_in_vars(play: Play, names: "set[str]") -> "set[str]":
     """The names of `vars` whose values read one of these names, also by way of each other."""
-    reads = {}
-    for holder in holders(play):
-        given = holder.words.get("vars")
-        for name, node in given.pairs.items() if isinstance(given, Mapping) else ():
+    reads: Dict[str, Set[str]] = {}
+    for holder in play.holders():
+        for name, node in pairs_in(holder.words.get("vars")).items():
             reads.setdefault(name, set()).update(mentioned(Mapping({"vars": node}, node.place)))
     found: "set[str]" = set()
     new = set(names)
@@ -97,7 +95,7 @@ def readers_in_vars(play: Play, names: "set[str]") -> "set[str]":
     return found
 
 
-def give_connections(play, names):
+def give_connections(play: Play, names: Set[str]) -> None:
     given = play.words.get("vars")
     if names and (given is None or isinstance(given, Mapping)):
         merged = given.copy() if given is not None else Mapping({}, play.place)
@@ -106,21 +104,21 @@ def give_connections(play, names):
         play.words.put("vars", merged)
 
 
-def outside_names(book):
+def outside_names(book: Book) -> Callable[[str], bool]:
     """Answers whether a name is one that Ansible gives and the profile lacks."""
-    keywords = {word for play in book.plays if not isinstance(play, Raw) for holder in holders(play)
+    keywords = {word for play in book.read_plays() for holder in play.holders()
                 for word in KEYWORDS if word in holder.written}
-    may_gather = any(is_gathering(play) for play in book.plays if not isinstance(play, Raw))
+    may_gather = any(is_gathering(play) for play in book.read_plays())
     by_keyword = {f"ansible_{way}{KEYWORDS[word]}" for word in keywords for way in ("", "ssh_")}
 
-    def is_outside(name):
-        is_given = name in FURTHER or GIVEN.fullmatch(name) and name not in by_keyword
+    def is_outside(name: str) -> bool:
+        is_given = name in FURTHER or GIVEN.fullmatch(name) is not None and name not in by_keyword
         return name in MAGIC or name in by_keyword or name.startswith("ansible_") and may_gather and not is_given
 
     return is_outside
 
 
-def is_gathering(play):
+def is_gathering(play: Play) -> bool:
     """Whether facts may be set that the book doesn't show: by gathering, or by a task that isn't judged."""
     node = play.words.get("gather_facts")
     return not isinstance(node, Scalar) or node.value is not False or any(

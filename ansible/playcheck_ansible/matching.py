@@ -1,5 +1,7 @@
 # SPDX-License-Identifier: MIT OR Apache-2.0
 # Matches names by regular expressions in a process of its own with a second for it: Python's matcher may never end.
+from __future__ import annotations
+
 import json
 import subprocess
 import sys

@@ -1,15 +1,24 @@
 # SPDX-License-Identifier: MIT OR Apache-2.0
 # What playcheck and Ansible know of modules: the profile's parameters, Ansible's further ones, and files of signatures.
+from __future__ import annotations
+
 import json
 from dataclasses import dataclass, field
+from typing import TYPE_CHECKING, Dict, Iterable, List, Set, Union
 
+from .nodes import Record, Value
 from .positions import read_text
 from .problems import Place, Problem
+
+if TYPE_CHECKING:
+    from typing_extensions import TypeGuard
+
+    from .books import Book
 
 PREFIXES = ("ansible.builtin.", "ansible.legacy.")
 PROGRAM = {"cmd": "text", "chdir": "text", "creates": "text", "removes": "text"}
 # The parameters of the modules of the profile, with their kinds: docs/LANGUAGE.md.
-PROFILE = {
+PROFILE: Dict[str, Dict[str, str]] = {
     "ping": {"data": "text"},
     "command": PROGRAM,
     "shell": PROGRAM,
@@ -61,9 +70,12 @@ CORE = ("add_host", "apt", "apt_key", "apt_repository", "assemble", "async_statu
         "subversion", "systemd", "systemd_service", "sysvinit", "tempfile", "template", "unarchive", "uri", "user",
         "validate_argument_spec", "wait_for", "wait_for_connection", "yum", "yum_repository")
 UNKNOWN = "ansible-doc doesn't know it"
-BOOL_FIELD = {"kind": "bool", "always": True}
-FAILURE = {"changed": BOOL_FIELD, "msg": {"kind": "text", "always": True}}
+BOOL_FIELD: Record = {"kind": "bool", "always": True}
+FAILURE: Record = {"changed": BOOL_FIELD, "msg": {"kind": "text", "always": True}}
 MOST_DECLARED = 256
+# A module with its parameters and answers, as docs/LANGUAGE.md has it; `ansible` is what the front end alone reads.
+Signature = Record
+Choices = List[Union[int, str]]
 
 
 @dataclass
@@ -71,54 +83,57 @@ class Documented:
     """What Ansible's documentation says of a module beside its signature."""
 
     name: str  # Ansible's own
-    fields: set = field(default_factory=set)  # those of an answer that have a kind
-    choices: dict = field(default_factory=dict)  # a parameter to the values that it may have
-    required: list = field(default_factory=list)
+    fields: Set[str] = field(default_factory=set)  # those of an answer that have a kind
+    choices: Dict[str, Choices] = field(default_factory=dict)  # a parameter to the values that it may have
+    required: List[str] = field(default_factory=list)
 
 
 @dataclass
 class Modules:
     """The modules that a book may call: the profile's, and those of a file of signatures."""
 
-    declared: list = field(default_factory=list)
-    unknown: dict = field(default_factory=dict)  # modules that were looked up in vain, with the reason
+    declared: List[Signature] = field(default_factory=list)
+    unknown: Dict[str, str] = field(default_factory=dict)  # modules that were looked up in vain, with the reason
     unasked: str = ""  # why the others weren't looked up
 
-    def __post_init__(self):
+    def __post_init__(self) -> None:
         self.parameters = dict(PROFILE)
         self.aliases = {name: dict(given) for name, given in ALIASES.items()}
         self.asked = {name: set(given) for name, given in PASSED_OVER.items()}
-        self.written = {}  # Ansible's name of a module to the one that it is declared under
-        self.open = set()  # modules that take any parameter
-        self.files = {}  # of a module of a collection the file of its text
-        self.documented = {}  # of a module whose signature comes of its documentation: Documented
+        self.written: Dict[str, str] = {}  # Ansible's name of a module to the one that it is declared under
+        self.open: Set[str] = set()  # modules that take any parameter
+        self.files: Dict[str, str] = {}  # of a module of a collection the file of its text
+        self.documented: Dict[str, Documented] = {}  # of the modules whose signatures come of their documentation
         for module in self.declared:
-            params = module.get("params", {})
-            self.parameters[module["name"]] = {name: kind_of(param) for name, param in params.items()}
+            params = record_of(module.get("params"))
+            self.parameters[name_of(module)] = {name: kind_of(param) for name, param in params.items()}
             self.take_documented(module)
 
-    def take_documented(self, module):
+    def take_documented(self, module: Signature) -> None:
         further = module.get("ansible")
-        if isinstance(further, dict):
-            name = module["name"]
-            self.written[further.get("name", name)] = name
-            self.aliases[name] = dict(further.get("aliases") or {})
-            self.asked[name] = set(further.get("asked") or [])
-            self.open |= {name} if further.get("open") else set()
-            if "file" in further:
-                self.files[name] = further["file"]
-            self.documented[name] = Documented(further.get("name", name), set(module.get("ok") or {}),
-                                               further.get("choices") or {}, further.get("required") or [])
+        if not isinstance(further, dict):
+            return
+        name = name_of(module)
+        file = further.get("file")
+        self.written[ansible_name(module)] = name
+        self.aliases[name] = {one: str(other) for one, other in record_of(further.get("aliases")).items()}
+        self.asked[name] = set(names_of(further.get("asked")))
+        self.open |= {name} if further.get("open") else set()
+        if isinstance(file, str):
+            self.files[name] = file
+        choices = {option: choices_of(given) for option, given in record_of(further.get("choices")).items()}
+        self.documented[name] = Documented(ansible_name(module), set(record_of(module.get("ok"))), choices,
+                                           names_of(further.get("required")))
 
-    def trusting(self):
+    def trusting(self) -> Modules:
         """These modules, with each field of an answer that documentation names as always there."""
         return Modules([always_there(module) if "ansible" in module else module for module in self.declared],
                        self.unknown, self.unasked)
 
-    def has(self, name):
+    def has(self, name: str) -> bool:
         return name in self.parameters
 
-    def further(self, name, given):
+    def undocumented(self, name: str, given: Iterable[str]) -> Set[str]:
         """Those of these parameters that the documentation of a module lacks and its text has."""
         known = {*self.parameters[name], *self.asked.get(name, ()), *self.aliases.get(name, {})}
         unknown = [one for one in given if one not in known] if name in self.files else []
@@ -128,28 +143,52 @@ class Modules:
 
         return set(unknown) & arguments_in(self.files[name])
 
-    def unjudged_name(self):
+    def unjudged_name(self) -> str:
         """The name of the module that stands in the place of a task that isn't judged."""
         name = "not_judged"
         while self.has(name):
             name += "_"
         return name
 
-    def signatures(self, book):
+    def signatures(self, book: Book) -> List[Signature]:
         """The signatures that the program is given, and that of the module in a task's place."""
         used = {key for task in book.tasks() for key in task.words.pairs}
         are_many = len(self.declared) >= MOST_DECLARED
         declared = [{key: part for key, part in module.items() if key != "ansible"} for module in self.declared
-                    if module["name"] in used or not are_many and "ansible" not in module]
+                    if name_of(module) in used or not are_many and "ansible" not in module]
         return [*declared, {"name": self.unjudged_name(), "params": {}, "ok": {"changed": BOOL_FIELD},
                             "failure": FAILURE}]
 
 
-def always_there(module):
-    return {**module, "ok": {name: {**one, "always": True} for name, one in module["ok"].items()}}
+def name_of(module: Signature) -> str:
+    return str(module["name"])
 
 
-def kind_of(param):
+def ansible_name(module: Signature) -> str:
+    """Ansible's name of a module whose signature comes of its documentation."""
+    return str(record_of(module.get("ansible")).get("name", module["name"]))
+
+
+def record_of(value: Value) -> Record:
+    """A value that is to be a mapping; of what is none its form is told by whoever reads it whole."""
+    return value if isinstance(value, dict) else {}
+
+
+def names_of(value: Value) -> List[str]:
+    return [one for one in value if isinstance(one, str)] if isinstance(value, list) else []
+
+
+def choices_of(value: Value) -> Choices:
+    return [one for one in value if isinstance(one, (int, str))] if isinstance(value, list) else []
+
+
+def always_there(module: Signature) -> Signature:
+    fields: Record = {name: {**one, "always": True} if isinstance(one, dict) else one
+              for name, one in record_of(module.get("ok")).items()}
+    return {**module, "ok": fields} if isinstance(module.get("ok"), dict) else module
+
+
+def kind_of(param: object) -> str:
     kind = param.get("kind") if isinstance(param, dict) else None
     if isinstance(kind, str):
         return kind
@@ -158,8 +197,8 @@ def kind_of(param):
     return "rec"
 
 
-def read_signatures(paths):
-    declared = []
+def read_signatures(paths: List[str]) -> Modules:
+    declared: List[Signature] = []
     for path in paths:
         try:
             found = json.loads(read_text(path))
@@ -175,7 +214,7 @@ def read_signatures(paths):
     return Modules(declared)
 
 
-def is_documentation(further):
+def is_documentation(further: object) -> bool:
     """Whether the field that only playcheck-ansible reads has its form."""
     return (isinstance(further, dict) and isinstance(further.get("name", ""), str)
             and isinstance(further.get("file", ""), str)
@@ -185,16 +224,16 @@ def is_documentation(further):
             and all(map(are_choices, further.get("choices", {}).values())))
 
 
-def is_names(found):
+def is_names(found: object) -> TypeGuard[List[str]]:
     return isinstance(found, list) and all(isinstance(name, str) for name in found)
 
 
-def are_choices(found):
+def are_choices(found: object) -> TypeGuard[Choices]:
     """Whether these are choices that are compared: texts alone, or whole numbers alone."""
     return is_names(found) or isinstance(found, list) and all(type(one) is int for one in found)
 
 
-def short_name(key):
+def short_name(key: str) -> str:
     """A module's name without the prefix that says it is Ansible's own."""
     for prefix in PREFIXES:
         if key.startswith(prefix):

@@ -6,7 +6,8 @@ import re
 from typing import Iterator, Set, Tuple
 
 from .books import Block, Book, Play, Raw, Task, steps_below
-from .names import expressions_of, read_places, without_texts
+from .expressions import read_once
+from .names import expressions_of, read_places
 from .nodes import Mapping
 from .outlived import register_of
 
@@ -46,9 +47,9 @@ def places(step: Play | Block | Task) -> Iterator[Tuple[str, bool]]:
 
 
 def is_read(expression: str, goes_on: bool, names: Set[str]) -> bool:
-    bare = expression if "hostvars" in expression else without_texts(expression)
+    bare = expression if "hostvars" in expression else read_once(expression).bare
     is_found = any(found[1] in names for found in RC_READ.finditer(bare))
-    return is_found and (goes_on or OPERATORS.search(without_texts(expression)) is not None)
+    return is_found and (goes_on or OPERATORS.search(read_once(expression).bare) is not None)
 
 
 def leave(step: Play | Block | Task) -> None:

@@ -1,10 +1,14 @@
 # SPDX-License-Identifier: MIT OR Apache-2.0
 # Tasks whose failure their host's play may outlive, and what reads a loop's results behind such a one.
+from __future__ import annotations
+
 import re
+from typing import Iterable
 
 from .books import Block, Book, Play, Raw, Task, steps_below
-from .names import read_places, without_texts
-from .nodes import Mapping, Scalar, is_text
+from .expressions import read_once
+from .names import read_places
+from .nodes import Mapping, Node, Scalar, is_text, pairs_in
 
 # Actions call no module: none of their items is unreachable.
 ACTIONS = ("debug", "set_fact", "assert", "fail", "meta")
@@ -20,11 +24,11 @@ def note_outlived(play: Play) -> None:
     is_forced = forced is not None and not (isinstance(forced, Scalar) and forced.value is False)
     for task in play.tasks():
         task.is_free, task.is_outlived = is_free, is_forced or ignores(task)
-    for block in play.steps():
-        if isinstance(block, Block) and (block.parts.get("rescue") or block.parts.get("always") or ignores(block)):
-            for task in steps_below([block]):
-                if isinstance(task, Task):
-                    task.is_outlived = True
+    for block in play.blocks():
+        if block.parts.get("rescue") or block.parts.get("always") or ignores(block):
+            for step in steps_below([block]):
+                if isinstance(step, Task):
+                    step.is_outlived = True
 
 
 def is_word(play: Play, word: str, value: str) -> bool:
@@ -61,8 +65,7 @@ def leave_reader(holder: "Play | Block | Task", loops: "dict[str, Task]") -> Non
         if found and loops[found] is not holder:
             holder.leave(told(found, loops))
         return
-    given = holder.words.get("vars")
-    for name, node in given.pairs.items() if isinstance(given, Mapping) else ():
+    for name, node in pairs_in(holder.words.get("vars")).items():
         found = read_in(Mapping({"vars": node}, node.place), (), loops)
         if found:
             holder.lost[name] = f"its value on line {node.place.line} is read where {told(found, loops)}"
@@ -78,11 +81,11 @@ def told(name: str, loops: "dict[str, Task]") -> str:
             "unreachable behind one that failed")
 
 
-def read_in(words: Mapping, asked: "list[object] | tuple[()]", loops: "dict[str, Task]") -> str:
+def read_in(words: Mapping, asked: Iterable[Node], loops: "dict[str, Task]") -> str:
     """The first of these names whose items an expression may read."""
     for expression, _ in read_places(words, asked):
         by_text = "hostvars" in expression or "vars" in expression
-        for found in ITEMS_READ.finditer(expression if by_text else without_texts(expression)):
+        for found in ITEMS_READ.finditer(expression if by_text else read_once(expression).bare):
             if found["name"] in loops and (by_text or not found["dot"]):
                 return found["name"]
     return ""

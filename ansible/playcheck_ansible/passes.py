@@ -1,15 +1,17 @@
 # SPDX-License-Identifier: MIT OR Apache-2.0
 # The passes over a task: each takes what Ansible has and the profile lacks, and writes it as the profile has it.
 # docs/FROM_ANSIBLE.md says of each why it keeps the meaning.
+from __future__ import annotations
+
 from .arguments import merged_args, messages, name_value_texts, parameters
-from .books import is_module
+from .books import Task, is_module
 from .flow_words import flow_words, pass_over, passed_words
 from .kinds import asked_word
 from .loops import dict_loops, loop_variables, loops
 from .mistakes import documented_values
-from .modules import CORE, SETS_UNSEEN, UNKNOWN, short_name
+from .modules import CORE, SETS_UNSEEN, UNKNOWN, Modules, short_name
 from .names import mentioned
-from .nodes import Mapping, Scalar, Sequence, has_template, is_nothing, is_text, made, texts_of
+from .nodes import Mapping, Node, Scalar, Sequence, has_template, is_nothing, is_text, made, texts_of
 from .values import as_bool, as_int, converted, is_whole
 from .wording import nearest
 
@@ -22,7 +24,7 @@ NO_FLOW = ("noop", "reset_connection")
 SHORT = 5
 
 
-def run_passes(task, modules):
+def run_passes(task: Task, modules: Modules) -> None:
     """All passes over a task, in their order; where one finds a form outside the profile the rest is left."""
     for one in TASK_PASSES:
         if task.reason:
@@ -30,14 +32,14 @@ def run_passes(task, modules):
         one(task, modules)
 
 
-def plain_keywords(task, modules):
+def plain_keywords(task: Task, modules: Modules) -> None:
     """`yes`, numbers as texts and nothing at all, as Ansible takes them for keywords."""
     words = task.words
     for key in TRUTHS:
         if key in words:
-            words.put(key, as_bool(words.get(key)))
+            words.put(key, as_bool(words[key]))
     if "retries" in words:
-        words.put("retries", as_int(words.get("retries")))
+        words.put("retries", as_int(words["retries"]))
         if "until" not in words:
             pass_over(task, "retries")
         else:
@@ -56,25 +58,25 @@ def plain_keywords(task, modules):
             words.take(key)
 
 
-def bounded_retries(task):
+def bounded_retries(task: Task) -> None:
     """More tries than the profile has are as many as it has, and a template is any number: the verdict has no bound."""
-    node = task.words.get("retries")
-    is_number = isinstance(node.value, int) if isinstance(node, Scalar) else False
-    if is_number and node.value > MOST_RETRIES or is_whole(node):
+    node = task.words["retries"]
+    number = node.value if isinstance(node, Scalar) and isinstance(node.value, int) else None
+    if is_whole(node) or number is not None and number > MOST_RETRIES:
         task.has_no_bound = True
         task.words.put("retries", made(MOST_RETRIES, node.place))
-        if not is_number:
+        if number is None:
             task.asked += asked_word("retries", node)
 
 
-def plain_conditions(task, modules):
+def plain_conditions(task: Task, modules: Modules) -> None:
     """A condition in braces is the expression itself."""
     for key in ("when", "changed_when", "failed_when", "until"):
         if key in task.words:
-            task.words.put(key, without_braces(task.words.get(key)))
+            task.words.put(key, without_braces(task.words[key]))
 
 
-def without_braces(node):
+def without_braces(node: Node) -> Node:
     if isinstance(node, Sequence):
         return Sequence([without_braces(item) for item in node.items], node.place)
     if is_whole(node):
@@ -82,18 +84,21 @@ def without_braces(node):
     return node
 
 
-def action_words(task, modules):
+def action_words(task: Task, modules: Modules) -> None:
     """`action` and `local_action` with a module's name become that module."""
     for key in ("action", "local_action"):
         node = task.words.take(key)
         if node is None:
             continue
+        module = node.get("module") if isinstance(node, Mapping) else None
+        arguments: Node
         if is_text(node):
             name, _, text = node.value.strip().partition(" ")
             arguments = made(text.strip() or None, node.place)
-        elif isinstance(node, Mapping) and is_text(node.get("module")):
-            name, arguments = node.get("module").value, node.copy()
-            arguments.take("module")
+        elif isinstance(node, Mapping) and is_text(module):
+            name, copied = module.value, node.copy()
+            copied.take("module")
+            arguments = copied
         else:
             task.leave(f"`{key}` without a module's name", node.place)
             return
@@ -103,19 +108,19 @@ def action_words(task, modules):
         task.words.put(name, arguments)
 
 
-def plain_module_names(task, modules):
+def plain_module_names(task: Task, modules: Modules) -> None:
     """A built-in module with its collection's name is the same; a short name is looked for in the collections first."""
     for key in [key for key in task.words.pairs if is_module(key)]:
         longer = [f"{one}.{key}" for one in task.collections if "." not in key]
         name = next((one for one in longer if one in modules.written), short_name(key))
         name = modules.written.get(name, name)
         if name != key:
-            node, place = task.words.take(key), task.words.keys.get(key)
+            node, place = task.words.pairs.pop(key), task.words.keys.get(key)
             task.words.put(name, node)
             task.words.keys[name] = place or node.place
 
 
-def unread_vars(task, modules):
+def unread_vars(task: Task, modules: Modules) -> None:
     """A name of a task's `vars` that holds `omit` and that nothing reads is dropped: it is never evaluated."""
     given = task.words.get("vars")
     if not isinstance(given, Mapping):
@@ -132,16 +137,16 @@ def unread_vars(task, modules):
         task.words.take("vars")
 
 
-def without(words, name):
+def without(words: Mapping, name: str) -> Mapping:
     return Mapping({key: part for key, part in words.pairs.items() if key != name}, words.place)
 
 
-def known_module(task, modules):
+def known_module(task: Task, modules: Modules) -> None:
     """A task with another module than those of the profile and of the signatures isn't judged; its texts are asked."""
     keys = [key for key in task.words.pairs if is_module(key)]
     if len(keys) != 1 or modules.has(keys[0]):
         return
-    module, node = keys[0], task.words.get(keys[0])
+    module, node = keys[0], task.words[keys[0]]
     why = modules.unknown.get(module, modules.unasked)
     told = f"the module `{module}` is neither built in nor declared{': ' * bool(why)}{why}{meant(module, modules)}"
     task.leave(told, task.words.keys.get(module) or node.place)
@@ -150,7 +155,7 @@ def known_module(task, modules):
         task.asked += [converted(text, "omitted") for text in texts_of(node)]
 
 
-def meant(module, modules):
+def meant(module: str, modules: Modules) -> str:
     """The module that a name may mean: one that isn't declared only where ansible-doc doesn't know the name."""
     is_sought = modules.unknown.get(module) == UNKNOWN
     names = {*modules.parameters, *modules.written, *(CORE if is_sought else ())}
@@ -158,7 +163,7 @@ def meant(module, modules):
     return f". Did you mean '{near}'?" if near else ""
 
 
-def meta_actions(task, modules):
+def meta_actions(task: Task, modules: Modules) -> None:
     """Of `meta` the profile has `flush_handlers`; `noop` and `reset_connection` do nothing to the flow."""
     node = task.words.get("meta")
     if not is_text(node):

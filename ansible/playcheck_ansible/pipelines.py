@@ -1,19 +1,27 @@
 # SPDX-License-Identifier: MIT OR Apache-2.0
 # Prints reports for pipelines: GitHub's commands, and SARIF 2.1.0; gitlab_junit.py has two more formats.
+from __future__ import annotations
+
+from typing import TYPE_CHECKING, Dict, List
+
 from .codes import OWN_TITLES, TITLES
 from .printing import json_of, line_of
 from .wording import message_of, verdict_of
+
+if TYPE_CHECKING:
+    from .checking import Report, Unjudged
+    from .problems import Place
 
 SARIF_SCHEMA = "https://json.schemastore.org/sarif-2.1.0.json"
 NOT_JUDGED = "not-judged"
 
 
-def left_of(report):
+def left_of(report: Report) -> List[Unjudged]:
     """What a report doesn't judge or ask."""
     return [*report.unjudged, *report.notes]
 
 
-def sarif_format(reports, has_colour):
+def sarif_format(reports: List[Report], has_colour: bool) -> str:
     used = sorted({one.code for report in reports for one in report.findings})
     rules = [{"id": code, "shortDescription": {"text": {**TITLES, **OWN_TITLES}.get(code, code)}} for code in used]
     rules.append({"id": NOT_JUDGED, "shortDescription": {"text": "a task that isn't judged"}})
@@ -21,42 +29,42 @@ def sarif_format(reports, has_colour):
     for report in reports:
         for one in report.findings:
             results.append(sarif_result(one.code, "error", message_of(one), one.place))
-        for one in left_of(report):
-            results.append(sarif_result(NOT_JUDGED, "note", line_of(one.reason), one.place))
+        for left in left_of(report):
+            results.append(sarif_result(NOT_JUDGED, "note", line_of(left.reason), left.place))
     run = {"tool": {"driver": {"name": "playcheck", "rules": rules}}, "results": results}
     return json_of({"$schema": SARIF_SCHEMA, "version": "2.1.0", "runs": [run]})
 
 
-def sarif_result(code, level, text, place):
+def sarif_result(code: str, level: str, text: str, place: Place) -> Dict[str, object]:
     from urllib.parse import quote  # read where it is wanted: no other format writes a URI
 
-    location = {"artifactLocation": {"uri": quote(path_of(place))}}
+    location: Dict[str, object] = {"artifactLocation": {"uri": quote(path_of(place))}}
     if place.line:
         location["region"] = {"startLine": place.line, "startColumn": place.column}
     return {"ruleId": code, "level": level, "message": {"text": text},
             "locations": [{"physicalLocation": location}]}
 
 
-def path_of(place):
+def path_of(place: Place) -> str:
     path = place.file.replace("\\", "/")
     return path[2:] if path.startswith("./") else path
 
 
-def github_format(reports, has_colour):
+def github_format(reports: List[Report], has_colour: bool) -> str:
     printed = []
     for report in reports:
         for one in report.findings:
             printed.append(f"::error {github_place(one.place)},title={one.code}::{github_text(message_of(one))}")
-        for one in left_of(report):
-            printed.append(f"::notice {github_place(one.place)},title=not judged::{github_text(line_of(one.reason))}")
+        for left in left_of(report):
+            printed.append(f"::notice {github_place(left.place)},title=not judged::{github_text(line_of(left.reason))}")
         printed.append(verdict_of(report))
     return "".join(line + "\n" for line in printed)
 
 
-def github_place(place):
+def github_place(place: Place) -> str:
     file = github_text(line_of(place.file)).replace(":", "%3A").replace(",", "%2C")
     return f"file={file},line={place.line},col={place.column}" if place.line else f"file={file}"
 
 
-def github_text(text):
+def github_text(text: str) -> str:
     return text.replace("%", "%25").replace("\r", "%0D").replace("\n", "%0A")

@@ -1,20 +1,27 @@
 # SPDX-License-Identifier: MIT OR Apache-2.0
 # The passes over plays and blocks: as those over tasks, see passes.py.
-import re
+from __future__ import annotations
 
-from .books import SECTIONS, Block, Raw, Task, steps_below
+import re
+from typing import TYPE_CHECKING, Iterable, List, Match, Optional, Set
+
+from .books import SECTIONS, Block, Book, Play, Raw, Task, steps_below
 from .flow_words import FLOW, PASSED
 from .gathering import gathered_by_tasks, gathered_facts
+from .identifiers import VARIABLE
 from .inclusion import leave_early_notifiers
 from .kinds import FIRST, asked_word, wrong_word
-from .names import mentioned
-from .nodes import Mapping, Scalar, Sequence, has_template, is_literal, is_nothing, is_text, made
+from .names import mentioned, names_of_vars
+from .nodes import (Mapping, Node, Pairs, Scalar, Sequence, has_template, is_literal, is_nothing, is_text, items_or_one,
+                    made, pairs_in)
 from .null_rc import leave_readers_of_null
 from .outlived import leave_readers_of_items, note_outlived
 from .passes import TRUTHS, run_passes, without_braces
 from .values import as_bool, as_int
 
-VARIABLE = re.compile(r"[A-Za-z_][A-Za-z0-9_]{0,127}")
+if TYPE_CHECKING:
+    from .modules import Modules
+
 PLAY_PASSED = (*PASSED, "gather_subset", "gather_timeout", "fact_path", "order", "module_defaults")
 PLAY_FLOW = tuple(word for word in FLOW if word != "module_defaults")
 LOOKED_UP = re.compile(r"\{\{\s*([A-Za-z_]\w*)\s*(?:\|\s*default\(\s*(?:'([^']*)'|\"([^\"]*)\")\s*(?:,\s*[Tt]rue\s*)?\)"
@@ -23,11 +30,9 @@ STRATEGIES = {"debug": "linear", "ansible.builtin.linear": "linear", "ansible.bu
               "ansible.builtin.debug": "linear"}
 
 
-def run_book_passes(book, modules, extra):
+def run_book_passes(book: Book, modules: Modules, extra: Pairs) -> None:
     """All passes over a book: its plays, their blocks and their tasks."""
-    for play in book.plays:
-        if isinstance(play, Raw):
-            continue
+    for play in book.read_plays():
         for one in PLAY_PASSES:
             one(play, extra)
         note_outer_names(play)
@@ -47,32 +52,30 @@ def run_book_passes(book, modules, extra):
     leave_readers_of_null(book)
 
 
-def note_outer_names(play):
+def note_outer_names(play: Play) -> None:
     """Tells the tasks with `vars` or a loop variable of their own which names are mentioned round them."""
     tasks = [task for task in play.tasks() if "loop_control" in task.words or "vars" in task.words]
     if tasks:
-        holders = [play, *(step for step in play.steps() if isinstance(step, Block))]
-        names = set().union(*(mentioned(holder.words, holder.asked) for holder in holders))
+        names: Set[str] = set().union(*(mentioned(holder.words, holder.asked) for holder in play.containers()))
         for task in tasks:
             task.outer_names = names
 
 
-def leave_tagged(play):
+def leave_tagged(play: Play) -> None:
     """Leaves what has a template among its tags that reads more than the play gives: tags are evaluated for no host."""
-    given = play.words.get("vars")
-    known = set(given.pairs) if isinstance(given, Mapping) else set()
+    known = names_of_vars(play.words)
     for step in play.steps():
         tags = step.words.get("tags") if not isinstance(step, Raw) else None
         if tags is not None and mentioned(Mapping({"tags": tags}, step.place)) - known:
             leave_all([task for task in steps_below([step]) if isinstance(task, Task)], "its tags read what a host has")
 
 
-def leave_all(tasks, reason):
+def leave_all(tasks: Iterable[Task], reason: str) -> None:
     for task in tasks:
         task.leave(reason)
 
 
-def empty_sections(play, extra):
+def empty_sections(play: Play, extra: Pairs) -> None:
     """A word without a value is none, and truth values, numbers and strategies are what Ansible makes of them."""
     words = play.words
     for key in (*SECTIONS, "handlers", "vars", "vars_files", "roles", "name", "gather_facts", "serial", "strategy"):
@@ -80,16 +83,16 @@ def empty_sections(play, extra):
             words.take(key)
     for key in TRUTHS:
         if key in words:
-            words.put(key, as_bool(words.get(key)))
+            words.put(key, as_bool(words[key]))
     strategy = words.get("strategy")
     if is_text(strategy) and strategy.value in STRATEGIES:
         words.put("strategy", made(STRATEGIES[strategy.value], strategy.place))
     if "serial" in words:
-        words.put("serial", counts(words.get("serial")))
+        words.put("serial", counts(words["serial"]))
     plain_name(words)
 
 
-def plain_name(words):
+def plain_name(words: Mapping) -> None:
     """A number as a name is a text; what is no single value is none."""
     name = words.get("name")
     if isinstance(name, Scalar) and not isinstance(name.value, str):
@@ -98,19 +101,19 @@ def plain_name(words):
         words.take("name")
 
 
-def counts(node):
+def counts(node: Node) -> Node:
     if isinstance(node, Sequence):
         return Sequence([as_int(item) for item in node.items], node.place)
     return as_int(node)
 
 
-def prompted_variables(play, extra):
+def prompted_variables(play: Play, extra: Pairs) -> None:
     """A variable that is asked for at the start is a text: its value isn't known."""
     play.words.take("vars_prompt")
     play.prompted -= set(extra)
 
 
-def extra_variables(play, extra):
+def extra_variables(play: Play, extra: Pairs) -> None:
     """Variables of the command line win over all others: they stand at the play, and nowhere below it."""
     take_extra(play.words, extra)
     if not extra:
@@ -122,7 +125,7 @@ def extra_variables(play, extra):
     play.words.put("vars", merged)
 
 
-def take_extra(words, extra):
+def take_extra(words: Mapping, extra: Pairs) -> None:
     given = words.get("vars")
     if isinstance(given, Mapping) and any(name in extra for name in given.pairs):
         kept = given.copy()
@@ -131,25 +134,25 @@ def take_extra(words, extra):
         words.put("vars", kept)
 
 
-def named_hosts(play, extra):
+def named_hosts(play: Play, extra: Pairs) -> None:
     """A name of hosts that the command line gives is put in; another template leaves the play."""
     node = play.words.get("hosts")
-    texts = node.items if isinstance(node, Sequence) else [node]
-    found = [looked_up(text, play, extra) for text in texts]
+    if node is None:
+        return
+    found = [looked_up(text, play, extra) for text in items_or_one(node)]
     if any(is_text(text) and has_template(text.value) for text in found):
         play.reason = play.reason or "the play's `hosts` are a template"
         play.words.put("hosts", made("all", node.place))
-    elif node is not None:
+    else:
         play.words.put("hosts", Sequence(found, node.place) if isinstance(node, Sequence) else found[0])
 
 
-def looked_up(node, play, extra):
+def looked_up(node: Node, play: Play, extra: Pairs) -> Node:
     if not is_text(node):
         return node
-    given = play.words.get("vars")
-    known = {**(given.pairs if isinstance(given, Mapping) else {}), **extra}
+    known = {**pairs_in(play.words.get("vars")), **extra}
 
-    def value(match):
+    def value(match: Match[str]) -> str:
         text = known.get(match[1])
         if is_text(text) and not has_template(text.value):
             return text.value
@@ -159,7 +162,7 @@ def looked_up(node, play, extra):
     return Scalar(LOOKED_UP.sub(value, node.value), node.place, node.text, True)
 
 
-def play_words(play, extra):
+def play_words(play: Play, extra: Pairs) -> None:
     """As of tasks: what changes the flow leaves all tasks of the play, the rest is asked and passed over."""
     flow = {word: play.words.take(word) for word in PLAY_FLOW}
     bars = [word for word, node in flow.items() if is_on(node, word, play)]
@@ -180,18 +183,18 @@ def play_words(play, extra):
     lost_variables(play)
 
 
-def is_on(node, word, play):
+def is_on(node: Optional[Node], word: str, play: Play) -> bool:
     """Whether a word that changes the flow does so here: where nothing is rescued, a play's end is a host's end."""
     if node is None or isinstance(node, Scalar) and node.value in (False, None):
         return False
     if word in ("any_errors_fatal", "max_fail_percentage"):
         forced = play.words.get("force_handlers")
-        parts = any({"rescue", "always"} & set(step.parts) for step in play.steps() if isinstance(step, Block))
+        parts = any({"rescue", "always"} & set(block.parts) for block in play.blocks())
         return parts or (isinstance(forced, Scalar) and forced.value is True)
     return True
 
 
-def lost_variables(holder):
+def lost_variables(holder: Play | Block) -> None:
     """Variables that the profile can't have: a name that no expression reads, a decimal number."""
     given = holder.words.get("vars")
     if not isinstance(given, Mapping):
@@ -206,7 +209,7 @@ def lost_variables(holder):
     holder.words.put("vars", kept)
 
 
-def has_decimal(node):
+def has_decimal(node: Node) -> bool:
     if isinstance(node, Mapping):
         return any(has_decimal(part) for part in node.pairs.values())
     if isinstance(node, Sequence):
@@ -214,7 +217,7 @@ def has_decimal(node):
     return isinstance(node.value, float) or isinstance(node.value, int) and not -2**63 <= node.value < 2**63
 
 
-def block_words(block, extra):
+def block_words(block: Block, extra: Pairs) -> None:
     """The words of a block, as of a play; what it notifies its tasks notify."""
     words = block.words
     take_extra(words, extra)
@@ -222,17 +225,17 @@ def block_words(block, extra):
         if key in words and is_nothing(words.get(key)):
             words.take(key)
     if "ignore_errors" in words:
-        words.put("ignore_errors", as_bool(words.get("ignore_errors")))
+        words.put("ignore_errors", as_bool(words["ignore_errors"]))
     if "when" in words:
-        words.put("when", without_braces(words.get("when")))
+        words.put("when", without_braces(words["when"]))
     plain_name(words)
     below = [step for step in steps_below([block]) if isinstance(step, Task)]
     if "when" in words:
         for task in below:
             task.is_below_condition = True
     once = words.take("run_once")
-    for task in below if once is not None else ():
-        if "run_once" not in task.words:
+    for task in below:
+        if once is not None and "run_once" not in task.words:
             task.words.put("run_once", as_bool(once))
     for word in FLOW:
         node = words.take(word)
@@ -246,7 +249,7 @@ def block_words(block, extra):
     lost_variables(block)
 
 
-def ask_below(block, word, node, tasks):
+def ask_below(block: Block, word: str, node: Node, tasks: List[Task]) -> None:
     """Asks a word of a block, at its start; of one that Ansible asks before each condition that may be too late."""
     wrong = wrong_word(word, node)
     is_late = word in FIRST and not is_literal(node) and any(task.is_below_condition for task in tasks)
@@ -256,15 +259,13 @@ def ask_below(block, word, node, tasks):
         block.asked += asked_word(word, node)
 
 
-def notify_below(node, tasks):
+def notify_below(node: Optional[Node], tasks: List[Task]) -> None:
     """What a block notifies each of its tasks does, beside what it notifies itself."""
     if node is None:
         return
     for task in tasks:
         own = task.words.get("notify")
-        items = [part for one in (own, node) if one is not None
-                 for part in (one.items if isinstance(one, Sequence) else [one])]
-        task.words.put("notify", Sequence(items, node.place))
+        task.words.put("notify", Sequence([*items_or_one(own), *items_or_one(node)], node.place))
 
 
 PLAY_PASSES = (empty_sections, prompted_variables, extra_variables, named_hosts, gathered_facts, play_words)

@@ -1,13 +1,17 @@
 # SPDX-License-Identifier: MIT OR Apache-2.0
 # Reads a YAML file into nodes with places, within bounds: no tag makes an object, and no alias explodes.
+from __future__ import annotations
+
 import errno
 import os
 import re
 import stat
+from dataclasses import dataclass
+from typing import Dict, Iterator, List, Optional, Tuple, Union
 
 import yaml
 
-from .nodes import Mapping, Node, Scalar, Sequence, has_template
+from .nodes import Atom, Mapping, Node, Scalar, Sequence, has_template, is_text
 from .problems import Place, Problem
 
 MOST_BYTES = 4_194_304
@@ -83,40 +87,46 @@ def node_of(text: str, path: str) -> Node:
         raise Problem(Place(path), f"a value can't be read: {error}") from None
 
 
-def place_of(mark, path):
+def place_of(mark: Optional[yaml.Mark], path: str) -> Place:
     return Place(path, mark.line + 1, mark.column + 1) if mark else Place(path)
 
 
-def place_at(text, position, path):
+def place_at(text: str, position: object, path: str) -> Place:
     position = position if isinstance(position, int) else 0
     return Place(path, text.count("\n", 0, position) + 1, position - text.rfind("\n", 0, position))
+
+
+@dataclass
+class Opened:
+    """A list or a mapping that isn't ended."""
+
+    node: Union[Sequence, Mapping]
+    anchor: Optional[str]
+    before: int  # how many nodes came before it
+    key: Optional[Tuple[str, Place]] = None  # the one whose value is awaited
 
 
 class Composer:
     """Puts nodes together from the parser's events, without recursion over the file."""
 
-    def __init__(self, text, path):
+    def __init__(self, text: str, path: str) -> None:
         self.path = path
-        self.events = yaml.parse(text, Loader=LOADER)
+        self.events: Iterator[yaml.Event] = yaml.parse(text, Loader=LOADER)
         self.resolver = yaml.resolver.Resolver()
         self.constructor = yaml.constructor.SafeConstructor()
-        self.anchors = {}  # a name to its node and the number of nodes in it
+        self.anchors: Dict[str, Tuple[Optional[Node], int]] = {}  # a name to its node and the number of nodes in it
         self.nodes = 0
-        self.open = []  # the lists and mappings that aren't ended: node, anchor, nodes before, key that waits
+        self.open: List[Opened] = []  # the lists and mappings that aren't ended
 
-    def document(self):
-        found = None
+    def document(self) -> Node:
+        found: Optional[Node] = None
         documents = 0
-        enders = {yaml.ScalarEvent: self.single, yaml.MappingEndEvent: self.end, yaml.SequenceEndEvent: self.end,
-                  yaml.AliasEvent: self.alias}
         for event in self.events:
-            ender = enders.get(type(event))
-            if ender is not None:
-                node = ender(event)
-                if self.open:
-                    self.put(node)
-                else:
-                    found = node
+            node = self.ended(event)
+            if node is not None and self.open:
+                self.put(node)
+            elif node is not None:
+                found = node
             elif isinstance(event, yaml.CollectionStartEvent):
                 self.begin(event)
             elif isinstance(event, yaml.DocumentStartEvent):
@@ -125,40 +135,49 @@ class Composer:
                     raise Problem(self.place(event), "a second document; one is wanted")
         return found if found is not None else Scalar(None, Place(self.path, 1, 1))
 
-    def place(self, event):
+    def ended(self, event: yaml.Event) -> Optional[Node]:
+        """The value that an event gives or ends."""
+        if isinstance(event, yaml.ScalarEvent):
+            return self.single(event)
+        if isinstance(event, (yaml.MappingEndEvent, yaml.SequenceEndEvent)):
+            return self.end()
+        return self.alias(event) if isinstance(event, yaml.AliasEvent) else None
+
+    def place(self, event: yaml.Event) -> Place:
         mark = event.start_mark
         return Place(self.path, mark.line + 1, mark.column + 1)
 
-    def end(self, event):
+    def end(self) -> Node:
         """The list or the mapping that ends."""
-        node, anchor, before, _ = self.open.pop()
-        self.keep(anchor, node, self.nodes - before)
-        return node
+        last = self.open.pop()
+        self.keep(last.anchor, last.node, self.nodes - last.before)
+        return last.node
 
-    def single(self, event):
+    def single(self, event: yaml.ScalarEvent) -> Scalar[Atom]:
         """A single value."""
         self.count(1, event)
         node = self.scalar(event)
         self.keep(event.anchor, node, 1)
         return node
 
-    def begin(self, event):
+    def begin(self, event: yaml.CollectionStartEvent) -> None:
         self.count(1, event)
         if len(self.open) >= MOST_LEVELS:
             raise Problem(self.place(event), f"more than {MOST_LEVELS} lists and mappings inside one another")
         wanted = "map" if isinstance(event, yaml.MappingStartEvent) else "seq"
         if event.tag and event.tag != PREFIX + wanted:
             raise Problem(self.place(event), f"the tag {short_tag(event.tag)} isn't read")
-        node = Mapping({}, self.place(event)) if wanted == "map" else Sequence([], self.place(event))
+        place = self.place(event)
+        node: Union[Sequence, Mapping] = Mapping({}, place) if wanted == "map" else Sequence([], place)
         if event.anchor:
             self.anchors[event.anchor] = (None, 0)
-        self.open.append([node, event.anchor, self.nodes - 1, None])
+        self.open.append(Opened(node, event.anchor, self.nodes - 1))
 
-    def keep(self, anchor, node, nodes):
+    def keep(self, anchor: Optional[str], node: Node, nodes: int) -> None:
         if anchor:
             self.anchors[anchor] = (node, nodes)
 
-    def alias(self, event):
+    def alias(self, event: yaml.AliasEvent) -> Node:
         if event.anchor not in self.anchors:
             raise Problem(self.place(event), f"nothing is anchored as &{event.anchor}")
         node, nodes = self.anchors[event.anchor]
@@ -167,31 +186,30 @@ class Composer:
         self.count(nodes, event)
         return node
 
-    def count(self, nodes, event):
+    def count(self, nodes: int, event: yaml.Event) -> None:
         self.nodes += nodes
         if self.nodes > MOST_NODES:
             raise Problem(self.place(event), f"more than {MOST_NODES:,} values, with what its aliases stand for")
 
-    def put(self, node):
-        frame = self.open[-1]
-        parent, _, _, key = frame
-        if isinstance(parent, Sequence):
-            parent.items.append(node)
-        elif key is None:
-            frame[3] = self.key(node)
+    def put(self, node: Node) -> None:
+        last = self.open[-1]
+        if isinstance(last.node, Sequence):
+            last.node.items.append(node)
+        elif last.key is None:
+            last.key = self.key(node)
         else:
-            frame[3] = None
-            self.put_pair(parent, key, node)
+            key, last.key = last.key, None
+            self.put_pair(last.node, key, node)
 
-    def key(self, node):
+    def key(self, node: Node) -> Tuple[str, Place]:
         if isinstance(node, Scalar) and node.text == "<<" and not node.is_quoted:
             return ("<<", node.place)
-        if not isinstance(node, Scalar) or not isinstance(node.value, str):
+        if not is_text(node):
             shown = node.text if isinstance(node, Scalar) else "a list or a mapping"
             raise Problem(node.place, f"a key that is no text: {shown or 'null'}; write it with quotes")
         return (node.value, node.place)
 
-    def put_pair(self, mapping, key, node):
+    def put_pair(self, mapping: Mapping, key: Tuple[str, Place], node: Node) -> None:
         name, place = key
         if name == "<<":
             self.merge(mapping, node)
@@ -202,7 +220,7 @@ class Composer:
         mapping.pairs[name] = node
         mapping.keys[name] = place
 
-    def merge(self, mapping, node):
+    def merge(self, mapping: Mapping, node: Node) -> None:
         others = node.items if isinstance(node, Sequence) else [node]
         for other in others:
             if not isinstance(other, Mapping):
@@ -213,7 +231,7 @@ class Composer:
                     mapping.keys[name] = other.keys.get(name, other.place)
                     mapping.merged.add(name)
 
-    def scalar(self, event):
+    def scalar(self, event: yaml.ScalarEvent) -> Scalar[Atom]:
         place, text = self.place(event), event.value
         if not text.isascii() and SURROGATE.search(text):
             raise Problem(place, "half of a surrogate pair, which is no text")
@@ -221,11 +239,11 @@ class Composer:
         if event.tag is None or event.tag == "!":
             if is_quoted or (PLAIN_TEXT.match(text) and text.lower() not in WORDS):
                 return Scalar(text, place, text, is_quoted)
-            tag = self.resolver.resolve(yaml.ScalarNode, text, event.implicit)
+            tag: str = self.resolver.resolve(yaml.ScalarNode, text, event.implicit)
             return Scalar(self.value(tag, text, place), place, text)
         return self.tagged(event.tag, text, place)
 
-    def tagged(self, tag, text, place):
+    def tagged(self, tag: str, text: str, place: Place) -> Scalar[Atom]:
         if tag == "!unsafe" and has_template(text):
             return Scalar("{{ '" + escaped(text) + "' }}", place, text, True)
         if tag in KNOWN_TAGS:
@@ -234,7 +252,7 @@ class Composer:
             return Scalar(self.value(tag, text, place), place, text)
         raise Problem(place, f"the tag {short_tag(tag)} isn't read")
 
-    def value(self, tag, text, place):
+    def value(self, tag: str, text: str, place: Place) -> Atom:
         kind = tag[len(PREFIX):]
         node = yaml.ScalarNode(tag, text)
         try:
@@ -259,12 +277,12 @@ def is_too_long(text: str) -> bool:
     return len(digits) > MOST_DIGITS or digits.count(":") > MOST_PARTS
 
 
-def escaped(text):
+def escaped(text: str) -> str:
     """The letters of a text as an expression writes them."""
     for letter, written in (("\\", "\\\\"), ("'", "\\'"), ("\n", "\\n"), ("\t", "\\t")):
         text = text.replace(letter, written)
     return text
 
 
-def short_tag(tag):
+def short_tag(tag: str) -> str:
     return "!!" + tag[len(PREFIX):] if tag.startswith(PREFIX) else tag

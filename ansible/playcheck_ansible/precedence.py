@@ -4,12 +4,10 @@ from __future__ import annotations
 
 from dataclasses import dataclass
 from enum import IntEnum
-from typing import TYPE_CHECKING, Dict, Iterable, List, Mapping as Pairs, Optional, Tuple, Union
+from typing import TYPE_CHECKING, Iterable, List, Mapping, Optional, Tuple
 
 if TYPE_CHECKING:
-    from .nodes import Mapping, Scalar, Sequence
-
-    Node = Union[Mapping, Sequence, Scalar]
+    from .nodes import Node, Pairs
 
 
 class Source(IntEnum):
@@ -44,7 +42,7 @@ class Given:
     """What one place gives: its source, where it stands among others of that source, and its names."""
 
     source: Source
-    pairs: Pairs[str, Node]
+    pairs: Mapping[str, Node]
     step: int = 0  # of one source the later ones win: 0 for the whole play, then for the role, then for its own
 
     @property
@@ -70,9 +68,9 @@ def winner(name: str, given: Iterable[Given]) -> Optional[Given]:
     return found
 
 
-def values_of(given: Iterable[Given]) -> Dict[str, Node]:
+def values_of(given: Iterable[Given]) -> Pairs:
     """Each name with the value that wins."""
-    found: Dict[str, Node] = {}
+    found: Pairs = {}
     for one in in_order(given):
         found.update(one.pairs)
     return found

@@ -1,5 +1,7 @@
 # SPDX-License-Identifier: MIT OR Apache-2.0
 # What goes wrong before a verdict: a file that can't be read, a form that can't be put into JSON.
+from __future__ import annotations
+
 from typing import NamedTuple, Optional
 
 

@@ -1,5 +1,7 @@
 # SPDX-License-Identifier: MIT OR Apache-2.0
 # Calls the ready program with a book, an inventory and signatures, and reads its answer.
+from __future__ import annotations
+
 import json
 import os
 import re
@@ -28,17 +30,17 @@ class Answer:
 class Asker:
     """Asks the program about books, with one inventory and one file of signatures, which are files in memory alone."""
 
-    def __init__(self, inventory, signatures):
+    def __init__(self, inventory: object, signatures: object) -> None:
         self.files = [file_in_memory("inventory", inventory), file_in_memory("signatures", signatures)]
 
-    def __enter__(self):
+    def __enter__(self) -> Asker:
         return self
 
-    def __exit__(self, *_):
+    def __exit__(self, *_: object) -> None:
         for file in self.files:
             os.close(file)
 
-    def ask(self, book):
+    def ask(self, book: object) -> Answer:
         inventory, signatures = (f"/proc/self/fd/{file}" for file in self.files)
         words = [program(), "check", "-", "-i", inventory, "-s", signatures]
         ALLOWANCE.ask()
@@ -50,14 +52,14 @@ class Asker:
         return answer_of(done, words[0])
 
 
-def file_in_memory(name, value):
+def file_in_memory(name: str, value: object) -> int:
     number = os.memfd_create(name)
     with open(number, "w", encoding="utf-8", closefd=False) as file:
         file.write(json.dumps(value))
     return number
 
 
-def answer_of(done, name):
+def answer_of(done: subprocess.CompletedProcess[str], name: str) -> Answer:
     refused, accepted = REFUSED.fullmatch(done.stdout), ACCEPTED.fullmatch(done.stdout)
     if done.returncode == 0 and accepted:
         return Answer(budget=int(accepted[1]))

@@ -5,7 +5,8 @@ from __future__ import annotations
 import re
 from typing import TYPE_CHECKING, Dict, Iterable, Iterator, Set
 
-from .books import Block, Book, Play, Raw, Task, steps_below
+from .books import Block, Book, Play, Task, steps_below
+from .identifiers import NAME
 from .mistakes import Mistake
 from .names import KNOWN, given_names, names_of_vars
 from .nodes import Mapping, has_template, is_text
@@ -27,17 +28,15 @@ inventory_hostname_short""".split())
 # Python's keywords, which Ansible takes for no variable.
 KEYWORDS = frozenset("""False None True and as assert async await break class continue def del elif else except finally
 for from global if import in is lambda nonlocal not or pass raise return try while with yield""".split())
-NAME = re.compile(r"[A-Za-z_][A-Za-z0-9_]*")
 
 
 def lose_reserved(book: Book, inventory: Inventory, extra: Iterable[str]) -> None:
     """What anything gives under a name that Ansible has itself is lost: its readers aren't judged."""
-    plays = [play for play in book.plays if isinstance(play, Play)]
+    plays = book.read_plays()
     given: Set[str] = {*inventory.names(), *extra}
     for play in plays:
-        for step in [play, *play.steps()]:
-            if not isinstance(step, Raw):
-                given |= names_of_vars(step.words) | (given_names(step) if isinstance(step, Task) else set())
+        for step in play.holders():
+            given |= names_of_vars(step.words) | (given_names(step) if isinstance(step, Task) else set())
     for play in plays:
         for name in given & GLOBALS:
             play.lost[name] = f"'{name}' is a name that templates have themselves"
@@ -47,11 +46,9 @@ def lose_reserved(book: Book, inventory: Inventory, extra: Iterable[str]) -> Non
 
 def mistaken_names(book: Book) -> None:
     """Notes the names that Ansible refuses as names of variables, each at a task that meets it."""
-    for play in book.plays:
-        if isinstance(play, Play):
-            for step in [play, *play.steps()]:
-                if not isinstance(step, Raw):
-                    note_mistakes(step)
+    for play in book.read_plays():
+        for step in play.holders():
+            note_mistakes(step)
 
 
 def note_mistakes(step: Play | Block | Task) -> None:
@@ -72,8 +69,7 @@ def names_in(step: Play | Block | Task) -> Dict[str, Place]:
     found: Dict[str, Place] = {}
     for key in ("vars", "set_fact"):
         node = step.written.get("vars") if key == "vars" else step.words.get(key) if isinstance(step, Task) else None
-        for name, part in node.pairs.items() if isinstance(node, Mapping) else ():
-            found[name] = node.keys.get(name) or part.place
+        found.update({name: node.place_of(name) for name in node.pairs} if isinstance(node, Mapping) else {})
     register = step.words.get("register") if isinstance(step, Task) else None
     if is_text(register):
         found[register.value] = register.place

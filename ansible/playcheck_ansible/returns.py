@@ -2,9 +2,12 @@
 # What calls of real modules answered otherwise than their documentation says: fields that aren't always there, or of a kind.
 from __future__ import annotations
 
-from typing import Dict, List, Tuple
+from typing import TYPE_CHECKING, Dict, Tuple
 
-from .modules import Modules
+from .modules import Modules, Signature
+
+if TYPE_CHECKING:
+    from .nodes import Record
 
 # Measured with ansible-core 2.14 and its collections: 100 calls of 52 modules, each called twice, and calls that fail.
 NOT_ALWAYS: Dict[str, Tuple[str, ...]] = {
@@ -32,14 +35,12 @@ def long_name(name: str) -> str:
     return name if "." in name else f"ansible.builtin.{name}"
 
 
-def corrected(module: "Dict[str, object]") -> "Dict[str, object]":
-    further = module.get("ansible")
-    if not isinstance(further, dict):
+def corrected(module: Signature) -> Signature:
+    further, fields = module.get("ansible"), module.get("ok")
+    if not isinstance(further, dict) or not isinstance(fields, dict):
         return module
     name = long_name(str(further.get("name", module["name"])))
-    fields = module.get("ok")
-    gone: List[str] = [*OF_NO_KIND.get(name, ())]
-    perhaps = NOT_ALWAYS.get(name, ())
-    ok = {field: {**one, "always": one["always"] and field not in perhaps}
-          for field, one in (fields.items() if isinstance(fields, dict) else ()) if field not in gone}
-    return {**module, "ok": ok}
+    gone, perhaps = OF_NO_KIND.get(name, ()), NOT_ALWAYS.get(name, ())
+    kept: Record = {field: {**one, "always": False} if field in perhaps and isinstance(one, dict) else one
+                    for field, one in fields.items() if field not in gone}
+    return {**module, "ok": kept}

@@ -7,7 +7,7 @@ from typing import TYPE_CHECKING, Dict, List
 from .precedence import OF_NEEDED, OF_PLAY, OF_ROLE, Given, Source
 
 if TYPE_CHECKING:
-    from .precedence import Node
+    from .nodes import Node
     from .roles import Role
 
 

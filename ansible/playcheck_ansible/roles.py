@@ -1,14 +1,21 @@
 # SPDX-License-Identifier: MIT OR Apache-2.0
 # Roles with literal names put in place: their tasks, handlers, defaults and variables.
+from __future__ import annotations
+
 import os
 import re
 from dataclasses import dataclass, field
+from typing import TYPE_CHECKING, List, Optional, Tuple
 
-from .books import items_of
+from .books import Play, Task, items_of
 from .flow_words import FLOW, PASSED
-from .nodes import Mapping, Scalar, Sequence, has_template, is_literal, is_nothing, is_text, made
+from .nodes import (Mapping, Node, Pairs, Scalar, Sequence, has_template, is_literal, is_nothing, is_text, items_or_one,
+                    made)
 from .positions import read_file
 from .problems import Place, Problem
+
+if TYPE_CHECKING:
+    from .steps import Context
 
 SUFFIXES = (".yml", ".yaml", ".json")
 # Words beside a role's name that are Ansible's keywords: any other is a variable of the role.
@@ -25,20 +32,20 @@ class Role:
     name: str
     folder: str
     words: Mapping  # what stands beside its name
-    defaults: dict = field(default_factory=dict)
-    variables: dict = field(default_factory=dict)
-    tasks: list = field(default_factory=list)  # nodes
+    defaults: Pairs = field(default_factory=dict)
+    variables: Pairs = field(default_factory=dict)
+    tasks: List[Node] = field(default_factory=list)  # nodes
     tasks_file: str = ""
-    handlers: list = field(default_factory=list)
+    handlers: List[Node] = field(default_factory=list)
     handlers_file: str = ""
-    needs: list = field(default_factory=list)  # nodes of the roles that run before it
-    needed: list = field(default_factory=list)  # those that were put in place
-    beside: dict = field(default_factory=dict)  # the `vars` beside its name
-    parameters: dict = field(default_factory=dict)  # what else stands there and is no keyword
-    around: tuple = ()  # the words of what stands round it, its own last
+    needs: List[Node] = field(default_factory=list)  # nodes of the roles that run before it
+    needed: List[Role] = field(default_factory=list)  # those that were put in place
+    beside: Pairs = field(default_factory=dict)  # the `vars` beside its name
+    parameters: Pairs = field(default_factory=dict)  # what else stands there and is no keyword
+    around: Tuple[Mapping, ...] = ()  # the words of what stands round it, its own last
 
 
-def role_of(node, context, is_include=False):
+def role_of(node: Node, context: Context, is_include: bool = False) -> Optional[Role]:
     """The role that a node names, or None where it can't be put in place."""
     words = node.copy() if isinstance(node, Mapping) else Mapping({"name": node}, node.place)
     named = words.take("role") or words.take("name")
@@ -56,18 +63,18 @@ def role_of(node, context, is_include=False):
     return read_role(named.value.strip(), folder, words, start.value if start is not None else "main")
 
 
-def role_folder(name, context):
+def role_folder(name: str, context: Context) -> Optional[str]:
     base = context.book_folder
     places = [os.path.join(start, name) for start in (
         os.path.join(base, "roles"), base, os.path.join(base, "..", "roles"),
         os.path.dirname(os.path.dirname(os.path.dirname(context.file))) or ".")]
-    for path in map(os.path.normpath, [*places, *collection_places(name, context)]):
+    for path in [os.path.normpath(place) for place in [*places, *collection_places(name, context)]]:
         if any(os.path.isdir(os.path.join(path, part)) for part in ("tasks", "handlers", "defaults", "vars", "meta")):
             return path
     return None
 
 
-def collection_places(name, context):
+def collection_places(name: str, context: Context) -> List[str]:
     """Where a role of a collection may lie: beside the book, in the collections round it, and where Ansible looks."""
     parts = name.split(".")
     if len(parts) != 3 or not all(re.fullmatch(r"\w+", part) for part in parts):
@@ -80,7 +87,7 @@ def collection_places(name, context):
     return [os.path.join(root, "ansible_collections", parts[0], parts[1], "roles", parts[2]) for root in roots]
 
 
-def read_role(name, folder, words, start):
+def read_role(name: str, folder: str, words: Mapping, start: str) -> Role:
     role = Role(name, folder, words)
     role.defaults = pairs_of(role_file(folder, "defaults", "main"))
     role.variables = pairs_of(role_file(folder, "vars", "main"))
@@ -92,7 +99,7 @@ def read_role(name, folder, words, start):
     node = read_file(meta) if meta else None
     role.needs = items_of(node.get("dependencies")) or [] if isinstance(node, Mapping) else []
     if isinstance(node, Mapping) and "collections" in node and "collections" not in words:
-        words.put("collections", node.get("collections"))
+        words.put("collections", node["collections"])
     put_own_collection(role)
     given = words.get("vars")
     role.beside = dict(given.pairs) if isinstance(given, Mapping) else {}
@@ -100,16 +107,15 @@ def read_role(name, folder, words, start):
     return role
 
 
-def put_own_collection(role):
+def put_own_collection(role: Role) -> None:
     """A role that is named with its collection looks for short names there first."""
     own, dot, _ = role.name.rpartition(".")
     if dot and role.folder.split(os.sep)[-4:-2] == own.split("."):
-        given = role.words.get("collections")
-        others = given.items if isinstance(given, Sequence) else [given] if given is not None else []
+        others = items_or_one(role.words.get("collections"))
         role.words.put("collections", made([own, *others], role.words.place))
 
 
-def role_file(folder, part, name):
+def role_file(folder: str, part: str, name: str) -> Optional[str]:
     for suffix in ("", *SUFFIXES):
         path = os.path.join(folder, part, name + suffix)
         if os.path.isfile(path):
@@ -117,7 +123,7 @@ def role_file(folder, part, name):
     return None
 
 
-def pairs_of(path):
+def pairs_of(path: Optional[str]) -> Pairs:
     node = read_file(path) if path else None
     if node is None or is_nothing(node):
         return {}
@@ -126,37 +132,36 @@ def pairs_of(path):
     return node.pairs
 
 
-def list_of(path):
-    node = read_file(path) if path else None
-    found = items_of(node) if node is not None else []
+def list_of(path: str) -> List[Node]:
+    found = items_of(read_file(path)) if path else []
     if found is None:
         raise Problem(Place(path), "a list of tasks is wanted")
     return found
 
 
-def block_words(role, place):
+def block_words(role: Role, place: Place) -> Mapping:
     """The words of the block that stands for a role: what is beside its name; its variables come later."""
     return Mapping({key: part for key, part in role.words.pairs.items()
                     if key in ROLE_WORDS and key not in ("vars", "role", "name")}, place)
 
 
-def inherit(handler, words):
+def inherit(handler: Task, words: Mapping) -> None:
     """What a handler of a role has from words round the role: conditions before its own, and `ignore_errors`."""
     for word, node in words.pairs.items():
         own = handler.words.get(word)
         is_off = isinstance(node, Scalar) and node.value in (False, None)
         if word == "when":
-            parts = [part for one in (node, own) if one is not None for part in getattr(one, "items", [one])]
-            handler.words.put(word, Sequence(parts, node.place))
+            handler.words.put(word, Sequence([*items_or_one(node), *items_or_one(own)], node.place))
         elif word == "ignore_errors" and own is None:
             handler.words.put(word, node)
         elif word in (*FLOW, "notify") and not is_off or word in PASSED and not is_literal(node):
             handler.leave(f"`{word}` round its role changes it", node.place)
 
 
-def put_handlers(play, role, handlers):
+def put_handlers(play: Play, role: Role, handlers: List[Task]) -> None:
     """Adds a role's handlers to its play, each with its longer name as a topic."""
-    there = {handler.name: handler for handler in play.sections.get("handlers", []) if handler.name}
+    there = {handler.name: handler for handler in play.sections.get("handlers", [])
+             if isinstance(handler, Task) and handler.name}
     for handler in handlers:
         other = there.get(handler.name)
         if other is not None:
@@ -170,8 +175,7 @@ def put_handlers(play, role, handlers):
         if "collections" not in handler.words:
             handler.words.put("collections", role.words.get("collections") or made([], handler.place))
         if handler.name:
-            topics = handler.words.get("listen")
-            topics = topics.items if isinstance(topics, Sequence) else [topics] if topics is not None else []
+            topics = items_or_one(handler.words.get("listen"))
             longer = made(f"{role.name} : {handler.name}", handler.place)
             handler.words.put("listen", Sequence([*topics, longer], handler.place))
             there[handler.name] = handler

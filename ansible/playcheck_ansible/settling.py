@@ -1,17 +1,27 @@
 # SPDX-License-Identifier: MIT OR Apache-2.0
 # Asks the program about a book until it answers about the flow: each form outside the profile leaves its task.
-import re
+from __future__ import annotations
 
-from .books import Block, Play, Task
+import re
+from typing import TYPE_CHECKING, Callable, List, Optional, Set, Tuple
+
+from .books import Block, Book, Play, Task
+from .expressions import read_once
 from .inclusion import topics_of
 from .lines import Line, Printer
-from .modules import CHANGES_FLOW, PROFILE, SETS_UNSEEN
-from .names import names_of_vars, read_places, without_texts
-from .nodes import Mapping, Sequence, has_template, texts_of
+from .mistakes import Mistake
+from .modules import CHANGES_FLOW, PROFILE, SETS_UNSEEN, Modules
+from .names import names_of_vars, read_places
+from .nodes import Mapping, Node, Sequence, has_template, made, pairs_in, texts_of
 from .problems import Place
 from .unjudged import CUT, Marker, leave_handlers
 from .unread import leave_unread
 from .wording import nearest
+
+if TYPE_CHECKING:
+    from .checking import Finding
+    from .inventory import Inventory
+    from .program import Answer, Asker
 
 RESULT_FIELDS = {"changed", "failed", "skipped", "skip_reason", "msg", "results"}
 MOST_REFUSALS = 50  # for each the program is asked anew
@@ -27,25 +37,30 @@ FORM_REASONS = {
 }
 
 
+# What makes a finding of a refusal, and of what the front end sees itself.
+MakesFinding = Callable[["Answer", Optional[Line], "Settler"], "Finding"]
+MakesOwnFinding = Callable[[Mistake, Line], "Finding"]
+
+
 class Settler(Marker):
     """Asks the program until it answers about the flow: each form outside the profile leaves its task."""
 
-    def __init__(self, book, modules, inventory, asker):
+    def __init__(self, book: Book, modules: Modules, inventory: Inventory, asker: Asker) -> None:
         super().__init__(book, modules, inventory)
         self.asker = asker
-        self.findings = []
+        self.findings: List[Tuple[Optional[Line], Finding]] = []
         for play in self.plays:
             if play.reason:
                 self.strip(play)
         self.static_marks()
 
-    def ask(self):
+    def ask(self) -> Answer:
         self.spread()
         self.numbered = Printer(self.modules.unjudged_name()).book(self.book)
         self.answer = self.asker.ask(self.numbered.json)
         return self.answer
 
-    def settle(self, finding, go_on=False):
+    def settle(self, finding: MakesFinding, go_on: bool = False) -> None:
         """Asks until the answer is about the flow; `finding` makes one of a refusal, with `go_on` its task is left."""
         forms = refusals = 0
         for _ in range(2 * len(self.tasks) + 3 * len(self.plays) + 8):
@@ -67,20 +82,20 @@ class Settler(Marker):
                 self.notes.append((Place(self.book.file), what))
                 return
 
-    def take_mistakes(self, finding):
+    def take_mistakes(self, finding: MakesOwnFinding) -> None:
         """Makes findings of what documentation shows, and cuts these tasks, before the program is asked."""
         for task in self.tasks:
-            play = self.holders[id(task)][-1]
+            play = self.play_of(task)
             if task.mistakes and not play.reason:
                 line = Line("handler" if task.is_handler else "task", play, task)
                 self.findings += [(line, finding(mistake, line)) for mistake in task.mistakes]
                 task.reason, task.reason_place = f"{CUT}{task.mistakes[0].code}", task.place
                 task.is_still_asked = False
 
-    def line(self, answer):
+    def line(self, answer: Answer) -> Optional[Line]:
         return self.numbered.line(answer.line)
 
-    def is_left(self, answer, line):
+    def is_left(self, answer: Answer, line: Optional[Line]) -> bool:
         """Whether the refusal is of a form outside the profile, whose task isn't judged from now on."""
         if line is None or line.play is None:
             return False
@@ -90,8 +105,8 @@ class Settler(Marker):
             return False
         if answer.code == "V05" and isinstance(step, Task):
             return left_notifier(step, line.play, reason)
-        if line.kind == "asked" and not isinstance(step, Task):
-            holder = step or line.play
+        holder = line.source
+        if line.kind == "asked" and isinstance(holder, (Play, Block)):
             self.notes.append((holder.asked[0].place, f"words of the {holder_kind(holder)} aren't asked: {reason}"))
             holder.asked = []
             return True
@@ -110,7 +125,7 @@ class Settler(Marker):
             return self.left_play(line.play, answer.code, reason)
         return False
 
-    def left_block(self, block, reason):
+    def left_block(self, block: Block, reason: str) -> bool:
         for name in names_of_vars(block.words):
             block.lost[name] = f"the `vars` of the block on line {block.place.line} aren't judged"
         block.words.take("vars")
@@ -118,7 +133,7 @@ class Settler(Marker):
         self.leave_block(block, reason)
         return True
 
-    def left_play(self, play, code, reason):
+    def left_play(self, play: Play, code: str, reason: str) -> bool:
         if code in ("P07", "P04") and self.lost_by_probing(play):
             return True
         if play.reason:
@@ -127,40 +142,41 @@ class Settler(Marker):
         self.strip(play)
         return True
 
-    def strip(self, play):
+    def strip(self, play: Play) -> None:
         """Leaves all tasks of a play, and of its words and those of its blocks what they need to stand."""
-        for step in [play, *(step for step in play.steps() if isinstance(step, Block))]:
-            for name in names_of_vars(step.words):
-                step.lost[name] = f"the play on line {play.place.line} isn't judged"
-            for key in list(step.words.pairs):
+        for holder in play.containers():
+            for name in names_of_vars(holder.words):
+                holder.lost[name] = f"the play on line {play.place.line} isn't judged"
+            for key in list(holder.words.pairs):
                 if key not in ("hosts", "name"):
-                    step.words.take(key)
-            step.asked = []
+                    holder.words.take(key)
+            holder.asked = []
         for task in play.tasks():
             task.leave(play.reason)
             task.is_still_asked = False
 
-    def lost_by_probing(self, play):
+    def lost_by_probing(self, play: Play) -> bool:
         """Takes out the values of `vars` that the program can't read, each asked alone."""
         found = False
-        given = play.words.get("vars")
-        for name, node in list(given.pairs.items()) if isinstance(given, Mapping) else ():
+        given = pairs_in(play.words.get("vars"))
+        hosts = play.words.get("hosts") or made("all", play.place)
+        for name, node in list(given.items()):
             if not any(has_template(text.value) for text in texts_of(node)):
                 continue
-            probe = Play(Mapping({"hosts": play.words.get("hosts"), "vars": Mapping({name: node}, node.place)},
-                                 play.place), play.place, {})
+            probe = Play(Mapping({"hosts": hosts, "vars": Mapping({name: node}, node.place)}, play.place),
+                         play.place, {})
             if self.asker.ask([Printer("").play(probe)]).code in ("P07", "P04"):
-                given.take(name)
+                del given[name]
                 play.lost[name] = f"its value on line {node.place.line} has a form that the profile lacks"
                 found = True
         return found
 
-    def reason(self, answer, line):
+    def reason(self, answer: Answer, line: Line) -> str:
         """Why what the program refuses lies outside the profile; empty where it is a finding."""
         if answer.code in FORM_CODES:
             return FORM_REASONS[answer.code]
-        task = line.step
-        if not isinstance(task, Task):
+        task, play = line.step, line.play
+        if not isinstance(task, Task) or play is None:
             return "the play names groups that the book makes" if answer.code == "V06" and self.makes_groups() else ""
         if answer.code == "V07":
             return outside_parameter(task, self.modules)
@@ -171,40 +187,40 @@ class Settler(Marker):
 
             known = self.names_in_scope(task)
             found = culprit(task, known)
-            if found and found.name != "item" and self.has_unseen(task, line.play):
+            if found and found.name != "item" and self.has_unseen(task, play):
                 near = nearest(found.name, known)
                 meant = f". Did you mean '{near}'?" if near else ""
                 return f"it reads '{found.name}', which may come from what isn't judged{meant}"
-        if answer.code == "V05" and any(step.sets_unseen and step.reason for step in line.play.tasks()):
+        if answer.code == "V05" and any(step.sets_unseen and step.reason for step in play.tasks()):
             return "what it notifies may stand in what isn't judged"
         if answer.code == "V06" and self.makes_groups():
             return "it names a group or a host that the book may make"
         return ""
 
-    def undocumented_field(self, task):
+    def undocumented_field(self, task: Task) -> str:
         """Whether a task reads a field that its module's documentation gives no kind."""
         for expression, _ in read_places(task.words, task.asked):
-            for name, field in re.findall(r"(?<![\w.])([A-Za-z_]\w*)\.([A-Za-z_]\w*)", without_texts(expression)):
+            for name, field in read_once(expression).fields:
                 giver = self.giver(name)
-                known = self.modules.documented.get(giver.module()) if giver is not None else None
+                known = self.modules.documented.get(giver.module() or "") if giver is not None else None
                 if known is not None and field not in known.fields | RESULT_FIELDS:
                     return f"it reads '{name}.{field}', of which the module's documentation gives no kind"
         return ""
 
-    def makes_groups(self):
+    def makes_groups(self) -> bool:
         return any(task.module() in ("add_host", "group_by") for task in self.tasks)
 
-    def has_unseen(self, task, play):
+    def has_unseen(self, task: Task, play: Play) -> bool:
         """Whether something that isn't judged may set names that a task reads: before it, or for its whole play."""
         behind = False
         for one in self.tasks:
             behind = behind or one is task
-            is_wide = one.is_handler or self.holders[id(one)][-1] is play and "include_role" in one.words
+            is_wide = one.is_handler or self.play_of(one) is play and "include_role" in one.words
             if one.reason and one.sets_unseen and (not behind or is_wide):
                 return True
         return bool(play.unseen_files)
 
-    def cut(self, answer):
+    def cut(self, answer: Answer) -> bool:
         """Leaves a refused task, so that the next finding is told; whether there was one to leave."""
         line = self.line(answer)
         if line is None or not isinstance(line.step, Task) or line.step.reason and not line.step.is_still_asked:
@@ -216,11 +232,11 @@ class Settler(Marker):
         return True
 
 
-def left_notifier(task, play, reason):
+def left_notifier(task: Task, play: Play, reason: str) -> bool:
     """Leaves a task that may notify what isn't judged: the call in its place notifies the handlers that are known."""
-    known = set().union(*map(topics_of, play.sections.get("handlers", [])))
+    known: Set[str] = set().union(*map(topics_of, play.sections.get("handlers", [])))
     node = task.words.get("notify")
-    kept = [text for text in texts_of(node) if text.value in known or has_template(text.value)] if node is not None else []
+    kept: List[Node] = [text for text in texts_of(node) if text.value in known or has_template(text.value)]
     others = [name for name in task.notifies if name in known]
     is_less = node is not None and len(kept) < len(texts_of(node)) or len(others) < len(task.notifies)
     if node is not None:
@@ -230,19 +246,19 @@ def left_notifier(task, play, reason):
     return is_less
 
 
-def holder_kind(holder):
+def holder_kind(holder: Play | Block) -> str:
     return "play" if isinstance(holder, Play) else "block"
 
 
-def outside_parameter(task, modules):
+def outside_parameter(task: Task, modules: Modules) -> str:
     """Of a refused parameter: whether Ansible's own module has it, and the profile's table not."""
     module = task.module()
     node = task.words.get(module) if module else None
-    if not isinstance(node, Mapping):
+    if module is None or not isinstance(node, Mapping):
         return ""
     if module == "assert":
         return "a condition that the profile lacks" if not set(node.pairs) - set(PROFILE[module]) else ""
-    further = modules.asked.get(module, set()) | set(CHANGES_FLOW.get(module, ()))
+    further = modules.asked.get(module, set()) | CHANGES_FLOW.get(module, set())
     names = [name for name in node.pairs if name in further]
     if module in ("command", "shell") and "argv" in node:
         names.append("argv")

@@ -1,12 +1,21 @@
 # SPDX-License-Identifier: MIT OR Apache-2.0
-# Reads an expression as Jinja does, and writes with the profile's forms what it can; the pass `stand_ins`.
+# Writes expressions with the profile's forms, as far as it can; the pass `stand_ins`.
+from __future__ import annotations
+
 import re
 from functools import lru_cache
+from typing import TYPE_CHECKING, List, Optional, Tuple
 
+from .expression_parser import Unfit
+from .expression_tree import (Calculation, Chain, Choice, Comparison, Denial, Filter, Index, Items, Literal, Lookup,
+                              Method, Operations, Path, Test, Tree)
+from .expressions import read_once
 from .literal_operands import guarded, is_comparison, is_plain, is_replacement, is_separator, text_of
-from .parts import (AND, OPERAND, OR, PLAIN, RELATION, Part, Unfit, Writer, all_read, as_text, chained, denied,
-                    is_pattern, literal_part)
-from .tokens import Tokens
+from .parts import (AND, OPERAND, OR, PLAIN, RELATION, Part, Writer, all_read, as_text, chained, denied, is_pattern,
+                    literal_part)
+
+if TYPE_CHECKING:
+    from .finite import IsFinite
 
 WORDS = {"true": True, "True": True, "false": False, "False": False, "none": None, "None": None}
 # Filters that give a text of whatever they are given, of a text alone; with how many arguments.
@@ -23,204 +32,123 @@ METHODS = {"lower": "text", "upper": "text", "strip": "text", "lstrip": "text", 
            "capitalize": "text", "replace": "text", "startswith": "bool", "endswith": "bool", "find": "int",
            "split": "split"}
 LONGEST = 4000
-DEEPEST = 24
 SUSPECT = re.compile(r"[|+*/%~(\[]|-\s|\bi[sf]\b")
 
 
-def stand_ins(expression, is_loose=False):
+def stand_ins(expression: str, is_loose: bool = False) -> str:
     """The expression with the profile's forms; `is_loose` where only what it reads counts, and not its kind."""
     return rewritten(expression, is_loose)[0]
 
 
 @lru_cache(4096)
-def rewritten(expression, is_loose, finite=None):
+def rewritten(expression: str, is_loose: bool, finite: Optional[IsFinite] = None) -> Tuple[str, bool]:
     """The expression with the profile's forms, and whether its value is the same.
 
     `finite` answers whether what a path holds is no text as `inf`, of which `int` makes no number.
     """
     inside = re.fullmatch(r"\{\{(?!-)(.*)(?<!-)\}\}", expression, re.S)
     written = inside[1] if inside else expression
-    if not SUSPECT.search(written):
+    tree = read_once(written).tree if SUSPECT.search(written) else None
+    if tree is None:
         return expression, True
+    writer = TreeWriter(finite)
     try:
-        reader = Reader(written, finite)
-        part = reader.whole()
+        part = writer.part(tree)
         if part.text is None and is_loose:
-            part = reader.stand_in("text", part.read())
+            part = writer.stand_in("text", part.read())
         new = part.at(OR)
     except Unfit:
         return expression, True
     if len(new) > LONGEST or re.sub(r"\s", "", new) == re.sub(r"\s", "", written):
         return expression, True
-    return "{{ " + new + " }}" if inside else new, reader.is_exact
+    return "{{ " + new + " }}" if inside else new, writer.is_exact
 
 
-class Reader(Tokens, Writer):
-    """A reader by descent; what it can't read or write is Unfit, and then the expression stays as it is."""
+class TreeWriter(Writer):
+    """Writes the parts of a tree; what it can't write is Unfit, and then the expression stays as it is."""
 
-    def __init__(self, text, finite=None):
-        Writer.__init__(self)
-        Tokens.__init__(self, text)
-        self.finite, self.depth = finite, 0
+    def __init__(self, finite: Optional[IsFinite] = None) -> None:
+        super().__init__()
+        self.finite = finite
 
-    def whole(self):
-        part = self.choice()
-        if self.tokens[self.at][0] != "end":
-            raise Unfit
-        return part
+    def part(self, tree: Tree) -> Part:
+        if isinstance(tree, Path):
+            return self.path(tree)
+        if isinstance(tree, Operations):
+            return self.operations(tree)
+        if isinstance(tree, Literal):
+            return of_literal(tree)
+        if isinstance(tree, Chain):
+            return chained(tree.word, self.parts(tree.parts), OR if tree.word == "or" else AND)
+        if isinstance(tree, Comparison):
+            return self.compared(self.part(tree.left), tree.sign, self.part(tree.right))
+        if isinstance(tree, Denial):
+            return denied(self.part(tree.of))
+        if isinstance(tree, Calculation):
+            return self.calculation(tree)
+        if isinstance(tree, Items):
+            return Part("[" + ", ".join(part.at(OR) for part in self.parts(tree.parts)) + "]")
+        if isinstance(tree, Choice):
+            one = self.part(tree.one)
+            return self.chosen(self.part(tree.condition), one, self.part(tree.other))
+        return self.lookup(tree)
 
-    def deeper(self, below):
-        """A part inside another one: what nests too deep stays as it is."""
-        if self.depth >= DEEPEST:
-            raise Unfit
-        self.depth += 1
-        part = below()
-        self.depth -= 1
-        return part
+    def parts(self, trees: Tuple[Tree, ...]) -> List[Part]:
+        return [self.part(tree) for tree in trees]
 
-    def choice(self):
-        part = self.deeper(self.alternatives)
-        if self.take("if"):
-            condition = self.alternatives()
-            self.want("else")
-            part = self.chosen(condition, part, self.deeper(self.choice))
-        return part
-
-    def alternatives(self):
-        return self.chain("or", self.conjunction, OR)
-
-    def conjunction(self):
-        return self.chain("and", self.negation, AND)
-
-    def chain(self, word, below, level):
-        parts = [below()]
-        while self.take(word):
-            parts.append(below())
-        return parts[0] if len(parts) == 1 else chained(word, parts, level)
-
-    def negation(self):
-        return denied(self.deeper(self.negation)) if self.take("not") else self.relation()
-
-    def relation(self):
-        left = self.sum()
-        sign = self.take("==", "!=", "<", "<=", ">", ">=", "in")
-        if not sign and self.is_next("not") and self.tokens[self.at + 1] == ("name", "in"):
-            self.at += 2
-            sign = "not in"
-        return self.compared(left, sign, self.sum()) if sign else left
-
-    def sum(self):
-        return self.calculation(("+", "-"), self.joined)
-
-    def joined(self):
-        return self.calculation(("~",), self.product)
-
-    def product(self):
-        return self.calculation(("*", "/", "//", "%"), self.operand)
-
-    def calculation(self, signs, below):
-        left = below()
-        while self.is_next(*signs):
-            left = self.calculated(left, self.take(), below())
+    def calculation(self, tree: Calculation) -> Part:
+        left = self.part(tree.first)
+        for sign, right in tree.others:
+            left = self.calculated(left, sign, self.part(right))
         return left
 
-    def operand(self):
-        part = self.plain()
-        while self.is_next("|", "is"):
-            part = self.filter(part) if self.take() == "|" else self.test(part)
+    def operations(self, tree: Operations) -> Part:
+        part = self.part(tree.operand)
+        for one in tree.behind:
+            given = self.parts(one.arguments)
+            part = self.filter(part, one.name, given) if isinstance(one, Filter) else self.test(part, one, given)
         return part
 
-    def plain(self):
-        kind, word = self.next()
-        if kind == "text":
-            return literal_part(text_of(word), word, "text")
-        if kind == "int":
-            return literal_part(int(word), word, "int")
-        if kind == "float":
-            return Part(None, "float", literal=(float(word),))
-        if kind == "sign" and word == "-" and self.tokens[self.at][0] == "int":
-            return literal_part(-int(self.tokens[self.at][1]), "-" + self.take(), "int")
-        if kind == "sign" and word == "(":
-            part = self.choice()
-            self.want(")")
-            return part
-        if kind == "sign" and word == "[":
-            return self.list()
-        if kind != "name" or word in ("if", "else"):
-            raise Unfit
-        if word == "omit":
-            return Part(None, "omit", literal=(None,))
-        if word in WORDS:
-            return literal_part(WORDS[word], word, "bool" if WORDS[word] is not None else "none")
-        return self.lookup() if word in ("lookup", "query") else self.path(word)
-
-    def list(self):
-        parts = []
-        while not self.take("]"):
-            parts.append(self.choice())
-            if not self.is_next("]"):
-                self.want(",")
-        return Part("[" + ", ".join(part.at(OR) for part in parts) + "]")
-
-    def lookup(self):
+    def lookup(self, tree: Lookup) -> Part:
         """Of look-ups one of the environment gives a text whatever it is asked for."""
-        parts = self.arguments() if self.is_next("(") else []
+        parts = self.parts(tree.arguments)
         if len(parts) != 2 or not parts[0].literal or parts[0].literal[0] != "env":
             raise Unfit
         return self.stand_in("text", parts[1].read())
 
-    def path(self, text):
-        is_host = text in ("hostvars", "groups")
-        part = Part(text, is_path=True)
-        while self.is_next(".", "["):
-            if self.take() == ".":
-                kind, word = self.next()
-                if kind != "name":
-                    raise Unfit
-                if self.is_next("("):
-                    part = self.method(part, word)
-                    continue
-                if part.text is None or not part.is_path:
-                    raise Unfit
-                part = Part(f"{part.text}.{word}", is_path=True)
+    def path(self, tree: Path) -> Part:
+        if tree.name in WORDS or tree.name == "omit":
+            if tree.steps:
+                raise Unfit
+            return word_part(tree.name)
+        is_host = tree.name in ("hostvars", "groups")
+        part = Part(tree.name, is_path=True)
+        for step in tree.steps:
+            if isinstance(step, Method):
+                part = self.method(part, step)
+            elif isinstance(step, Index):
+                part = self.indexed(part, step, is_host)
+            elif part.text is None or not part.is_path:
+                raise Unfit
             else:
-                part = self.step(part, is_host)
-        if self.is_next("("):
-            raise Unfit
+                part = Part(f"{part.text}.{step.name}", is_path=True)
         return part
 
-    def step(self, part, is_host):
-        kind, word = self.next()
-        index = word + self.next()[1] if (kind, word) == ("sign", "-") else word
-        self.want("]")
-        if part.kind == "split" and index in ("0", "-1"):
+    def indexed(self, part: Part, step: Index, is_host: bool) -> Part:
+        if part.kind == "split" and step.written in ("0", "-1"):
             return self.stand_in("text", part.read())
-        if not part.is_path or not (kind == "text" or is_host and kind in ("int", "name")):
+        if not part.is_path or not (step.kind == "text" or is_host and step.kind in ("int", "name")):
             raise Unfit
-        return Part(f"{part.text}[{index}]", is_path=True)
+        return Part(f"{part.text}[{step.written}]", is_path=True)
 
-    def method(self, part, word):
-        given = self.arguments()
-        kind = METHODS.get(word)
-        if kind is None or word == "split" and not is_separator(given) or any(one.kind != "text" for one in given):
+    def method(self, part: Part, step: Method) -> Part:
+        given = self.parts(step.arguments)
+        kind = METHODS.get(step.name)
+        if kind is None or step.name == "split" and not is_separator(given) or any(one.kind != "text" for one in given):
             raise Unfit
         return self.stand_in(kind, (*as_text(part), *all_read(given)))
 
-    def arguments(self):
-        """The arguments of a call: parts, the named ones without their names."""
-        self.want("(")
-        parts = []
-        while not self.take(")"):
-            if self.tokens[self.at][0] == "name" and self.tokens[self.at + 1] == ("sign", "="):
-                self.at += 2
-            parts.append(self.choice())
-            if not self.is_next(")"):
-                self.want(",")
-        return parts
-
-    def filter(self, part):
-        name = self.take()
-        given = self.arguments() if self.is_next("(") else []
+    def filter(self, part: Part, name: str, given: List[Part]) -> Part:
         if name in ("default", "d") and len(given) in (1, 2):
             return self.default(part, given)
         if name == "bool" and not given:
@@ -236,12 +164,15 @@ class Reader(Tokens, Writer):
             return self.stand_in("text", part.read())
         return self.known_filter(name, part, given)
 
-    def default(self, part, given):
-        if len(given) == 2 and not (given[1].literal and isinstance(given[1].literal[0], bool)):
+    def default(self, part: Part, given: List[Part]) -> Part:
+        if len(given) == 1:
+            return self.defaulted(part, given[0], False)
+        takes_falsy = given[1].literal[0] if given[1].literal else None
+        if not isinstance(takes_falsy, bool):
             raise Unfit
-        return self.defaulted(part, given[0], len(given) == 2 and given[1].literal[0])
+        return self.defaulted(part, given[0], takes_falsy)
 
-    def known_filter(self, name, part, given):
+    def known_filter(self, name: str, part: Part, given: List[Part]) -> Part:
         every = all_read([part, *given])
         if TEXT_OF_ANY.get(name) == len(given) or name == "regex_replace" and is_replacement(given):
             return self.stand_in("text", every)
@@ -256,7 +187,7 @@ class Reader(Tokens, Writer):
             return self.stand_in(one.kind, every) if one.kind == other.kind else Part(None, "", PLAIN, every)
         raise Unfit
 
-    def is_finite(self, part):
+    def is_finite(self, part: Part) -> bool:
         """Whether `int` makes a number of what a part gives: of the text `inf`, or 1e999, it doesn't."""
         if self.finite is None or part.kind in ("int", "bool"):
             return True
@@ -264,26 +195,38 @@ class Reader(Tokens, Writer):
             return not isinstance(part.literal[0], str) or is_plain(part.literal[0])
         if part.default:
             return all(map(self.is_finite, part.default))
-        return part.is_path and self.finite(part.text)
+        return part.is_path and part.text is not None and self.finite(part.text)
 
-    def test(self, part):
-        sign = "is not" if self.take("not") else "is"
-        name = self.take()
-        given = self.arguments() if self.is_next("(") else []
-        plain = RESULT_TESTS.get(name) or (name if name in ("defined", "undefined") and part.is_path else "")
+    def test(self, part: Part, test: Test, given: List[Part]) -> Part:
+        plain = RESULT_TESTS.get(test.name)
+        if plain is None and test.name in ("defined", "undefined") and part.is_path:
+            plain = test.name
         if plain and not given:
-            return Part(f"{part.at(OPERAND)} {sign} {plain}", "bool", RELATION)
-        found = self.known_test(name, part, given)
-        return found if sign == "is" else denied(found)
+            return Part(f"{part.at(OPERAND)} {'is not' if test.is_denied else 'is'} {plain}", "bool", RELATION)
+        found = self.known_test(test.name, part, given)
+        return denied(found) if test.is_denied else found
 
-    def known_test(self, name, part, given):
+    def known_test(self, name: str, part: Part, given: List[Part]) -> Part:
         if name in ("none", "true", "false"):
             return guarded(part, f"{part.at(OPERAND)} == {name}")
         if name in SORTS and not given:
-            return guarded(part, self.stand_in("bool", part.read()).text)
+            return guarded(part, self.stand_in("bool", part.read()).at(OR))
         if name in ("match", "search", "regex") and given and is_pattern(given[0]) \
                 or name in ("version", "version_compare") and is_comparison(given):
             return self.stand_in("bool", all_read([part, *given]))
         raise Unfit
 
 
+def of_literal(tree: Literal) -> Part:
+    word = tree.written
+    if tree.kind == "text":
+        return literal_part(text_of(word), word, "text")
+    if tree.kind == "float":
+        return Part(None, "float", literal=(float(word),))
+    return literal_part(int(word), word, "int")
+
+
+def word_part(name: str) -> Part:
+    if name == "omit":
+        return Part(None, "omit", literal=(None,))
+    return literal_part(WORDS[name], name, "bool" if WORDS[name] is not None else "none")

@@ -1,18 +1,22 @@
 # SPDX-License-Identifier: MIT OR Apache-2.0
 # Steps of a file as blocks and tasks: imports, includes and roles with literal names are put in place.
+from __future__ import annotations
+
 import os
 import re
 from dataclasses import dataclass, field, replace
+from typing import Dict, Iterable, List, Optional, Set, Tuple
 
-from .books import PARTS, Block, Raw, Task, items_of, steps_below
+from .books import PARTS, Block, Play, Raw, Step, Task, items_of, steps_below
+from .expressions import read_once
 from .modules import INCLUDES, short_name
-from .names import expression_names, given_names, mentioned
-from .nodes import Mapping, Scalar, has_template, is_text, texts_of
+from .names import given_names, mentioned
+from .nodes import Mapping, Node, Scalar, has_template, is_text, pairs_in, texts_of
 from .positions import read_file
 from .precedence import Given, Source
 from .problems import Place, Problem
 from .role_variables import all_defaults, exported, given_to_play, given_to_tasks
-from .roles import block_words, inherit, put_handlers, role_of
+from .roles import Role, block_words, inherit, put_handlers, role_of
 
 MOST_INCLUDES = 32
 MOST_FILES = 1000
@@ -27,7 +31,7 @@ class Count:
 
     files: int = 0
 
-    def add(self, place):
+    def add(self, place: Place) -> None:
         self.files += 1
         if self.files > MOST_FILES:
             raise Problem(place, f"more than {MOST_FILES:,} files are put in place")
@@ -42,29 +46,31 @@ class Context:
     play: str
     count: Count
     role_folder: str = ""
-    around: tuple = ()  # the words of blocks, imports and roles round it
+    around: Tuple[Mapping, ...] = ()  # the words of blocks, imports and roles round it
     is_handlers: bool = False
     is_late: bool = False  # in what is read while the play runs: an include
-    open: tuple = ()
-    roles: list = field(default_factory=list)  # those of the play that were put in place, with whether all see them
-    listed: list = field(default_factory=list)  # those that the play itself names
-    imported: list = field(default_factory=list)  # those that it imports at its start
-    late: dict = field(default_factory=dict)  # names that roles give from some task on, with the source and the reason
+    open: Tuple[str, ...] = ()
+    # Those of the play that were put in place, with whether all see them.
+    roles: List[Tuple[Role, bool]] = field(default_factory=list)
+    listed: List[Role] = field(default_factory=list)  # those that the play itself names
+    imported: List[Role] = field(default_factory=list)  # those that it imports at its start
+    # Names that roles give from some task on, with the source and the reason.
+    late: Dict[str, Tuple[Source, str]] = field(default_factory=dict)
 
 
-def include_key(item, names):
+def include_key(item: Node, names: Iterable[str]) -> Optional[str]:
     if not isinstance(item, Mapping):
         return None
     return next((key for key in item.pairs if short_name(key) in names), None)
 
 
-def role_blocks(play, context):
+def role_blocks(play: Play, context: Context) -> List[Step]:
     """The roles that a play names, each as a block."""
     roles = items_of(play.words.get("roles"))
     if roles is None:
         return []
     play.words.take("roles")
-    found = []
+    found: List[Step] = []
     for node in roles:
         role = role_of(node, context)
         words = Mapping({"include_role": node}, node.place, {"include_role": node.place})
@@ -77,14 +83,14 @@ def role_blocks(play, context):
     return found
 
 
-def role_block(role, place, context, is_seen_by_all):
+def role_block(role: Role, place: Place, context: Context, is_seen_by_all: bool) -> Block:
     """A role as a block: the roles that it needs, then its tasks, under what stands beside its name."""
     context.count.add(place)
     inside = replace(context, file=role.tasks_file or context.file, open=(*context.open, role.tasks_file),
                      is_handlers=False, role_folder=role.folder, is_late=not is_seen_by_all,
                      around=(*context.around, role.words))
     role.around = inside.around
-    steps = []
+    steps: List[Step] = []
     for node in role.needs:
         needed = role_of(node, inside) if len(inside.open) < MOST_INCLUDES else None
         if needed is None or needed.tasks_file in inside.open:
@@ -99,7 +105,7 @@ def role_block(role, place, context, is_seen_by_all):
                  folder=role.folder)
 
 
-def put_role_parts(play, context):
+def put_role_parts(play: Play, context: Context) -> None:
     """The handlers of the roles of a play, and the variables that all of it sees: of those that it names, then imports."""
     for role, is_seen in context.roles:
         inside = replace(context, file=role.handlers_file, is_handlers=True, roles=[])
@@ -113,18 +119,17 @@ def put_role_parts(play, context):
         play.given += given_to_play(role)
 
 
-def included_role(task, kind, key, context):
+def included_role(task: Task, kind: str, key: str, context: Context) -> List[Step]:
     """A role that a task includes, as a block."""
     context = replace(context, around=(*context.around, task.words)) if kind == "import_role" else context
     node = task.words.get(key)
     role = role_of(node, context, True) if isinstance(node, Mapping) and not context.is_handlers else None
     if role is None or role.tasks_file in context.open or len(context.open) >= MOST_INCLUDES:
         return [left_include(task, f"`{kind}`")]
-    beside = task.words.get("vars")
-    role.beside = {**role.beside, **(beside.pairs if isinstance(beside, Mapping) else {})}
+    role.beside = {**role.beside, **pairs_in(task.words.get("vars"))}
     block = role_block(role, task.place, context, kind == "import_role" and not context.is_late)
     note_role(role, kind, context)
-    names = set().union(set(), *(given_names(step) for step in tasks_below([block])))
+    names: Set[str] = set().union(*(given_names(step) for step in tasks_below([block])))
     words = task.words.copy()
     words.take(key)
     bars = [word for word in words.pairs if word in BARS_INCLUDE or word.startswith("with_")]
@@ -135,7 +140,7 @@ def included_role(task, kind, key, context):
     return [included_block(task, kind, words, [block])]
 
 
-def note_role(role, kind, context):
+def note_role(role: Role, kind: str, context: Context) -> None:
     """Of a role that a task names: the play sees it from its start on, or from then on, or never."""
     if kind == "import_role" and not context.is_late:
         context.imported.append(role)
@@ -146,18 +151,18 @@ def note_role(role, kind, context):
         context.late.update(dict.fromkeys(exported(role), (Source.ROLE, reason)))
 
 
-def is_public(role):
+def is_public(role: Role) -> bool:
     node = role.words.get("public")
     return node is not None and not (isinstance(node, Scalar) and node.value in (False, None))
 
 
-def left_include(task, what):
+def left_include(task: Task, what: str) -> Task:
     task.leave(f"{what} isn't put in place")
     task.sets_unseen = task.notifies_any = True
     return task
 
 
-def found_file(name, context, folder):
+def found_file(name: str, context: Context, folder: str) -> Optional[str]:
     beside = os.path.dirname(context.file)
     in_role = [os.path.join(context.role_folder, folder)] if context.role_folder else []
     for start in (beside, os.path.join(beside, folder), *in_role, context.book_folder,
@@ -168,21 +173,22 @@ def found_file(name, context, folder):
     return None
 
 
-def steps_of(nodes, context):
-    steps = []
+def steps_of(nodes: List[Node], context: Context) -> List[Step]:
+    steps: List[Step] = []
     for node in nodes:
+        key = include_key(node, INCLUDES)
         if not isinstance(node, Mapping):
             steps.append(Raw(node))
         elif "block" in node:
             steps.append(block_of(node, context))
-        elif include_key(node, INCLUDES):
-            steps += included(node, include_key(node, INCLUDES), context)
+        elif key:
+            steps += included(node, key, context)
         else:
             steps.append(Task(node.copy(), node.place, context.play, context.is_handlers))
     return steps
 
 
-def block_of(node, context):
+def block_of(node: Mapping, context: Context) -> Block:
     words, parts = node.copy(), {}
     for part in PARTS:
         nodes = items_of(node.get(part))
@@ -192,7 +198,7 @@ def block_of(node, context):
     return Block(words, node.place, parts)
 
 
-def included(node, key, context):
+def included(node: Mapping, key: str, context: Context) -> List[Step]:
     """The steps of a file that is imported or included, in the place of the task that names it."""
     task = Task(node.copy(), node.place, context.play, context.is_handlers)
     kind = short_name(key)
@@ -206,14 +212,14 @@ def included(node, key, context):
     path = found_file(name, context, "tasks")
     if path is None:
         if kind == "import_tasks":
-            raise Problem(node.get(key).place, f"{name} isn't there")
+            raise Problem(node[key].place, f"{name} isn't there")
         return [left_include(task, f"{name} isn't there, so `{kind}`")]
     if path in context.open or len(context.open) >= MOST_INCLUDES:
         return [left_include(task, f"{name} includes itself, so it")]
     return put_in_place(task, kind, key, path, context)
 
 
-def included_name(node):
+def included_name(node: Optional[Node]) -> Optional[str]:
     if isinstance(node, Mapping) and set(node.pairs) <= {"file"}:
         node = node.get("file")
     if not is_text(node) or has_template(node.value) or "=" in node.value:
@@ -221,7 +227,7 @@ def included_name(node):
     return node.value.strip()
 
 
-def put_in_place(task, kind, key, path, context):
+def put_in_place(task: Task, kind: str, key: str, path: str, context: Context) -> List[Step]:
     context.count.add(task.place)
     nodes = items_of(read_file(path))
     if nodes is None:
@@ -235,7 +241,7 @@ def put_in_place(task, kind, key, path, context):
     bars = [word for word in words.pairs if word in BARS_INCLUDE or word.startswith("with_")]
     if context.is_handlers and (set(words.pairs) - {"name"} or kind == "include_tasks"):
         bars.append("handlers")
-    names = set().union(set(), *(given_names(step) for step in tasks_below(steps)))
+    names: Set[str] = set().union(*(given_names(step) for step in tasks_below(steps)))
     if kind == "include_tasks":
         bars += bars_of_include(words, names, steps)
     if bars:
@@ -245,7 +251,7 @@ def put_in_place(task, kind, key, path, context):
     return [included_block(task, kind, words, steps)]
 
 
-def bars_of_include(words, names, steps):
+def bars_of_include(words: Mapping, names: Set[str], steps: List[Step]) -> List[str]:
     """What bars an include alone: its condition, and that one host alone runs it."""
     once = words.get("run_once")
     bars = [] if once is None or isinstance(once, Scalar) and once.value in (False, None) else ["run_once"]
@@ -253,37 +259,37 @@ def bars_of_include(words, names, steps):
     return bars + ["when"] * is_asked_late
 
 
-def included_block(task, kind, words, steps):
+def included_block(task: Task, kind: str, words: Mapping, steps: List[Step]) -> Block:
     """What stands in the place of a task that names a file or a role: of an include its words aren't its tasks'."""
     block = Block(words, task.place, {"block": steps}, is_include=kind.startswith("include"))
     given = words.get("vars")
     if block.is_include and isinstance(given, Mapping):
         block.given.append(Given(Source.INCLUDE_PARAMETERS, given.pairs))
     if block.is_include:
-        block.asked += [words.take("ignore_errors")] if "ignore_errors" in words else []
+        block.asked += [words.pairs.pop("ignore_errors")] if "ignore_errors" in words else []
         block.is_asked_once = is_asked_once(words, steps)
     return block
 
 
-def is_asked_once(words, steps):
+def is_asked_once(words: Mapping, steps: List[Step]) -> bool:
     """Whether an include's condition can stand before its tasks: none of them needs to know what it has tested."""
     node = words.get("when")
     texts = texts_of(node) if node is not None else []
     tests = [text.value for text in texts if re.search(r"\b(un)?defined\b", text.value)]
-    tested = set().union(*map(expression_names, tests))
+    tested: Set[str] = set().union(*(read_once(text).names for text in tests))
     return bool(texts) and not any(tested & mentioned(step.words) for step in steps_below(steps)
                                    if isinstance(step, (Block, Task)))
 
 
-def mentions_any(node, names):
-    return node is not None and any(expression_names(text.value) & names for text in texts_of(node))
+def mentions_any(node: Optional[Node], names: Set[str]) -> bool:
+    return node is not None and any(read_once(text.value).names & names for text in texts_of(node))
 
 
-def tasks_below(steps):
+def tasks_below(steps: Iterable[Step]) -> List[Task]:
     return [step for step in steps_below(steps) if isinstance(step, Task)]
 
 
-def left_whole(task, kind, bar, steps, names):
+def left_whole(task: Task, kind: str, bar: str, steps: List[Step], names: Set[str]) -> Task:
     """An include that can't be put in place, though what it sets and notifies is known."""
     task.leave(f"`{kind}` with `{bar}` isn't put in place")
     task.gives |= names

@@ -1,7 +1,11 @@
 # SPDX-License-Identifier: MIT OR Apache-2.0
 # Which tasks a run takes by their tags, as Ansible has it: the others are left out of the book, and counted.
-from .books import PARTS, SECTIONS, Block, Raw, Task, steps_below
-from .nodes import Scalar, Sequence, has_template, made
+from __future__ import annotations
+
+from typing import FrozenSet, Iterable, List
+
+from .books import PARTS, SECTIONS, Block, Book, Raw, Step, Task, steps_below
+from .nodes import Mapping, Scalar, has_template, items_or_one, made
 
 UNTAGGED = frozenset(["untagged"])
 
@@ -9,12 +13,12 @@ UNTAGGED = frozenset(["untagged"])
 class Chosen:
     """The tags that a run is asked for, and those that it passes by."""
 
-    def __init__(self, only=(), skip=()):
+    def __init__(self, only: Iterable[str] = (), skip: Iterable[str] = ()) -> None:
         self.only, self.skip = set(only) or {"all"}, set(skip)
-        self.left_out = []
-        self.includes = []  # those that are put in place: a run of Ansible counts each as a task
+        self.left_out: List[Task] = []
+        self.includes: List[Block] = []  # those that are put in place: a run of Ansible counts each as a task
 
-    def takes(self, tags):
+    def takes(self, tags: FrozenSet[str]) -> bool:
         """Whether a task with these tags is run: Ansible's own rules, in their order."""
         tags = tags or UNTAGGED
         is_plain = "never" not in tags
@@ -24,13 +28,13 @@ class Chosen:
             return bool(taken) and "always" in tags and "always" not in self.skip
         return bool(taken) and not tags & self.skip and not ("tagged" in self.skip and tags != UNTAGGED)
 
-    def is_unsure(self, tags):
+    def is_unsure(self, tags: FrozenSet[str]) -> bool:
         """Whether a template among the tags may decide: without options it is taken as no `never`."""
         return (self.only != {"all"} or bool(self.skip)) and any(map(has_template, tags))
 
-    def kept(self, steps, outer):
+    def kept(self, steps: List[Step], outer: FrozenSet[str]) -> List[Step]:
         """The steps that are run, each with the tags round it; a block in which nothing is left is none."""
-        found = []
+        found: List[Step] = []
         for step in steps:
             if isinstance(step, Raw):
                 found.append(step)
@@ -47,7 +51,7 @@ class Chosen:
                 self.left_out.append(step)
         return found
 
-    def kept_block(self, block, tags, outer):
+    def kept_block(self, block: Block, tags: FrozenSet[str], outer: FrozenSet[str]) -> List[Step]:
         if block.is_include and not self.takes(tags):
             self.left_out += [step for step in steps_below([block]) if isinstance(step, Task)]
             return []
@@ -60,7 +64,7 @@ class Chosen:
         return [block] if any(block.parts.values()) else []
 
 
-def leave_out(book, only=(), skip=()):
+def leave_out(book: Book, only: Iterable[str] = (), skip: Iterable[str] = ()) -> None:
     """Takes the tasks out that a run with these tags passes by; handlers are run whatever tags they have."""
     chosen = Chosen(only, skip)
     for play in book.plays:
@@ -75,9 +79,8 @@ def leave_out(book, only=(), skip=()):
     book.left_out, book.includes = chosen.left_out, chosen.includes
 
 
-def tags_of(words):
+def tags_of(words: Mapping) -> FrozenSet[str]:
     """The tags of a play, a block or a task: a list, or a text with commas."""
-    node = words.get("tags")
-    items = node.items if isinstance(node, Sequence) else [node]
+    items = items_or_one(words.get("tags"))
     texts = [str(item.value) for item in items if isinstance(item, Scalar) and item.value is not None]
     return frozenset(word.strip() for text in texts for word in ([text] if has_template(text) else text.split(",")))

@@ -1,12 +1,15 @@
 # SPDX-License-Identifier: MIT OR Apache-2.0
 # Where the templates of a text stand, found in one way along it, however many braces are opened and never closed.
+from __future__ import annotations
+
 import re
+from typing import Callable, Iterator, Tuple
 
 OPENING = re.compile(r"\{[{%]")
 CLOSING = {"{{": "}}", "{%": "%}"}
 
 
-def template_spans(text, signs=tuple(CLOSING)):
+def template_spans(text: str, signs: Tuple[str, ...] = tuple(CLOSING)) -> Iterator[Tuple[int, int]]:
     """Where each template begins and ends, with its braces; `signs` are those with which it may begin."""
     last = {sign: text.rfind(CLOSING[sign]) for sign in signs}
     opening = OPENING.search(text)
@@ -19,7 +22,7 @@ def template_spans(text, signs=tuple(CLOSING)):
         opening = OPENING.search(text, end)
 
 
-def with_templates(text, change):
+def with_templates(text: str, change: Callable[[str], str]) -> str:
     """The text with each `{{ .. }}` of it changed."""
     parts, at = [], 0
     for start, end in template_spans(text, ("{{",)):

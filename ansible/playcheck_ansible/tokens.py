@@ -1,44 +1,42 @@
 # SPDX-License-Identifier: MIT OR Apache-2.0
-# The tokens of an expression, one behind the other.
+# The tokens of an expression, with their places in it: each letter but blanks is of one of them.
+from __future__ import annotations
+
 import re
-from typing import List, Tuple
+from typing import List, NamedTuple, Tuple
 
-from .parts import Unfit
+TEXTS = {"'": r"'(?:[^'\\]|\\.)*'", '"': r'"(?:[^"\\]|\\.)*"'}
+REST = (r"(?P<float>\d+\.\d+)|(?P<int>\d+)|(?P<name>[A-Za-z_]\w*)"
+        r"|(?P<sign>==|!=|<=|>=|//|\*\*|[-+*/%~<>=()\[\].,|])|(?P<other>\S)")
 
-TOKEN = re.compile(r"\s*(?:(?P<text>'(?:[^'\\]|\\.)*'|\"(?:[^\"\\]|\\.)*\")|(?P<float>\d+\.\d+)|(?P<int>\d+)"
-                   r"|(?P<name>[A-Za-z_]\w*)|(?P<sign>==|!=|<=|>=|//|\*\*|[-+*/%~<>=()\[\].,|]))")
+
+class Token(NamedTuple):
+    kind: str  # text, float, int, name, sign; open, a quote that isn't closed; or other: what no expression has
+    text: str  # as it is written
+    start: int
+    end: int
 
 
-class Tokens:
-    """A text taken apart; what is no token is Unfit."""
+def lexer(quotes: str) -> re.Pattern[str]:
+    """The tokens of an expression in which these quotes may be closed."""
+    texts = "|".join(TEXTS[quote] for quote in quotes)
+    return re.compile(f"(?P<text>{texts})|(?P<open>[{quotes}])|{REST}" if quotes else REST, re.S)
 
-    def __init__(self, text: str) -> None:
-        self.tokens: List[Tuple[str, str]] = []
-        self.at = at = 0
-        text = text.rstrip()
-        while at < len(text):
-            found = TOKEN.match(text, at)
-            if not found or not found.lastgroup:
-                raise Unfit
-            self.tokens.append((found.lastgroup, found[found.lastgroup]))
-            at = found.end()
-        self.tokens.append(("end", ""))
 
-    def is_next(self, *words: str) -> bool:
-        kind, word = self.tokens[self.at]
-        return kind in ("name", "sign") and word in words
+LEXERS = {quotes: lexer(quotes) for quotes in ("'\"", "'", '"', "")}
 
-    def take(self, *words: str) -> str:
-        """The next token, where it is one of these words."""
-        return self.next()[1] if not words or self.is_next(*words) else ""
 
-    def next(self) -> Tuple[str, str]:
-        kind, word = self.tokens[self.at]
-        if kind == "end":
-            raise Unfit
-        self.at += 1
-        return kind, word
-
-    def want(self, word: str) -> None:
-        if not self.take(word):
-            raise Unfit
+def tokens_of(expression: str) -> Tuple[Token, ...]:
+    """All tokens. Where a quote isn't closed, no later one of its kind is."""
+    found: List[Token] = []
+    quotes, at = "'\"", 0
+    while at < len(expression):
+        for match in LEXERS[quotes].finditer(expression, at):
+            found.append(Token(match.lastgroup or "", match[0], *match.span()))
+            if match.lastgroup == "open":
+                quotes = quotes.replace(match[0], "")
+                break
+        else:
+            break
+        at = found[-1].end
+    return tuple(found)

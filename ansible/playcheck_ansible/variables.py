@@ -8,12 +8,11 @@ from typing import TYPE_CHECKING, Dict, Iterable, Iterator, List, Optional, Set,
 
 from .books import SECTIONS, Block, Play, Raw, Task
 from .names import mentioned
-from .nodes import Mapping, Sequence, is_text, made, plain
+from .nodes import Mapping, Node, Sequence, is_text, items_or_one, made, plain
 from .precedence import OF_PLAY, Given, Source, in_order, values_of, winner
 
 if TYPE_CHECKING:
     from .inventory import Inventory
-    from .precedence import Node
 
 # So many names a task may read by way of `vars`, and so many values are written at tasks.
 MOST_NAMES = 1000
@@ -41,14 +40,15 @@ class Around:
 def own_pairs(words: Mapping) -> Dict[str, Node]:
     """The `vars` of a play, a block or a task; a list of mappings is one."""
     node = words.get("vars")
-    parts = node.items if isinstance(node, Sequence) else [node]
+    parts = items_or_one(node)
     return {name: part for one in parts if isinstance(one, Mapping) for name, part in one.pairs.items()}
 
 
 def prompts_of(play: Play) -> Dict[str, Node]:
     """A name that is asked for is a text."""
     node = play.words.get("vars_prompt")
-    names = [item.get("name") for item in node.items if isinstance(item, Mapping)] if isinstance(node, Sequence) else []
+    items = node.items if isinstance(node, Sequence) else []
+    names = [item.get("name") for item in items if isinstance(item, Mapping)]
     return {name.value: made("", name.place) for name in names if is_text(name)}
 
 
@@ -169,9 +169,9 @@ class Variables:
             for one in self.all_given:
                 for name, node in one.pairs.items():
                     self.reads.setdefault(name, set()).update(mentioned(Mapping({"vars": node}, task.place)))
-            for step in self.play.steps():
-                if isinstance(step, Block) and "when" in step.words:
-                    self.in_conditions |= mentioned(Mapping({"when": step.words.get("when")}, step.place))
+            for block in self.play.blocks():
+                if "when" in block.words:
+                    self.in_conditions |= mentioned(Mapping({"when": block.words["when"]}, block.place))
         waiting = [mentioned(task.words), self.in_conditions]
         found: Set[str] = set()
         while waiting and len(found) <= MOST_NAMES:

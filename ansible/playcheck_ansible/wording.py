@@ -1,13 +1,20 @@
 # SPDX-License-Identifier: MIT OR Apache-2.0
 # What is said of a finding and of a book, in every format; names that are near to one; lines in brackets.
+from __future__ import annotations
+
 from dataclasses import dataclass
+from typing import TYPE_CHECKING, Iterable, List, Optional
 
-from .nodes import texts_of
+from .nodes import Node, texts_of
 from .printing import line_of
-from .problems import Place
+
+if TYPE_CHECKING:
+    from .books import Task
+    from .checking import Finding, Report, Unjudged
+    from .problems import Place
 
 
-def message_of(finding):
+def message_of(finding: Finding) -> str:
     """`task 'Show version', host web1: a field that is perhaps missing: ..`."""
     who = f"{finding.kind} '{finding.name}'" if finding.name else finding.kind
     who = ", ".join(part for part in (who, f"host {finding.host}" if finding.host else "") if part)
@@ -15,17 +22,17 @@ def message_of(finding):
     return line_of(": ".join(parts))
 
 
-def count_of(report):
+def count_of(report: Report) -> str:
     left_out = f", {report.left_out} left out by tags" if report.left_out else ""
     return f"{report.judged} of {report.tasks} tasks judged{left_out}"
 
 
-def verdict_of(report):
+def verdict_of(report: Report) -> str:
     """The last line on a book; `accepted` never stands without the count."""
     return f"{line_of(report.book)}: {outcome_of(report)}"
 
 
-def outcome_of(report):
+def outcome_of(report: Report) -> str:
     if report.findings:
         found = "1 finding" if len(report.findings) == 1 else f"{len(report.findings)} findings"
         return f"refused, {found}, {count_of(report)}"
@@ -35,7 +42,7 @@ def outcome_of(report):
     return f"accepted, {count_of(report)}{budget}"
 
 
-def not_judged_of(one):
+def not_judged_of(one: Unjudged) -> str:
     """What is said of a task that isn't judged."""
     return line_of(f"{one.kind} '{one.name}': {one.reason}" if one.name else one.reason)
 
@@ -47,27 +54,28 @@ class Hint:
     help: str = ""
 
 
-def shown(node):
+def shown(node: Node) -> str:
     return ", ".join(str(text.value) for text in texts_of(node))
 
 
-def where(place, beside):
+def where(place: Optional[Place], beside: Place) -> str:
     """In brackets the line of a place, with its file where that is another one than the finding's."""
     if place is None or not place.line:
         return ""
     return f" (line {place.line})" if place.file == beside.file else f" ({place.file}:{place.line})"
 
 
-def named(task, beside):
+def named(task: Task, beside: Place) -> str:
     """A task by its name, or else by its module, with its line."""
     return f"'{task.name or task.module()}'{where(task.place, beside)}"
 
 
-def distance(one, other, most):
+def distance(one: str, other: str, most: int) -> int:
     """The edit distance of two words, swapped neighbours counted as one edit; `most + 1` where it is more."""
     if abs(len(one) - len(other)) > most:
         return most + 1
-    before, row = [], list(range(len(other) + 1))
+    before: List[int] = []
+    row = list(range(len(other) + 1))
     for i, letter in enumerate(one, 1):
         new = [i]
         for j, against in enumerate(other, 1):
@@ -79,7 +87,7 @@ def distance(one, other, most):
     return min(row[-1], most + 1)
 
 
-def nearest(word, names):
+def nearest(word: str, names: Iterable[str]) -> str:
     """The name that is nearest to a word, where one is near."""
     most = 1 if len(word) < 5 else 2
     scored = sorted((distance(word.lower(), name.lower(), most), name) for name in names if name != word)

@@ -1,4 +1,7 @@
 // Files of the operating system.
+ghost use Rattle.std.specs.Prelude.{IfOk};
+ghost use Rattle.pb_lines.specs.File.{IsOpened};
+
 use crate::opened::opened;
 use pb_lines::{FileDevice, FileFault};
 use std::fs;
@@ -9,7 +12,9 @@ const TWICE: &str = "pb_lines_tests.twice";
 
 const LOCKED: &str = "pb_lines_tests.locked";
 
-fn device(rt: &HostRuntime, name: &str, is_new: bool) -> Result<FileDevice, FileFault> {
+fn device(rt: &HostRuntime, name: &str, is_new: bool) -> Result<FileDevice, FileFault>
+    ensures { IfOk result (λ file. IsOpened file) }
+{
     if is_new {
         FileDevice::create(rt, name, true)
     } else {

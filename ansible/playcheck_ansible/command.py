@@ -20,7 +20,7 @@ from .limits import ALLOWANCE, OutOfTime, reason_of
 from .loading import load_book
 from .looking_up import NOT_INSTALLED, looked_up, used_modules
 from .modules import PROFILE, UNKNOWN, ansible_name, read_signatures, short_name
-from .nodes import Mapping, Node, Pairs, is_nothing, made
+from .nodes import Mapping, Node, Pairs, Sequence, as_node, is_nothing
 from .positions import node_of, read_file
 from .printing import told
 from .problems import Place, Problem
@@ -219,7 +219,7 @@ def variables_of(text: str) -> Pairs:
     found = arguments_of(text)
     if found is None:
         raise Problem(None, f"-e takes name=value, an object in braces or @FILE, not {text!r}")
-    return made(found, Place("-e")).pairs
+    return as_node(found, Place("-e")).pairs
 
 
 def variables_in(node: Node, path: str) -> Pairs:
@@ -295,7 +295,7 @@ def is_book(path: str) -> bool:
     except Problem:
         return False
     return any(isinstance(item, Mapping) and ("hosts" in item or any(key.endswith("import_playbook")
-               for key in item.pairs)) for item in getattr(node, "items", []))
+               for key in item.pairs)) for item in (node.items if isinstance(node, Sequence) else []))
 
 
 def has_colour(choice: str) -> bool:

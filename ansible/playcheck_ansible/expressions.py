@@ -46,7 +46,7 @@ class Expression:
         """The names that it may read; those in its texts too where it reads other hosts."""
         if any(word in self.text for word in BY_TEXT):
             return frozenset(NAME.findall(self.text))
-        # Most expressions have no texts, and no more is asked of them: this takes a quarter of the time of their tokens.
+        # Most expressions have no texts, and no more is asked of them: this takes less time than their tokens.
         return frozenset(token.text for token in self.reads) if QUOTE.search(self.text) else \
             frozenset(READ.findall(self.text))
 

@@ -8,7 +8,7 @@ from typing import TYPE_CHECKING, Callable, Iterator
 
 from .books import Block, Play, Task
 from .literal_operands import is_plain
-from .nodes import Sequence, Value, has_template, is_literal, plain
+from .nodes import Sequence, Value, as_value, has_template, is_literal
 
 if TYPE_CHECKING:
     from .literals import Values
@@ -69,4 +69,4 @@ def texts_in(value: Value) -> Iterator[str]:
 def has_plain_items(holder: Play | Block | Task) -> bool:
     """Whether a task's loop is a literal list of values that `int` takes."""
     node = holder.words.get("loop") if isinstance(holder, Task) else None
-    return isinstance(node, Sequence) and is_literal(node) and all(map(is_plain, texts_in(plain(node))))
+    return isinstance(node, Sequence) and is_literal(node) and all(map(is_plain, texts_in(as_value(node))))

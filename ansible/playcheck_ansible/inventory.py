@@ -7,7 +7,7 @@ from typing import TYPE_CHECKING, Dict, Iterable, Iterator, List, Optional, Set,
 
 from .inventory_layers import Layers
 from .inventory_sources import read_source
-from .nodes import Mapping, Record, Value, has_template, is_nothing, is_text, plain_pairs
+from .nodes import Mapping, Record, Value, as_values, has_template, is_nothing, is_text
 from .positions import read_file
 from .problems import Place, Problem
 
@@ -213,4 +213,4 @@ def variables_in(path: str) -> Record:
         return {}
     if not isinstance(node, Mapping):
         raise Problem(node.place, "a mapping of variables is wanted")
-    return plain_pairs(node)
+    return as_values(node)

@@ -11,7 +11,7 @@ from .finite import Finite, has_plain_items
 from .inventory import Inventory, is_opaque
 from .kinds import forced
 from .names import KNOWN, MAGIC, Read, given_names, read_places
-from .nodes import Atom, Scalar, Text, Value, is_literal, pairs_in, plain
+from .nodes import Atom, Scalar, Text, Value, as_value, is_literal, pairs_in
 from .rewriting import Change, changed_texts, rewrite_words
 from .stand_ins import rewritten, stand_ins
 from .truths import is_true
@@ -44,11 +44,11 @@ class Expressions:
         if "debug" in holder.words:
             holder.words.put("debug", changed_texts(holder.words["debug"], self.change_asked))
         rewrite_words(holder.words, self.change)
-        holder.asked = [changed_texts(node, self.change_asked) for node in forced(holder.asked, self.values)]
-        if isinstance(holder, Task) and holder.may_ignore is not None:
-            holder.may_ignore = ignored(holder, holder.may_ignore, self.change)
-            self.mark([(holder.may_ignore.value, holder.may_ignore)])
-        self.mark(read_places(holder.words, holder.asked))
+        holder.evaluated = [changed_texts(node, self.change_asked) for node in forced(holder.evaluated, self.values)]
+        if isinstance(holder, Task) and holder.judging.ignore_condition is not None:
+            holder.judging.ignore_condition = ignored(holder, holder.judging.ignore_condition, self.change)
+            self.mark([(holder.judging.ignore_condition.value, holder.judging.ignore_condition)])
+        self.mark(read_places(holder.words, holder.evaluated))
 
     def change(self, expression: str) -> str:
         return self.written(plain_defaults(plain_truths(expression, self.values), self.values), False)
@@ -111,12 +111,12 @@ class Values:
             yield name, value, not is_opaque(value)
         for holder in (holder for play in self.book.read_plays() for holder in play.holders()):
             for name, node in pairs_in(holder.words.get("vars")).items():
-                yield name, plain(node), is_literal(node)
+                yield name, as_value(node), is_literal(node)
         for task in self.book.tasks():
             facts = pairs_in(task.words.get("set_fact"))
             for name in given_names(task):
                 part = facts.get(name)
-                yield name, plain(part) if part is not None else None, part is not None and is_literal(part)
+                yield name, as_value(part) if part is not None else None, part is not None and is_literal(part)
 
     def known(self, name: str) -> Optional[List[Value]]:
         """All values that a name may have, or None where they aren't known; a name that nothing gives has none."""

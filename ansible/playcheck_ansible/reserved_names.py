@@ -55,7 +55,7 @@ def note_mistakes(step: Play | Block | Task) -> None:
     tasks = [step] if isinstance(step, Task) else tasks_in(step)
     first = next(iter(tasks), None)
     if first is not None:
-        first.mistakes += [Mistake("A-name", place, f"'{name}' is no name of a variable{why(name)}")
+        first.judging.mistakes += [Mistake("A-name", place, f"'{name}' is no name of a variable{why(name)}")
                            for name, place in names_in(step).items() if not is_name(name)]
 
 

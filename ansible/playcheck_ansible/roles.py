@@ -9,8 +9,8 @@ from typing import TYPE_CHECKING, List, Optional, Tuple
 
 from .books import Play, Task, items_of
 from .flow_words import FLOW, PASSED
-from .nodes import (Mapping, Node, Pairs, Scalar, Sequence, has_template, is_literal, is_nothing, is_text, items_or_one,
-                    made)
+from .nodes import (Mapping, Node, Pairs, Scalar, Sequence, as_node, has_template, is_literal, is_nothing, is_text,
+                    items_or_one)
 from .positions import read_file
 from .problems import Place, Problem
 
@@ -112,7 +112,7 @@ def put_own_collection(role: Role) -> None:
     own, dot, _ = role.name.rpartition(".")
     if dot and role.folder.split(os.sep)[-4:-2] == own.split("."):
         others = items_or_one(role.words.get("collections"))
-        role.words.put("collections", made([own, *others], role.words.place))
+        role.words.put("collections", as_node([own, *others], role.words.place))
 
 
 def role_file(folder: str, part: str, name: str) -> Optional[str]:
@@ -173,10 +173,10 @@ def put_handlers(play: Play, role: Role, handlers: List[Task]) -> None:
             continue
         handler.folder = role.folder
         if "collections" not in handler.words:
-            handler.words.put("collections", role.words.get("collections") or made([], handler.place))
+            handler.words.put("collections", role.words.get("collections") or as_node([], handler.place))
         if handler.name:
             topics = items_or_one(handler.words.get("listen"))
-            longer = made(f"{role.name} : {handler.name}", handler.place)
+            longer = as_node(f"{role.name} : {handler.name}", handler.place)
             handler.words.put("listen", Sequence([*topics, longer], handler.place))
             there[handler.name] = handler
         play.sections.setdefault("handlers", []).append(handler)

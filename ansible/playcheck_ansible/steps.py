@@ -158,7 +158,7 @@ def is_public(role: Role) -> bool:
 
 def left_include(task: Task, what: str) -> Task:
     task.leave(f"{what} isn't put in place")
-    task.sets_unseen = task.notifies_any = True
+    task.judging.sets_unknown = task.judging.notifies_any = True
     return task
 
 
@@ -266,7 +266,7 @@ def included_block(task: Task, kind: str, words: Mapping, steps: List[Step]) -> 
     if block.is_include and isinstance(given, Mapping):
         block.given.append(Given(Source.INCLUDE_PARAMETERS, given.pairs))
     if block.is_include:
-        block.asked += [words.pairs.pop("ignore_errors")] if "ignore_errors" in words else []
+        block.evaluated += [words.pairs.pop("ignore_errors")] if "ignore_errors" in words else []
         block.is_asked_once = is_asked_once(words, steps)
     return block
 
@@ -292,10 +292,10 @@ def tasks_below(steps: Iterable[Step]) -> List[Task]:
 def left_whole(task: Task, kind: str, bar: str, steps: List[Step], names: Set[str]) -> Task:
     """An include that can't be put in place, though what it sets and notifies is known."""
     task.leave(f"`{kind}` with `{bar}` isn't put in place")
-    task.gives |= names
+    task.judging.sets |= names
     for step in tasks_below(steps):
-        task.notifies += [text.value for text in texts_of(step.words.get("notify")) if not has_template(text.value)] \
-            if "notify" in step.words else []
-        task.notifies_any = task.notifies_any or step.notifies_any
-        task.sets_unseen = task.sets_unseen or step.sets_unseen
+        notified = [text.value for text in texts_of(step.words.get("notify"))]
+        task.judging.notified += [name for name in notified if not has_template(name)]
+        task.judging.notifies_any = task.judging.notifies_any or step.judging.notifies_any
+        task.judging.sets_unknown = task.judging.sets_unknown or step.judging.sets_unknown
     return task

@@ -7,7 +7,7 @@ import json
 import re
 from typing import TYPE_CHECKING, Dict, List, Optional
 
-from .nodes import Mapping, Node, Scalar, Sequence, Text, has_template, is_literal, is_text, made, plain
+from .nodes import Mapping, Node, Scalar, Sequence, Text, as_node, as_value, has_template, is_literal, is_text
 from .truths import FALSE_WORDS, TRUE_WORDS
 
 if TYPE_CHECKING:
@@ -112,7 +112,7 @@ def without_omit(node: Text, kind: str) -> Text:
 def as_text(node: Node, name: str) -> Node:
     if isinstance(node, (Mapping, Sequence)):
         if name == "content" and is_literal(node):
-            return made(json.dumps(plain(node)), node.place)
+            return as_node(json.dumps(as_value(node)), node.place)
         return node
     if is_text(node):
         return whole_as_text(node)

@@ -8,7 +8,7 @@ from typing import TYPE_CHECKING, Dict, Iterable, Iterator, List, Optional, Set,
 
 from .books import SECTIONS, Block, Play, Raw, Task
 from .names import mentioned
-from .nodes import Mapping, Node, Sequence, is_text, items_or_one, made, plain
+from .nodes import Mapping, Node, Sequence, as_node, as_value, is_text, items_or_one
 from .precedence import OF_PLAY, Given, Source, in_order, values_of, winner
 
 if TYPE_CHECKING:
@@ -49,7 +49,7 @@ def prompts_of(play: Play) -> Dict[str, Node]:
     node = play.words.get("vars_prompt")
     items = node.items if isinstance(node, Sequence) else []
     names = [item.get("name") for item in items if isinstance(item, Mapping)]
-    return {name.value: made("", name.place) for name in names if is_text(name)}
+    return {name.value: as_node("", name.place) for name in names if is_text(name)}
 
 
 class Variables:
@@ -129,7 +129,7 @@ class Variables:
 
     def place_task(self, task: Task, around: Around, of_handler: Optional[Set[str]] = None) -> None:
         """Writes at the task what it reads and would read otherwise."""
-        if task.reason or of_handler is None and not self.contested:
+        if task.judging.reason or of_handler is None and not self.contested:
             return
         names = of_handler if of_handler is not None else self.names_read(task) & self.contested
         added: Dict[str, Node] = {}
@@ -203,7 +203,7 @@ def write(holder: Play | Block, written: Dict[str, Node]) -> None:
 def is_same(one: Optional[Given], other: Optional[Given], name: str) -> bool:
     if one is None or other is None:
         return one is other
-    return plain(one.pairs[name]) == plain(other.pairs[name])
+    return as_value(one.pairs[name]) == as_value(other.pairs[name])
 
 
 def size(node: Node) -> int:

@@ -14,7 +14,7 @@ if TYPE_CHECKING:
 PART = 32  # tasks that are asked at once
 
 
-def leave_unread(settler: Settler, lines: List[Optional[Line]]) -> None:
+def leave_unreadable(settler: Settler, lines: List[Optional[Line]]) -> None:
     """Leaves the tasks on these lines that have a form outside the profile, up to one that is refused as a mistake."""
     found = {id(line.step): (line.play, line.step) for line in lines
              if line is not None and line.play is not None and isinstance(line.step, Task)}

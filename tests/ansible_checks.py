@@ -10,6 +10,7 @@ from pathlib import Path
 from ansible_expressions import wrong_expressions
 from ansible_formats import wrong_colours, wrong_gitlab, wrong_junit, wrong_sarif, wrong_strict
 from ansible_lookups import wrong_long_names, wrong_lookups, wrong_time_limit, wrong_undocumented
+from ansible_parts import wrong_limits, wrong_program, wrong_short_name
 from ansible_pipelines import wrong_action, wrong_completion, wrong_gitlab_job, wrong_hook, wrong_zsh
 from ansible_rewritings import wrong_rewritings
 from ansible_rows import wrong_rows
@@ -254,11 +255,10 @@ def lost_files():
 
 
 SEARCHES = (lost_transcripts, lost_titles, lost_files, lost_passes, lost_hook, wrong_long_texts, wrong_many_forms,
-    wrong_conversion,
-            wrong_warnings, wrong_signatures, wrong_gitlab, wrong_junit, wrong_strict, wrong_sarif, wrong_colours,
-            wrong_lookups, wrong_undocumented, wrong_long_names, wrong_time_limit, wrong_expressions,
-            wrong_rewritings, wrong_rows, wrong_words,
-            wrong_completion, wrong_zsh, wrong_action, wrong_gitlab_job, wrong_hook)
+            wrong_conversion, wrong_warnings, wrong_signatures, wrong_gitlab, wrong_junit, wrong_strict, wrong_sarif,
+            wrong_colours, wrong_lookups, wrong_undocumented, wrong_long_names, wrong_time_limit, wrong_expressions,
+            wrong_rewritings, wrong_rows, wrong_words, wrong_limits, wrong_program, wrong_short_name, wrong_completion,
+            wrong_zsh, wrong_action, wrong_gitlab_job, wrong_hook)
 # Those about terminals and large files, or other programs than the front end.
 SLOW = (lost_hook, wrong_long_texts, wrong_many_forms, wrong_colours, wrong_completion, wrong_zsh, wrong_action,
         wrong_gitlab_job, wrong_hook)
@@ -286,8 +286,7 @@ def main():
         print("0 passed, 0 failed")
         return 0
     os.environ["PLAYCHECK"] = str(Path(sys.argv[1]).resolve())
-    is_quick = "--quick" in sys.argv[2:]
-    if is_quick:
+    if is_quick := "--quick" in sys.argv[2:]:
         fork_commands()
     passed = failed = 0
     for wrong in results(is_quick):

@@ -248,6 +248,24 @@ ROWS = [
       for word, what in (("any_errors_fatal: soon", "`any_errors_fatal` is no truth value"),
                          ("max_fail_percentage: x", "`max_fail_percentage` is no number"),
                          ("order: foo", "`order` is none of Ansible's choices"), ("tags: {a: b}", "`tags` is no list of texts"))),
+    Row("retries that are a list", tasks("{name: Again, ping: , register: r, until: r is succeeded, retries: [1]}"),
+        [left(4, "Again", "a value that hasn't the form which the profile wants"), "accepted, 0 of 1 tasks judged"]),
+    Row("until reads who is active", tasks("{name: Judge, ping: , register: r, until: \"'h1' in ansible_play_batch\"}"),
+        ["4: V09 task 'Judge': a result that is judged by what other hosts have: `until` reads 'ansible_play_batch'",
+         "refused, 1 finding, 1 of 1 tasks judged"]),
+    Row("the place of a word that reads it by a name", "  tasks:\n  - name: Judge\n    command: x\n"
+        "    vars: {v: \"{{ 'h1' in ansible_play_batch }}\"}\n    changed_when: v\n",
+        ["7: V09 task 'Judge': a result that is judged by what other hosts have", "refused, 1 finding, 1 of 1 tasks judged"]),
+    Row("a declared module that nothing calls breaks a law", tasks("ping:"),
+        ["S03 a signature breaks a law", "refused, 1 finding, 1 of 1 tasks judged"], ("-s", "bad.json"),
+        files={"bad.json": SIGNATURES.replace('"own"', '"other"').replace('true}, "msg"', 'false}, "msg"')}),
+    Row("findings in the order of their lines", tasks('{name: First, debug: {msg: "{{ gone }}"}}', "{name: Next, own: {level: 9}}"),
+        [unset(4, "First", "gone"), "5: A-choice task 'Next': a value that is none of the parameter's choices: '9' is no "
+         "choice of `level` of own. Choices: 1", "refused, 2 findings, 2 of 2 tasks judged"], ("-s", "chosen.json"),
+        files={"chosen.json": SIGNATURES.strip()[:-2] + ', "ansible": {"name": "own", "aliases": {}, "asked": [], '
+                                                        '"required": [], "choices": {"level": [1]}}}]'}),
+    Row("a pattern with a sign names groups too", "- hosts: 'we*'\n  gather_facts: false\n" + tasks("{ping: , when: flag}"),
+        ["accepted, 1 of 1 tasks judged, at most 1 module calls"]),
     *(Row(f"an include with `{word}`", tasks(f"{{name: Inc, include_tasks: one.yml, {word}: {value}}}"),
           [left(4, "Inc", f"`include_tasks` with `{word}` isn't put in place"), "accepted, 0 of 1 tasks judged"], (),
           files={"one.yml": "- ping:\n"})

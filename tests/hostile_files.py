@@ -29,6 +29,9 @@ MOST_RETRIES = 255
 MOST_BATCH = 1_024  # hosts that `serial` may ask for
 MOST_WHOLE_NUMBER = 9_223_372_036_854_775_807
 
+MANY_TASKS = 100
+FEW_HOSTS = 16
+
 HERE = "@"  # where something stands in a file
 FIRST_NUMBER = 100_000  # of the pieces of a file, so that each number has six digits
 
@@ -52,6 +55,7 @@ def hostile_files():
     yield from values()
     yield from texts()
     yield from whole_numbers()
+    yield from nested_conditions()
     yield from odd_texts()
     yield from broken_signatures()
     yield from repeated_keys()
@@ -600,6 +604,20 @@ NO_TEXTS = [
     *["\\u12", "\\u 123", "\\u00g0", "\\x41", "\\'", "\0", "\n", "\x1f"],
     *[b"\xff", b"\x80", b"\xc0\xaf", b"\xe2\x82", b"\xed\xa0\x80", b"\xf4\x90\x80\x80"],
 ]
+
+
+def nested_conditions():
+    """`and` and `or` in turn inside one another, each operand a test: each is asked once, so the time grows with the text."""
+    for name, nest in {"left": "({}) {} x{} is defined", "right": "x{2} is defined {1} ({0})"}.items():
+        for levels in (MOST_LEVELS - 10, MOST_LEVELS):
+            condition = "x0 is defined"
+            for level in range(1, levels + 1):
+                condition = nest.format(condition, ("or", "and")[level % 2], level)
+            task = json.dumps({"debug": {"msg": "x"}, "when": condition})
+            for count in (1, MANY_TASKS):
+                book = TASKS + ",".join([task] * count) + END
+                named = f"and and or in turn, to the {name}: levels {levels}, tasks {count}"
+                yield hostile(named, accepted(0), book=book, inventory=hosts(FEW_HOSTS))
 
 
 def odd_texts():

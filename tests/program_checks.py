@@ -32,6 +32,7 @@ def program_checks(top):
         *pipes(),
         *standard_inputs(),
         *not_json(),
+        *other_forms(),
         *odd_json(),
         *answer_shapes(),
         *signature_files(),
@@ -282,6 +283,38 @@ def broken_texts(sound):
         ("100000-lists", "[" * 100_000),
         ("100000-objects", '{"a":' * 100_000),
     ]
+
+
+def other_forms():
+    """Of a file that is no JSON it is said what reads it, where its first line says what it is."""
+    forms = {
+        "book": {
+            "YAML": ["- hosts: all\n", "---\n- hosts: all\n", "\n# A book.\n--- # of plays\n", "hosts: all\r\n", "  hosts:\n"],
+            "INI": ["[web]\nh1\n"],
+            "": ["", "# A comment.\n", "-1e\n", "{'hosts': 'all'}\n", '[{"hosts": "all"}\n', "hosts\n", '"hosts": "all"\n'],
+        },
+        "inventory": {
+            "YAML": ["all:\n  hosts:\n    h1:\n"],
+            "INI": ["[web]\nh1\n", "[web:vars]\n", "# Hosts.\nh1 ansible_host=10.0.0.1 x=1\n"],
+            "": ["{all: {hosts: [h1]}}\n", "[1]]\n", "[web\n", "[we b]\n", "[]]\n", 'a"all":{"x=y": 1}\n', "x:y\n", "h1 =\n"],
+        },
+    }
+    codes = {place: code for place, _, code, _ in PLACES}
+    return [
+        Check(f"{place}-{form or 'neither'}-{number}", CHECK, named_form(codes[place], place, form), {**FILES, place: content})
+        for place, found in forms.items()
+        for form, contents in found.items()
+        for number, content in enumerate(contents)
+    ]
+
+
+def named_form(code, place, form):
+    told = f"playcheck: {place} looks like {form}, which playcheck-ansible reads\n" if form else ""
+
+    def judge(outcome):
+        return refused(code)(outcome) or ("" if outcome.stderr == told.encode() else f"stderr {told!r}")
+
+    return judge
 
 
 def odd_json():

@@ -94,7 +94,6 @@ def play_of(item: Mapping, path: str, count: Count) -> Play:
     name = item.get("name") or item.get("hosts")
     context = Context(path, os.path.dirname(path), str(as_value(name)) if isinstance(name, Scalar) else "", count)
     play = Play(words, item.place, {})
-    play.written = item.copy()
     roles = role_blocks(play, context)
     # In this order Ansible reads what roles the parts of a play import.
     for section in ("handlers", "pre_tasks", "post_tasks", "tasks"):

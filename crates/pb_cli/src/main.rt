@@ -2,6 +2,7 @@
 #![tactic(auto)]
 
 mod files;
+mod form;
 mod judge;
 mod machine;
 mod outcome;

@@ -3,6 +3,7 @@ ghost use Rattle.std.specs.Prelude.{◌≡◌, ◌≤◌, IfOk, sum_by, vec_len}
 ghost use Rattle.pb_cli.specs.Outcomes.{most_programs};
 
 use crate::files::read_bounded;
+use crate::form::{Form, form_of};
 use crate::machine::{has_room, look_into, loses_ends, most_workers};
 use crate::outcome::{Bytes, Outcome, Stream, USAGE, WANTING, checked, line_outcome, outcome_of};
 use crate::want::Want;
@@ -49,9 +50,53 @@ where
     let options = fit(rt, options)?;
     let bytes = read_all(rt, &options)?;
     match &options {
-        Options::Check(_) => Ok(say(rt, checked(rt.alloc(), &bytes))),
-        Options::Run { .. } => Ok(say(rt, come_to(rt, host, &options, &bytes))),
+        Options::Check(_) => {
+            let said = checked(rt.alloc(), &bytes);
+            Ok(conclude(rt, &options, &bytes, said))
+        }
+        Options::Run { .. } => {
+            let said = come_to(rt, host, &options, &bytes);
+            Ok(conclude(rt, &options, &bytes, said))
+        }
     }
+}
+
+// Says what was come to, and what reads a file that is no JSON; the answer is the status.
+fn conclude<R: Files + Print + Eprint>(
+    rt: &R,
+    options: &Options,
+    bytes: &Bytes,
+    said: Result<Outcome, Want>,
+) -> u8 {
+    let other = other_form(options, bytes, &said);
+    let status = say(rt, said);
+    if let Some((name, form)) = other {
+        let name = Visible(name);
+        let form = form.name();
+        let _ = eprintln!(rt; "playcheck: {name} looks like {form}, which playcheck-ansible reads");
+    }
+    status
+}
+
+// The file that was refused for being no JSON, and what it looks like.
+fn other_form<'o>(
+    options: &'o Options,
+    bytes: &Bytes,
+    said: &Result<Outcome, Want>,
+) -> Option<(&'o str, Form)> {
+    let Ok(outcome) = said else {
+        return None;
+    };
+    let subject = subject_of(options);
+    let text = outcome.text.as_str();
+    let (name, file) = if text.starts_with("refused P01 ") {
+        (&subject.book, &bytes.book)
+    } else if text.starts_with("refused I01 ") {
+        (&subject.inventory, &bytes.inventory)
+    } else {
+        return None;
+    };
+    Some((name.as_str(), form_of(file)?))
 }
 
 fn line_said(fault: LineFault) -> Result<Outcome, Want> {

@@ -11,6 +11,7 @@ use Rattle.pb_taught.specs.Before.{Before}
 use Rattle.pb_forms.specs.InferredView.{fault_in}
 use Rattle.pb_taught.specs.TaughtView.{scope_view}
 use Rattle.pb_expr.specs.declared.asked.Asked.{Asked}
+use Rattle.pb_expr.specs.declared.asked.Ways.{Ways}
 use Rattle.pb_forms.specs.declared.inferred.Inferred.{Inferred}
 use Rattle.pb_taught.specs.declared.scope.Taught.{Taught}
 
@@ -36,3 +37,7 @@ AreRight c f (x ∷ xs) = IsFoundOf c (f (string_bytes x.0)) x.1 × AreRight c f
 -- what was asked where that is taught was found there
 abbrev pub IsRight : Before → Taught → Asked → Type 0
 IsRight b t a = AreRight (scope_view b t) b.trees a.found.entries
+
+pub record AreRightWays (b : Before) (w : Ways) : Type 0 where
+  pub holds : IsRight b w.holds.taught w.holds.asked
+  pub fails : IsRight b w.fails.taught w.fails.asked

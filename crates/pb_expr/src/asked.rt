@@ -18,8 +18,8 @@ use std::collections::BTreeMap;
 // A chain leads through at most so many names of `vars`.
 const MOST_NAMES: usize = 8;
 
-// So many trees of names of `vars` are asked, and ways of chains taken, for one expression; past
-// them it is want of memory, since each test may ask all of them anew.
+// So many trees of names of `vars` are asked for one expression; past them it is want of memory,
+// since each test may ask all of them anew.
 const MOST_TURNS: usize = 65_536;
 
 // What an expression is asked against.
@@ -28,7 +28,7 @@ pub(crate) struct Inquiry<'k, K: Known> {
     pub known: &'k K,
     // How many names of `vars` a chain may lead through from here.
     pub chain: usize,
-    // How many trees may still be asked, and ways taken.
+    // How many trees may still be asked.
     pub turns: &'k Cell<usize>,
 }
 
@@ -57,18 +57,6 @@ impl<'k, K: Known> Inquiry<'k, K> {
         }
         self.turns.set(turns - 1);
         Ok(())
-    }
-
-    // What is taught and was asked where a way of several begins.
-    pub(crate) fn way(&self, alloc: Global, here: &Here) -> Result<Here, AllocError>
-        requires { IsRight (K.before self.now.known.now) here.now.taught here.now.asked }
-        ensures taught { let b = K.before self.now.known.now in
-            IfOk result (λ h. scope_view b h.taught ≡ scope_view b here.now.taught) }
-        ensures right { IfOk result
-            (λ h. IsRight (K.before self.now.known.now) h.taught h.asked) }
-    {
-        self.turn()?;
-        Here::copy(alloc, &here.taught, &here.asked)
     }
 }
 
@@ -149,6 +137,24 @@ impl Here {
         let taught = taught.copy(alloc)?;
         let asked = asked.copy(alloc)?;
         Ok(Here { taught, asked })
+    }
+}
+
+// What is taught and was asked where a test was true, and where it was false.
+#[derive(Drop)]
+pub(crate) struct Ways {
+    pub holds: Here,
+    pub fails: Here,
+}
+
+// Of the other answer.
+pub(crate) fn turned(ways: Ways) -> Ways
+    ensures { result ≡ record { holds = ways.fails; fails = ways.holds } }
+{
+    let Ways { holds, fails } = ways;
+    Ways {
+        holds: fails,
+        fails: holds,
     }
 }
 

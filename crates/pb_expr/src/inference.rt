@@ -1,33 +1,32 @@
-// What is found of an expression, its kind and its first fault, and what its answer teaches.
-ghost use Rattle.std.specs.Prelude.{◌≡◌, IfOk, None, OnOk, option_map, true};
+// What is found of an expression: its kind and its first fault.
+ghost use Rattle.std.specs.Prelude.{◌≡◌, IfOk, None, OnOk, option_map};
 ghost use Rattle.pb_semantics.specs.Words.{booleans, recs};
-ghost use Rattle.pb_language.specs.Expression.{defined, path as read, path_or, path_status};
+ghost use Rattle.pb_language.specs.Expression.{path as read, path_or};
 ghost use Rattle.pb_language.specs.Expansion.{all_expanded, expanded, expanded_root};
 ghost use Rattle.pb_language.specs.Expansion.{parts_expanded};
 ghost use Rattle.pb_language.specs.Fit.{read_fault, tested_fault};
 ghost use Rattle.pb_language.specs.Kinds.{root_spot};
-ghost use Rattle.pb_language.specs.Narrow.{any_teaches, narrow, narrow_each, narrow_some};
-ghost use Rattle.pb_language.specs.Narrow.{where_taught};
 ghost use Rattle.pb_language.specs.Words.{are_booleans, asks, chain_fault, fault, fields_fault};
 ghost use Rattle.pb_language.specs.Words.{first, kind_of as kind_found, parts_slots, wrong_kind};
 ghost use Rattle.pb_kind.specs.Words.{kind_view, slot_given};
 ghost use Rattle.pb_syntax.specs.ExprView.{expr_view, exprs_view, names_of, parts_view};
-ghost use Rattle.pb_syntax.specs.ExprView.{root_view, status_view};
+ghost use Rattle.pb_syntax.specs.ExprView.{root_view};
 ghost use Rattle.pb_forms.specs.FitView.{fault_view};
 ghost use Rattle.pb_expr.specs.Found.{AreFound, IsRight};
 ghost use Rattle.pb_forms.specs.InferredView.{fault_in};
 ghost use Rattle.pb_taught.specs.TaughtView.{alias_tree, scope_view};
 
-use crate::asked::{Asked, Here, Inquiry, here_anew};
+use crate::asked::{Asked, Here, Inquiry};
 use crate::leaves::{fit, in_batch_unfit, of_path, path_or_else, unfit};
-use crate::narrow::{any_teaches, show, show_active, show_status, taught_by_all};
+use crate::narrow::any_teaches;
+use crate::narrowing::narrow_here;
 use crate::roots::{AtRoot, alias_of, at_root};
 use pb_forms::forms;
 use pb_forms::inferred::{Inferred, found_copied};
 use pb_forms::literal::{literal_kind, put_certain};
 use pb_forms::unfit::{Unfit, first_of};
 use pb_kind::Kind;
-use pb_syntax::{Expr, Path, Root, Status};
+use pb_syntax::{Expr, Path, Root};
 use pb_taught::known::Known;
 use pb_taught::scope::Taught;
 use std::alloc::{AllocError, Global};
@@ -94,7 +93,7 @@ pub(crate) fn infer<K: Known>(
 
 // What is found of the tree of a root that is a name of `vars`, where the root is one.
 #[cycle(infer)]
-fn of_alias<K: Known>(
+pub(crate) fn of_alias<K: Known>(
     alloc: Global,
     root: &Root,
     inquiry: &Inquiry<'_, K>,
@@ -312,162 +311,6 @@ fn of_fields<K: Known>(
     }
     let kind = Kind::of_slots(alloc, kinds)?;
     Ok(Inferred { kind, unfit })
-}
-
-// What is taught once the expression, too, had that answer.
-#[cycle(infer)]
-pub(crate) fn narrow_here<K: Known>(
-    alloc: Global,
-    expr: &Expr,
-    answer: bool,
-    inquiry: &Inquiry<'_, K>,
-    here: Here,
-) -> Result<Here, AllocError>
-    requires { IsRight (K.before inquiry.now.known.now) here.taught here.asked }
-    ensures taught { let b = K.before inquiry.now.known.now in
-        IfOk result (λ h. scope_view b h.taught
-        ≡ narrow (scope_view b here.taught) (expanded b.trees (expr_view expr.now)) answer) }
-    ensures right { IfOk result
-        (λ h. IsRight (K.before inquiry.now.known.now) h.taught h.asked) }
-{
-    match expr {
-        Expr::Not(operand) => narrow_here(alloc, operand, !answer, inquiry, here),
-        Expr::And(operands) if answer => narrow_each(alloc, operands, answer, inquiry, here),
-        Expr::And(operands) => narrow_some(alloc, operands, answer, inquiry, here),
-        Expr::Or(operands) if answer => narrow_some(alloc, operands, answer, inquiry, here),
-        Expr::Or(operands) => narrow_each(alloc, operands, answer, inquiry, here),
-        Expr::InBatch(term) if answer => {
-            let taught = show_active(alloc, term, inquiry.known, here.taught)?;
-            Ok(here_anew(alloc, taught))
-        }
-        Expr::Defined(path) if answer => narrow_there(alloc, path, inquiry, here),
-        Expr::PathStatus(status, path) => {
-            narrow_status(alloc, (*status, answer), path, inquiry, here)
-        }
-        Expr::InBatch(_) | Expr::Hostvars(_) => Ok(here),
-        Expr::Literal(_) | Expr::Path(_) | Expr::Compare(_, _, _) | Expr::In(_, _) => Ok(here),
-        Expr::Defined(_) | Expr::Undefinable(_) | Expr::Status(_, _) => Ok(here),
-        Expr::PathOr(_, _) | Expr::ValueOr(_, _) | Expr::Length(_) => Ok(here),
-        Expr::Join(_, _) | Expr::Concat(_) | Expr::List(_) | Expr::Record(_) => Ok(here),
-    }
-}
-
-// The path was tested to be there.
-#[cycle(infer)]
-fn narrow_there<K: Known>(
-    alloc: Global,
-    path: &Path,
-    inquiry: &Inquiry<'_, K>,
-    here: Here,
-) -> Result<Here, AllocError>
-    requires { IsRight (K.before inquiry.now.known.now) here.taught here.asked }
-    ensures taught { let b = K.before inquiry.now.known.now in
-        IfOk result (λ h. scope_view b h.taught ≡ narrow (scope_view b here.taught)
-        (defined (expanded_root b.trees (root_view path.now.root))
-        (names_of path.now.steps.items)) true) }
-    ensures right { IfOk result
-        (λ h. IsRight (K.before inquiry.now.known.now) h.taught h.asked) }
-{
-    let mut here = here;
-    let alias = of_alias(alloc, &path.root, inquiry, &here.taught, &mut here.asked)?;
-    let taught = show(alloc, path, inquiry.known, here.taught, alias)?;
-    Ok(here_anew(alloc, taught))
-}
-
-// The test of a status at the end of the path had that answer.
-#[cycle(infer)]
-fn narrow_status<K: Known>(
-    alloc: Global,
-    test: (Status, bool),
-    path: &Path,
-    inquiry: &Inquiry<'_, K>,
-    here: Here,
-) -> Result<Here, AllocError>
-    requires { IsRight (K.before inquiry.now.known.now) here.taught here.asked }
-    ensures taught { let b = K.before inquiry.now.known.now in
-        IfOk result (λ h. scope_view b h.taught ≡ narrow (scope_view b here.taught)
-        (path_status (status_view test.0) (expanded_root b.trees (root_view path.now.root))
-        (names_of path.now.steps.items)) test.1) }
-    ensures right { IfOk result
-        (λ h. IsRight (K.before inquiry.now.known.now) h.taught h.asked) }
-{
-    let mut here = here;
-    let alias = of_alias(alloc, &path.root, inquiry, &here.taught, &mut here.asked)?;
-    let taught = show_status(alloc, test, path, inquiry.known, here.taught, alias)?;
-    Ok(here_anew(alloc, taught))
-}
-
-// Each operand had that answer.
-#[cycle(infer)]
-fn narrow_each<K: Known>(
-    alloc: Global,
-    operands: &[Expr],
-    answer: bool,
-    inquiry: &Inquiry<'_, K>,
-    before: Here,
-) -> Result<Here, AllocError>
-    requires { IsRight (K.before inquiry.now.known.now) before.taught before.asked }
-    ensures taught { let b = K.before inquiry.now.known.now in
-        IfOk result (λ h. scope_view b h.taught ≡ narrow_each (scope_view b before.taught)
-        (all_expanded b.trees (exprs_view operands.now)) answer) }
-    ensures right { IfOk result
-        (λ h. IsRight (K.before inquiry.now.known.now) h.taught h.asked) }
-{
-    let mut here = before;
-    for operand in operands {
-        here = narrow_here(alloc, operand, answer, inquiry, here)?;
-    }
-    Ok(here)
-}
-
-// One operand had that answer, and none before it; nothing is looked at where none teaches.
-#[cycle(infer)]
-fn narrow_some<K: Known>(
-    alloc: Global,
-    operands: &[Expr],
-    answer: bool,
-    inquiry: &Inquiry<'_, K>,
-    before: Here,
-) -> Result<Here, AllocError>
-    requires { IsRight (K.before inquiry.now.known.now) before.taught before.asked }
-    ensures taught { let b = K.before inquiry.now.known.now in
-        let c = scope_view b before.taught in
-        let es = all_expanded b.trees (exprs_view operands.now) in
-        IfOk result (λ h. scope_view b h.taught
-        ≡ where_taught (any_teaches es) (narrow_some c es answer) c) }
-    ensures right { IfOk result
-        (λ h. IsRight (K.before inquiry.now.known.now) h.taught h.asked) }
-{
-    if !any_teaches(operands) {
-        return Ok(before);
-    }
-    let mut ways = Vec::new(alloc);
-    let mut here = before;
-    for operand in operands {
-        let way = narrow_way(alloc, operand, answer, inquiry, &here)?;
-        ways.push(way)?;
-        here = narrow_here(alloc, operand, !answer, inquiry, here)?;
-    }
-    let taught = taught_by_all(alloc, ways, here.taught)?;
-    Ok(here_anew(alloc, taught))
-}
-
-// What is taught on a way of several, on which the operand had that answer.
-#[cycle(infer)]
-fn narrow_way<K: Known>(
-    alloc: Global,
-    operand: &Expr,
-    answer: bool,
-    inquiry: &Inquiry<'_, K>,
-    here: &Here,
-) -> Result<Taught, AllocError>
-    requires { IsRight (K.before inquiry.now.known.now) here.now.taught here.now.asked }
-    ensures { let b = K.before inquiry.now.known.now in
-        IfOk result (λ t. scope_view b t ≡ narrow (scope_view b here.now.taught)
-        (expanded b.trees (expr_view operand.now)) answer) }
-{
-    let way = inquiry.way(alloc, here)?;
-    Ok(narrow_here(alloc, operand, answer, inquiry, way)?.taught)
 }
 
 // Of the value at the end of the path, or of the other where there may be none.

@@ -17,6 +17,7 @@ pub mod fit;
 mod inference;
 mod leaves;
 pub mod narrow;
+mod narrowing;
 mod root_faults;
 mod roots;
 mod steps;

@@ -16,7 +16,7 @@ ghost use Rattle.pb_taught.specs.TaughtView.{scope_view, scopes_view, taught_by}
 
 use crate::asked::{all_turns, here_anew, inquiry_of};
 use crate::change::{Change, teach};
-use crate::inference::narrow_here;
+use crate::narrowing::narrow_here;
 use pb_forms::inferred::Inferred;
 use pb_syntax::{Expr, Path, Root, Status, Term, names_copied};
 use pb_taught::known::Known;
@@ -32,7 +32,7 @@ use std::sync::Arc;
 /// # Errors
 ///
 /// Want of memory, also where a chain of names of `vars` has more than 8 of them, and past 65,536
-/// trees of such names that are asked and ways that are taken.
+/// trees of such names that are asked.
 pub fn narrow<K: Known>(
     alloc: Global,
     expr: &Expr,

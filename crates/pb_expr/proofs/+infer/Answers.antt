@@ -1,4 +1,5 @@
 use Rattle.std.proofs.Common.{rules, ◌≡◌, true, false, Some, not, ◌&&◌, ◌+◌, length, [], ◌∷◌, ◌++◌, drop, String, Global, string_bytes, option_map, sym, ap, ◌∙◌, subst, append_assoc, arith}
+use Rattle.std.proofs.Math.Bool.{not-not}
 use Rattle.std.proofs.lemmas.List.{append-nil, drop_all}
 use Rattle.std.proofs.lemmas.Result.{IfOk-weaker}
 use Rattle.pb_semantics.specs.Kind.{lists, recs, put_slot}
@@ -22,10 +23,10 @@ use Rattle.pb_expr.proofs.FoundParts.{found-booleans, found-chain, found-count, 
 use Rattle.pb_forms.proofs.Records.{slots_from, put_slot-last, parts_slots-ascending}
 use Rattle.pb_syntax.proofs.Left.{drop-at}
 use Rattle.pb_expr.proofs.Ways.{some-ways, status-narrowed, ways, ways-turn, same-last}
-use Rattle.pb_expr.proofs.inference.+infer.Goals as goal
+use Rattle.pb_expr.proofs.+infer.Goals as goal
 
-pub infer_each-loop-expr-preserved : goal.infer_each-loop-expr-preserved
-infer_each-loop-expr-preserved g t c =
+pub inference::infer_each-loop-expr-preserved : goal.inference::infer_each-loop-expr-preserved
+inference::infer_each-loop-expr-preserved g t c =
     let l = c.loop-expr in
     let b = g.K.Known.before c.args.inquiry.now.known.now in
     let s = scope_view b c.args.taught.now in
@@ -42,8 +43,8 @@ infer_each-loop-expr-preserved g t c =
       right = c.in_ok-found.ensures.right;
     }
 
-pub infer_each-returns-clause-found : goal.infer_each-returns-clause-found
-infer_each-returns-clause-found g t c =
+pub inference::infer_each-returns-clause-found : goal.inference::infer_each-returns-clause-found
+inference::infer_each-returns-clause-found g t c =
     let l = c.loop-expr in
     let b = g.K.Known.before c.args.inquiry.now.known.now in
     let s = scope_view b c.args.taught.now in
@@ -52,8 +53,8 @@ infer_each-returns-clause-found g t c =
     subst (λ is. AreFound s (all_expanded b.trees (exprs_view items)) is) (append-nil l.all.items)
     (l.invariant.found [] (subst (λ xs. AreFound s (all_expanded b.trees (exprs_view xs)) []) (sym past) tt))
 
-pub of_chain-loop-operand-preserved : goal.of_chain-loop-operand-preserved
-of_chain-loop-operand-preserved g t c =
+pub inference::of_chain-loop-operand-preserved : goal.inference::of_chain-loop-operand-preserved
+inference::of_chain-loop-operand-preserved g t c =
     let l = c.loop-operand in
     let b = g.K.Known.before c.args.inquiry.now.known.now in
     let f = b.trees in
@@ -77,8 +78,8 @@ of_chain-loop-operand-preserved g t c =
       right = c.in_ok-here.ensures.right;
     }
 
-pub of_chain-returns-clause-fault : goal.of_chain-returns-clause-fault
-of_chain-returns-clause-fault g t c =
+pub inference::of_chain-returns-clause-fault : goal.inference::of_chain-returns-clause-fault
+inference::of_chain-returns-clause-fault g t c =
     let l = c.loop-operand in
     let b = g.K.Known.before c.args.inquiry.now.known.now in
     let f = b.trees in
@@ -92,8 +93,8 @@ of_chain-returns-clause-fault g t c =
     let kinds : are_booleans d es q ≡ l.are_bool = l.invariant.kinds ∙ ap (λ xs. l.are_bool && are_booleans s (all_expanded f (exprs_view xs)) q) past ∙ and-true l.are_bool in
     c.asked.ensures.fault ∙ ap (λ x. first x (asks wrong_kind l.are_bool)) (sym faults) ∙ ap (λ x. first (chain_fault d es q) (asks wrong_kind x)) (sym kinds)
 
-pub of_fields-loop-name-preserved : goal.of_fields-loop-name-preserved
-of_fields-loop-name-preserved g t c =
+pub inference::of_fields-loop-name-preserved : goal.inference::of_fields-loop-name-preserved
+inference::of_fields-loop-name-preserved g t c =
     let b = g.K.Known.before c.args.inquiry.now.known.now in
     let w = b.trees in
     let s = scope_view b c.args.taught.now in
@@ -121,15 +122,15 @@ of_fields-loop-name-preserved g t c =
       c.in_ok-infer.ensures.right,
     )
 
-pub of_fields-returns-clause-fault : goal.of_fields-returns-clause-fault
-of_fields-returns-clause-fault g t c =
+pub inference::of_fields-returns-clause-fault : goal.inference::of_fields-returns-clause-fault
+inference::of_fields-returns-clause-fault g t c =
     let b = g.K.Known.before c.args.inquiry.now.known.now in
     let s = scope_view b c.args.taught.now in
     let before = option_map fault_view c.loop-name.unfit in
     sym (c.loop-name.invariant.3 ∙ ap (λ es. first before (fields_fault s (parts_expanded b.trees (parts_view es)))) (c.in-None.ensures).steps.0 ∙ first-none before)
 
-pub of_fields-returns-clause-kind : goal.of_fields-returns-clause-kind
-of_fields-returns-clause-kind g t c =
+pub inference::of_fields-returns-clause-kind : goal.inference::of_fields-returns-clause-kind
+inference::of_fields-returns-clause-kind g t c =
     let b = g.K.Known.before c.args.inquiry.now.known.now in
     let s = scope_view b c.args.taught.now in
     let inv = c.loop-name.invariant in
@@ -137,28 +138,8 @@ of_fields-returns-clause-kind g t c =
     let whole : c.args.fields.now.entries ≡ inv.0 = inv.1 ∙ ap (λ es. inv.0 ++ es) nil ∙ append-nil inv.0 in
     c.in_ok-kind.ensures ∙ ap recs (inv.2 ∙ ap (slots_from (λ (x : Expr). kind_of s (expanded b.trees (expr_view x)))) (sym whole) ∙ sym (parts_slots-ascending s b.trees c.args.fields.now.entries c.iter-name-items.ensures.ordered))
 
-pub narrow_some-loop-operand-preserved : goal.narrow_some-loop-operand-preserved
-narrow_some-loop-operand-preserved g t c =
-    let l = c.loop-operand in
-    let m = g.K.Known.before c.args.inquiry.now.known.now in
-    let s = scope_view m l.here.taught in
-    let q = c.args.answer in
-    let items = c.args.operands.now in
-    let i = l.operand-index in
-    let e = c.operand-item.result in
-    let w = expanded m.trees (expr_view e) in
-    let rest = all_expanded m.trees (exprs_view (drop (i + 1) items)) in
-    let way = c.in_ok-way.way in
-    let next : drop i items ≡ e ∷ drop (i + 1) items = drop-at items i e c.loop-operand-test.true c.operand-item.is in
-    record {
-      ways = l.invariant.ways ∙ ap (λ es. scopes_view m l.ways.items ++ ways s (all_expanded m.trees (exprs_view es)) q) next
-          ∙ ways-turn m l.ways.items c.push.new.self.items way l.here.taught c.in_ok-here.here.taught w rest q c.in_ok-way.ensures c.in_ok-here.ensures.taught c.in_ok-push.ensures.items;
-      before = same-last m l.ways.items c.push.new.self.items way (scope_view m c.in_ok-here.here.taught) (scope_view m c.args.before.taught) c.in_ok-push.ensures.items;
-      right = c.in_ok-here.ensures.right;
-    }
-
-pub infer-returns-in_ok-infer_each-in-Concat-clause-fault : goal.infer-returns-in_ok-infer_each-in-Concat-clause-fault
-infer-returns-in_ok-infer_each-in-Concat-clause-fault g t c =
+pub inference::infer-returns-in_ok-infer_each-in-Concat-clause-fault : goal.inference::infer-returns-in_ok-infer_each-in-Concat-clause-fault
+inference::infer-returns-in_ok-infer_each-in-Concat-clause-fault g t c =
     let b = g.K.Known.before c.args.inquiry.now.known.now in
     let s = scope_view b c.args.taught.now in
     let founds = c.in_ok-infer_each-in-Concat.field-0.items in
@@ -169,8 +150,8 @@ infer-returns-in_ok-infer_each-in-Concat-clause-fault g t c =
     ∙ ap (λ x. first (parts_fault s es) (asks wrong_kind x)) (sym (found-plain s es founds all))
     ∙ ap (λ e. fault s (expanded b.trees e)) (sym (ap expr_view c.in-Concat.is ∙ view-Concat c.in-Concat.parts))
 
-pub infer-returns-in_ok-infer_each-in-List-clause-kind : goal.infer-returns-in_ok-infer_each-in-List-clause-kind
-infer-returns-in_ok-infer_each-in-List-clause-kind g t c =
+pub inference::infer-returns-in_ok-infer_each-in-List-clause-kind : goal.inference::infer-returns-in_ok-infer_each-in-List-clause-kind
+inference::infer-returns-in_ok-infer_each-in-List-clause-kind g t c =
     let b = g.K.Known.before c.args.inquiry.now.known.now in
     let s = scope_view b c.args.taught.now in
     let founds = c.in_ok-infer_each-in-List.field-0.items in
@@ -182,8 +163,8 @@ infer-returns-in_ok-infer_each-in-List-clause-kind g t c =
     ∙ ap (λ k. lists k (length founds)) (sym (found-kinds s es founds all)) ∙ ap (lists (items_kind s es)) (sym (found-count s es founds all))
     ∙ ap (λ e. kind_of s (expanded b.trees e)) tree) c.items.ensures.kind
 
-pub infer-returns-in_ok-infer_each-in-List-clause-fault : goal.infer-returns-in_ok-infer_each-in-List-clause-fault
-infer-returns-in_ok-infer_each-in-List-clause-fault g t c =
+pub inference::infer-returns-in_ok-infer_each-in-List-clause-fault : goal.inference::infer-returns-in_ok-infer_each-in-List-clause-fault
+inference::infer-returns-in_ok-infer_each-in-List-clause-fault g t c =
     let b = g.K.Known.before c.args.inquiry.now.known.now in
     let s = scope_view b c.args.taught.now in
     let founds = c.in_ok-infer_each-in-List.field-0.items in
@@ -193,11 +174,11 @@ infer-returns-in_ok-infer_each-in-List-clause-fault g t c =
     IfOk-weaker c.items.result (λ i. fault_in i ≡ part_faults_in c.deref-in-List-2.result.now) (λ i. fault_in i ≡ fault s (expanded b.trees (expr_view c.args.expr.now)))
     (λ i h. h ∙ ap part_faults_in c.deref-in-List-2.ensures.value ∙ sym (found-items s es founds all) ∙ ap (λ e. fault s (expanded b.trees e)) tree) c.items.ensures.fault
 
-pub narrow_here-returns-in_ok-taught-in-InBatch-clause-right : goal.narrow_here-returns-in_ok-taught-in-InBatch-clause-right
-narrow_here-returns-in_ok-taught-in-InBatch-clause-right g t c = c.here_anew.ensures.right (g.K.Known.before c.args.inquiry.now.known.now)
+pub narrowing::narrow_here-returns-in_ok-taught-in-InBatch-clause-right : goal.narrowing::narrow_here-returns-in_ok-taught-in-InBatch-clause-right
+narrowing::narrow_here-returns-in_ok-taught-in-InBatch-clause-right g t c = c.here_anew.ensures.right (g.K.Known.before c.args.inquiry.now.known.now)
 
-pub narrow_here-returns-in-PathStatus-clause-taught : goal.narrow_here-returns-in-PathStatus-clause-taught
-narrow_here-returns-in-PathStatus-clause-taught g t c =
+pub narrowing::narrow_here-returns-in-PathStatus-clause-taught : goal.narrowing::narrow_here-returns-in-PathStatus-clause-taught
+narrowing::narrow_here-returns-in-PathStatus-clause-taught g t c =
     let b = g.K.Known.before c.args.inquiry.now.known.now in
     let f = b.trees in
     let d = scope_view b c.args.here.taught in
@@ -211,56 +192,39 @@ narrow_here-returns-in-PathStatus-clause-taught g t c =
     IfOk-weaker c.narrow_status.result (λ h. scope_view b h.taught ≡ narrow d (path_status s r ns) q) (λ h. scope_view b h.taught ≡ narrow d e q)
     (λ h is. status-narrowed d (scope_view b h.taught) e s r ns q tree is) c.narrow_status.ensures.taught
 
-pub narrow_there-returns-clause-taught : goal.narrow_there-returns-clause-taught
-narrow_there-returns-clause-taught g t c = ap (scope_view (g.K.Known.before c.args.inquiry.now.known.now)) c.here_anew.ensures.taught ∙ c.in_ok-taught.ensures
+pub narrowing::narrow_there-returns-clause-taught : goal.narrowing::narrow_there-returns-clause-taught
+narrowing::narrow_there-returns-clause-taught g t c = ap (scope_view (g.K.Known.before c.args.inquiry.now.known.now)) c.here_anew.ensures.taught ∙ c.in_ok-taught.ensures
 
-pub narrow_there-returns-clause-right : goal.narrow_there-returns-clause-right
-narrow_there-returns-clause-right g t c = c.here_anew.ensures.right (g.K.Known.before c.args.inquiry.now.known.now)
+pub narrowing::narrow_there-returns-clause-right : goal.narrowing::narrow_there-returns-clause-right
+narrowing::narrow_there-returns-clause-right g t c = c.here_anew.ensures.right (g.K.Known.before c.args.inquiry.now.known.now)
 
-pub narrow_status-returns-clause-taught : goal.narrow_status-returns-clause-taught
-narrow_status-returns-clause-taught g t c = ap (scope_view (g.K.Known.before c.args.inquiry.now.known.now)) c.here_anew.ensures.taught ∙ c.in_ok-taught.ensures
+pub narrowing::narrow_status-returns-clause-taught : goal.narrowing::narrow_status-returns-clause-taught
+narrowing::narrow_status-returns-clause-taught g t c = ap (scope_view (g.K.Known.before c.args.inquiry.now.known.now)) c.here_anew.ensures.taught ∙ c.in_ok-taught.ensures
 
-pub narrow_status-returns-clause-right : goal.narrow_status-returns-clause-right
-narrow_status-returns-clause-right g t c = c.here_anew.ensures.right (g.K.Known.before c.args.inquiry.now.known.now)
+pub narrowing::narrow_status-returns-clause-right : goal.narrowing::narrow_status-returns-clause-right
+narrowing::narrow_status-returns-clause-right g t c = c.here_anew.ensures.right (g.K.Known.before c.args.inquiry.now.known.now)
 
-pub narrow_some-returns-clause-taught : goal.narrow_some-returns-clause-taught
-narrow_some-returns-clause-taught g t c =
-    let l = c.loop-operand in
-    let m = g.K.Known.before c.args.inquiry.now.known.now in
-    let first = scope_view m c.args.before.taught in
-    let es = all_expanded m.trees (exprs_view c.args.operands.now) in
-    let q = c.args.answer in
-    let past = drop_all l.operand-index c.args.operands.now c.loop-operand-test.false in
-    let told : any_teaches es ≡ true = sym (c.any_teaches.ensures m.trees) ∙ c.if-not-any_teaches.false in
-    let all : ways first es q ≡ scopes_view m l.ways.items =
-    l.invariant.ways ∙ ap (λ xs. scopes_view m l.ways.items ++ ways (scope_view m l.here.taught) (all_expanded m.trees (exprs_view xs)) q) past ∙ append-nil (scopes_view m l.ways.items) in
-    ap (scope_view m) c.here_anew.ensures.taught ∙ c.in_ok-taught.ensures m ∙ l.invariant.before ∙ ap (λ ds. taught_by ds first) (sym all) ∙ sym (some-ways first es q)
-    ∙ sym (ap (λ x. where_taught x (narrow_some first es q) first) told)
-
-pub narrow_some-returns-clause-right : goal.narrow_some-returns-clause-right
-narrow_some-returns-clause-right g t c = c.here_anew.ensures.right (g.K.Known.before c.args.inquiry.now.known.now)
-
-pub of_alias-returns-in-Some-find-clause-kind : goal.of_alias-returns-in-Some-find-clause-kind
-of_alias-returns-in-Some-find-clause-kind g t c =
+pub inference::of_alias-returns-in-Some-find-clause-kind : goal.inference::of_alias-returns-in-Some-find-clause-kind
+inference::of_alias-returns-in-Some-find-clause-kind g t c =
     let b = g.K.Known.before c.args.inquiry.now.known.now in
     let s = scope_view b c.args.taught.now in
     let found = c.in-Some-find.found.now in
     let right = subst (λ x. IsFoundOf s x found) (ap b.trees c.as_str.ensures.value ∙ c.in-Some.ensures.name) (c.in-Some-find.ensures s b.trees c.requires) in
     ap Some (c.in_ok-found_copied.ensures.kind ∙ right.0) ∙ sym (ap (option_map (kind_of s)) c.in-Some.ensures.tree)
 
-pub of_alias-returns-in-Some-find-clause-fault : goal.of_alias-returns-in-Some-find-clause-fault
-of_alias-returns-in-Some-find-clause-fault g t c =
+pub inference::of_alias-returns-in-Some-find-clause-fault : goal.inference::of_alias-returns-in-Some-find-clause-fault
+inference::of_alias-returns-in-Some-find-clause-fault g t c =
     let b = g.K.Known.before c.args.inquiry.now.known.now in
     let s = scope_view b c.args.taught.now in
     let found = c.in-Some-find.found.now in
     let right = subst (λ x. IsFoundOf s x found) (ap b.trees c.as_str.ensures.value ∙ c.in-Some.ensures.name) (c.in-Some-find.ensures s b.trees c.requires) in
     ap Some (ap (option_map fault_view) c.in_ok-found_copied.ensures.unfit ∙ right.1) ∙ sym (ap (option_map (fault s)) c.in-Some.ensures.tree)
 
-pub of_operands-of_chain-requires : goal.of_operands-of_chain-requires
-of_operands-of_chain-requires g t c = search (rules, c.in_ok-here.ensures.right (g.K.Known.before c.args.inquiry.now.known.now) c.requires)
+pub inference::of_operands-of_chain-requires : goal.inference::of_operands-of_chain-requires
+inference::of_operands-of_chain-requires g t c = search (rules, c.in_ok-here.ensures.right (g.K.Known.before c.args.inquiry.now.known.now) c.requires)
 
-pub of_operands-returns-in_ok-infer_each-clause-fault : goal.of_operands-returns-in_ok-infer_each-clause-fault
-of_operands-returns-in_ok-infer_each-clause-fault g t c =
+pub inference::of_operands-returns-in_ok-infer_each-clause-fault : goal.inference::of_operands-returns-in_ok-infer_each-clause-fault
+inference::of_operands-returns-in_ok-infer_each-clause-fault g t c =
     let b = g.K.Known.before c.args.inquiry.now.known.now in
     let s = scope_view b c.args.taught.now in
     let q = c.args.answer in
@@ -271,3 +235,71 @@ of_operands-returns-in_ok-infer_each-clause-fault g t c =
     c.truths.ensures.fault ∙ ap (λ is. first (faults_in is) (asks wrong_kind (are_bools is))) c.deref.ensures.value
     ∙ ap (λ x. first x (asks wrong_kind (are_bools founds))) (sym (found-chain s es founds q none all))
     ∙ ap (λ x. first (chain_fault s es q) (asks wrong_kind x)) (sym (found-booleans s es founds q none all))
+
+pub narrowing::ways_of_chain-loop-operand-preserved : goal.narrowing::ways_of_chain-loop-operand-preserved
+narrowing::ways_of_chain-loop-operand-preserved g t c =
+    let l = c.loop-operand in
+    let m = g.K.Known.before c.args.inquiry.now.known.now in
+    let s = scope_view m l.here.taught in
+    let q = c.args.answer in
+    let items = c.args.operands.now in
+    let i = l.operand-index in
+    let e = c.operand-item.result in
+    let w = expanded m.trees (expr_view e) in
+    let rest = all_expanded m.trees (exprs_view (drop (i + 1) items)) in
+    let same = c.in_ok-same.same in
+    let other = c.in_ok-same.other in
+    let next : drop i items ≡ e ∷ drop (i + 1) items = drop-at items i e c.loop-operand-test.true c.operand-item.is in
+    record {
+      holds = l.invariant.holds ∙ ap (λ es. narrow_each s (all_expanded m.trees (exprs_view es)) q) next
+          ∙ ap (λ d. narrow_each d rest q) (sym c.in_ok-same.ensures.same);
+      ways = l.invariant.ways ∙ ap (λ es. scopes_view m l.ways.items ++ ways s (all_expanded m.trees (exprs_view es)) (not q)) next
+          ∙ ways-turn m l.ways.items c.push.new.self.items other l.here.taught same.taught w rest (not q) c.in_ok-same.ensures.other
+          (c.in_ok-same.ensures.same ∙ ap (narrow s w) (sym (not-not q))) c.in_ok-push.ensures.items;
+      before = same-last m l.ways.items c.push.new.self.items other (scope_view m same.taught) (scope_view m c.args.before.taught) c.in_ok-push.ensures.items;
+      right = c.in_ok-same.ensures.right;
+    }
+
+pub narrowing::ways_of_chain-returns-clause-fails : goal.narrowing::ways_of_chain-returns-clause-fails
+narrowing::ways_of_chain-returns-clause-fails g t c =
+    let l = c.loop-operand in
+    let m = g.K.Known.before c.args.inquiry.now.known.now in
+    let first = scope_view m c.args.before.taught in
+    let es = all_expanded m.trees (exprs_view c.args.operands.now) in
+    let q = not c.args.answer in
+    let past = drop_all l.operand-index c.args.operands.now c.loop-operand-test.false in
+    let all : ways first es q ≡ scopes_view m l.ways.items =
+    l.invariant.ways ∙ ap (λ xs. scopes_view m l.ways.items ++ ways (scope_view m l.here.taught) (all_expanded m.trees (exprs_view xs)) q) past ∙ append-nil (scopes_view m l.ways.items) in
+    ap (scope_view m) c.here_anew.ensures.taught ∙ c.in_ok-taught.ensures m ∙ ap (taught_by (scopes_view m l.ways.items)) (c.in_ok-last.ensures m)
+    ∙ l.invariant.before ∙ ap (λ ds. taught_by ds first) (sym all) ∙ sym (some-ways first es q)
+
+pub narrowing::ways_of_chain-returns-clause-right : goal.narrowing::ways_of_chain-returns-clause-right
+narrowing::ways_of_chain-returns-clause-right g t c = record {
+  holds = c.loop-operand.invariant.right;
+  fails = c.here_anew.ensures.right (g.K.Known.before c.args.inquiry.now.known.now);
+}
+
+pub narrowing::both_of_leaf-narrow_here-requires : goal.narrowing::both_of_leaf-narrow_here-requires
+narrowing::both_of_leaf-narrow_here-requires g t c = search (rules, c.in_ok-copy.ensures.right (g.K.Known.before c.args.inquiry.now.known.now) c.in_ok-here.ensures.right)
+
+pub narrowing::both_of_chain-returns-then-any_teaches-clause-fails : goal.narrowing::both_of_chain-returns-then-any_teaches-clause-fails
+narrowing::both_of_chain-returns-then-any_teaches-clause-fails g t c =
+    let b = g.K.Known.before c.args.inquiry.now.known.now in
+    let s = scope_view b c.args.before.taught in
+    let es = all_expanded b.trees (exprs_view c.args.operands.now) in
+    let some = narrow_some s es (not c.args.answer) in
+    let told : any_teaches es ≡ true = sym (c.any_teaches.ensures b.trees) ∙ c.if-any_teaches.true in
+    IfOk-weaker c.ways_of_chain.result (λ w. scope_view b w.fails.taught ≡ some) (λ w. scope_view b w.fails.taught ≡ where_taught (any_teaches es) some s)
+    (λ w h. h ∙ sym (ap (λ x. where_taught x some s) told)) c.ways_of_chain.ensures.fails
+
+pub narrowing::both_of_chain-narrow_each-requires : goal.narrowing::both_of_chain-narrow_each-requires
+narrowing::both_of_chain-narrow_each-requires g t c = search (rules, c.in_ok-copy.ensures.right (g.K.Known.before c.args.inquiry.now.known.now) c.requires)
+
+pub narrowing::narrow_some-returns-clause-taught : goal.narrowing::narrow_some-returns-clause-taught
+narrowing::narrow_some-returns-clause-taught g t c =
+    let b = g.K.Known.before c.args.inquiry.now.known.now in
+    let s = scope_view b c.args.before.taught in
+    let es = all_expanded b.trees (exprs_view c.args.operands.now) in
+    let q = c.args.answer in
+    let told : any_teaches es ≡ true = sym (c.any_teaches.ensures b.trees) ∙ c.if-not-any_teaches.false in
+    c.in_ok-ways.ensures.fails ∙ ap (narrow_some s es) (not-not q) ∙ sym (ap (λ x. where_taught x (narrow_some s es q) s) told)

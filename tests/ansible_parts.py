@@ -1,0 +1,66 @@
+# SPDX-License-Identifier: MIT OR Apache-2.0
+# Tries parts of the front end alone: the last size that a limit allows and the next one, and what no verdict shows.
+import json
+import os
+import sys
+import tempfile
+from pathlib import Path
+from typing import Iterator
+from unittest.mock import patch
+
+from ansible_tools import TOP, run_tool
+
+# A list with so many items has as many nodes and one more.
+NODES = 9
+LEVELS = 24
+
+
+def is_read(items: int) -> bool:
+    from playcheck_ansible.positions import node_of
+    from playcheck_ansible.problems import Problem
+
+    try:
+        node_of(f"[{', '.join(['x'] * items)}]", "file")
+    except Problem as problem:
+        return "more than" not in str(problem)
+    return True
+
+
+def wrong_limits() -> Iterator[str]:
+    """The largest file and the deepest expression, and those that are one larger."""
+    sys.path.insert(0, str(TOP / "ansible"))
+    from playcheck_ansible import positions
+    from playcheck_ansible.stand_ins import stand_ins
+
+    with patch.object(positions, "MOST_NODES", NODES):
+        found = [is_read(NODES - 1), is_read(NODES)]
+    if found != [True, False]:
+        yield f"lists of {NODES} and {NODES + 1} nodes: read {found}"
+    # The expression itself is the first level.
+    texts = [f"{'(' * levels}x is success{')' * levels}" for levels in (LEVELS - 1, LEVELS)]
+    if [stand_ins(text, False) == text for text in texts] != [False, True]:
+        yield f"expressions of {LEVELS} levels and one more: {[stand_ins(text, False) for text in texts]}"
+
+
+def wrong_program() -> Iterator[str]:
+    """In a clone the program is the launcher, unless PLAYCHECK names another."""
+    from playcheck_ansible.places import program
+
+    with patch.dict(os.environ):
+        found = [program()]
+        del os.environ["PLAYCHECK"]
+        found.append(program())
+    if found != [os.environ["PLAYCHECK"], str(TOP / "playcheck")]:
+        yield f"the program: {found}"
+
+
+def wrong_short_name() -> Iterator[str]:
+    """What convert gives for the name of a host up to its first dot."""
+    with tempfile.TemporaryDirectory() as folder:
+        Path(folder, "book.yml").write_text("- hosts: all\n  gather_facts: false\n  tasks:\n"
+                                            "    - debug: {msg: '{{ inventory_hostname_short }}'}\n")
+        done = run_tool(["convert", "book.yml", "-i", "web.eu.example,db", "-o", "out"], folder)
+        hosts = json.loads(Path(folder, "out", "inventory.json").read_text())["_meta"]["hostvars"]
+    short = {host: given.get("inventory_hostname_short") for host, given in hosts.items()}
+    if short != {"web.eu.example": "web", "db": "db"} or done.returncode or done.stderr:
+        yield f"short names: {short}, {done}"

@@ -26,7 +26,7 @@ TASK_WORDS = {
 }
 
 
-@dataclass
+@dataclass(eq=False)
 class Judging:
     """What the passes find out about a task: why it isn't judged, and what it may do beside what its words show."""
 

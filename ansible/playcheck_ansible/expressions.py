@@ -8,8 +8,7 @@ from typing import TYPE_CHECKING, FrozenSet, List, Optional, Tuple
 
 from .expression_parser import Parser, Unfit
 from .forms import SUSPECT, outside_form
-from .identifiers import NAME
-from .tokens import Token, tokens_of
+from .tokens import NAME, Token, tokens_of
 
 if TYPE_CHECKING:
     from .expression_tree import Tree

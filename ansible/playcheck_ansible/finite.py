@@ -3,8 +3,7 @@
 from __future__ import annotations
 
 import re
-from dataclasses import dataclass
-from typing import TYPE_CHECKING, Callable, Iterator
+from typing import TYPE_CHECKING, Callable, Iterator, NamedTuple
 
 from .books import Block, Play, Task
 from .literal_operands import is_plain
@@ -25,8 +24,7 @@ DEEPEST = 8
 IsFinite = Callable[[str], bool]
 
 
-@dataclass(frozen=True)
-class Finite:
+class Finite(NamedTuple):
     """Answers whether `int` takes what a path holds, in a task with these values of names."""
 
     values: Values

@@ -9,7 +9,6 @@ from functools import lru_cache
 from typing import TYPE_CHECKING
 
 from .ansible_core import READERS, RUN, Trust, run_ansible
-from .inventory_ini import read_ini
 from .inventory_names import divided_port
 from .inventory_yaml import is_listed, take_groups, take_listed
 from .nodes import Mapping, Record, as_value, as_values, is_nothing
@@ -95,6 +94,8 @@ def read_file(inventory: "Inventory", path: str, trust: Trust) -> bool:
     if not looks_like_yaml(data, path):
         if trust.repository and on_path("ansible-inventory"):
             return take_asked(inventory, path, trust)
+        from .inventory_ini import read_ini  # read where it is wanted: many inventories are YAML
+
         return read_ini(inventory, path, data)
     return read_yaml(inventory, path, data, trust)
 

@@ -6,10 +6,9 @@ import re
 from dataclasses import replace
 from typing import TYPE_CHECKING, Dict, Iterable, Tuple
 
-from .identifiers import NAME
 from .nodes import Mapping, Node, Scalar, Sequence, Text, is_literal, is_nothing, is_text
-from .truths import FALSE_WORDS, TRUE_WORDS
-from .values import is_whole, without_omit
+from .tokens import NAME
+from .values import FALSE_WORDS, TRUE_WORDS, is_whole, without_omit
 
 if TYPE_CHECKING:
     from .literals import Values

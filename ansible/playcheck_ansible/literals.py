@@ -14,7 +14,7 @@ from .names import KNOWN, MAGIC, Read, given_names, read_places
 from .nodes import Atom, Scalar, Text, Value, as_value, is_literal, pairs_in
 from .rewriting import Change, changed_texts, rewrite_words
 from .stand_ins import rewritten, stand_ins
-from .truths import is_true
+from .values import is_true
 
 DEFAULT = r"\s*\|\s*default\((?P<default>[^(),]*)(?P<falsy>,\s*(?:boolean\s*=\s*)?[Tt]rue\s*)?\)"
 NAME = r"(?<![\w.\])])(?<!\.\s)(?P<name>[A-Za-z_]\w*)"

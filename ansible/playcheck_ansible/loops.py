@@ -6,11 +6,11 @@ import re
 from typing import TYPE_CHECKING, List, Optional
 
 from .expressions import read_once
-from .identifiers import VARIABLE
 from .kinds import evaluated_word, wrong_word
 from .names import GRAMMAR, KNOWN, MAGIC, expressions_of, given_names, mentioned, names_of_vars, read_places
 from .nodes import Mapping, Node, Sequence, as_node, has_template, is_nothing, is_text, items_or_one, pairs_in, texts_of
 from .rewriting import Change, changed_texts, rewrite_words
+from .tokens import VARIABLE
 from .values import is_whole
 
 if TYPE_CHECKING:

@@ -6,8 +6,7 @@ from dataclasses import dataclass
 from typing import TYPE_CHECKING, Dict, Iterator, List
 
 from .nodes import Atom, Mapping, Node, Scalar, as_value, has_template, is_nothing, is_text, items_or_one
-from .truths import FALSE_WORDS, TRUE_WORDS
-from .values import as_int, as_list
+from .values import FALSE_WORDS, TRUE_WORDS, as_int, as_list
 from .wording import nearest
 
 if TYPE_CHECKING:

@@ -8,7 +8,6 @@ from typing import TYPE_CHECKING, Callable, Iterable, List, Match, Optional, Set
 from .books import SECTIONS, Block, Book, Play, Raw, Task, steps_below
 from .flow_words import FLOW, PASSED
 from .gathering import gathered_by_tasks, gathered_facts
-from .identifiers import VARIABLE
 from .inclusion import leave_early_notifiers
 from .kinds import FIRST, evaluated_word, wrong_word
 from .names import mentioned, names_of_vars
@@ -17,6 +16,7 @@ from .nodes import (Mapping, Node, Pairs, Scalar, Sequence, as_node, has_templat
 from .null_rc import leave_readers_of_null
 from .outlived import leave_readers_of_items, note_outlived
 from .passes import TRUTHS, run_passes, without_braces
+from .tokens import VARIABLE
 from .values import as_bool, as_int
 
 if TYPE_CHECKING:

@@ -6,10 +6,10 @@ import re
 from typing import TYPE_CHECKING, Dict, Iterable, Iterator, Set
 
 from .books import Block, Book, Play, Task, steps_below
-from .identifiers import NAME
 from .mistakes import Mistake
 from .names import KNOWN, given_names, names_of_vars
 from .nodes import Mapping, has_template, is_text
+from .tokens import NAME
 
 if TYPE_CHECKING:
     from .inventory import Inventory

@@ -3,8 +3,7 @@
 # show a task another value than Ansible does, at the task itself.
 from __future__ import annotations
 
-from dataclasses import dataclass, replace
-from typing import TYPE_CHECKING, Dict, Iterable, Iterator, List, Optional, Set, Tuple
+from typing import TYPE_CHECKING, Dict, Iterable, Iterator, List, NamedTuple, Optional, Set, Tuple
 
 from .books import SECTIONS, Block, Play, Raw, Task
 from .names import mentioned
@@ -19,8 +18,7 @@ MOST_NAMES = 1000
 MOST_VALUES = 100_000
 
 
-@dataclass(frozen=True)
-class Around:
+class Around(NamedTuple):
     """What is round a task: all that gives it names, in Ansible's order, and what is written, the outermost first."""
 
     given: Tuple[Given, ...]
@@ -81,7 +79,7 @@ class Variables:
         self.play.prompted = {name for name, one in ((name, around.real(name)) for name in written)
                               if one is not None and one.source == Source.PROMPTS}
         write(self.play, written)
-        around = replace(around, written=(written,))
+        around = around._replace(written=(written,))
         for section in SECTIONS:
             self.walk(self.play.sections.get(section, []), around)
         self.walk(self.play.sections.get("handlers", []), around)
@@ -110,7 +108,7 @@ class Variables:
         written = {name: node for name, node in values_of(given).items()
                    if outer.shown(name) is not node and not self.is_beaten(name, inside, block)}
         write(block, written)
-        inside = replace(inside, written=(*outer.written, written))
+        inside = inside._replace(written=(*outer.written, written))
         if block.folder:
             self.at_roles.setdefault(block.folder, []).append(inside)
         for part in block.parts.values():
@@ -118,7 +116,7 @@ class Variables:
 
     def place_handler(self, handler: Task, outer: Around) -> None:
         """A handler of a role sees what its role's tasks see, though it stands at the end of the play."""
-        arounds = [replace(one, written=outer.written) for one in self.at_roles.get(handler.folder, [outer])]
+        arounds = [one._replace(written=outer.written) for one in self.at_roles.get(handler.folder, [outer])]
         own, pairs = list(given_by(handler)), own_pairs(handler.words)
         names = self.names_read(handler)
         for other in arounds[1:]:

@@ -7,14 +7,14 @@ from dataclasses import replace
 from typing import List, Optional, Tuple, Union
 
 from .books import Book, Play, Raw, Step, Task, items_of
+from .contexts import Context, Count
 from .looking_up import note_collections
 from .nodes import (Mapping, Node, Pairs, Scalar, Sequence, as_node, as_value, has_template, is_nothing, is_text,
                     items_or_one)
 from .positions import read_file
 from .precedence import Given, Source
 from .problems import Place, Problem
-from .steps import (MOST_INCLUDES, Context, Count, found_file, include_key, left_include, put_role_parts, role_blocks,
-                    steps_of)
+from .steps import MOST_INCLUDES, found_file, include_key, left_include, put_role_parts, role_blocks, steps_of
 from .tags import tags_of
 
 # The profile has so many lines at most.

@@ -15,7 +15,7 @@ from .positions import read_file
 from .problems import Place, Problem
 
 if TYPE_CHECKING:
-    from .steps import Context
+    from .contexts import Context
 
 SUFFIXES = (".yml", ".yaml", ".json")
 # Words beside a role's name that are Ansible's keywords: any other is a variable of the role.

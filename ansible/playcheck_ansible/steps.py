@@ -5,7 +5,7 @@ from __future__ import annotations
 import os
 import re
 from dataclasses import dataclass, field, replace
-from typing import Dict, Iterable, List, Optional, Set, Tuple
+from typing import TYPE_CHECKING, Iterable, List, Optional, Set
 
 from .books import PARTS, Block, Play, Raw, Step, Task, items_of, steps_below
 from .expressions import read_once
@@ -18,44 +18,13 @@ from .problems import Place, Problem
 from .role_variables import all_defaults, exported, given_to_play, given_to_tasks
 from .roles import Role, block_words, inherit, put_handlers, role_of
 
+if TYPE_CHECKING:
+    from .contexts import Context
+
 MOST_INCLUDES = 32
-MOST_FILES = 1000
 # What bars an include from being put in place; the rest of its words become those of a block.
 BARS_INCLUDE = ("loop", "until", "retries", "register", "loop_control", "async", "args", "notify", "changed_when",
                 "failed_when")
-
-
-@dataclass
-class Count:
-    """How many files were put in place: where each names the next one twice they would double each time."""
-
-    files: int = 0
-
-    def add(self, place: Place) -> None:
-        self.files += 1
-        if self.files > MOST_FILES:
-            raise Problem(place, f"more than {MOST_FILES:,} files are put in place")
-
-
-@dataclass
-class Context:
-    """Where steps stand: the file, the play, and the files that are open."""
-
-    file: str
-    book_folder: str
-    play: str
-    count: Count
-    role_folder: str = ""
-    around: Tuple[Mapping, ...] = ()  # the words of blocks, imports and roles round it
-    is_handlers: bool = False
-    is_late: bool = False  # in what is read while the play runs: an include
-    open: Tuple[str, ...] = ()
-    # Those of the play that were put in place, with whether all see them.
-    roles: List[Tuple[Role, bool]] = field(default_factory=list)
-    listed: List[Role] = field(default_factory=list)  # those that the play itself names
-    imported: List[Role] = field(default_factory=list)  # those that it imports at its start
-    # Names that roles give from some task on, with the source and the reason.
-    late: Dict[str, Tuple[Source, str]] = field(default_factory=dict)
 
 
 def include_key(item: Node, names: Iterable[str]) -> Optional[str]:

@@ -1,0 +1,48 @@
+# SPDX-License-Identifier: MIT OR Apache-2.0
+# Where steps stand while they are read, and how many files were put in place.
+from __future__ import annotations
+
+from dataclasses import dataclass, field
+from typing import TYPE_CHECKING, Dict, List, Tuple
+
+from .problems import Place, Problem
+
+if TYPE_CHECKING:
+    from .nodes import Mapping
+    from .precedence import Source
+    from .roles import Role
+
+MOST_FILES = 1000
+
+
+@dataclass
+class Count:
+    """How many files were put in place: where each names the next one twice they would double each time."""
+
+    files: int = 0
+
+    def add(self, place: Place) -> None:
+        self.files += 1
+        if self.files > MOST_FILES:
+            raise Problem(place, f"more than {MOST_FILES:,} files are put in place")
+
+
+@dataclass
+class Context:
+    """Where steps stand: the file, the play, and the files that are open."""
+
+    file: str
+    book_folder: str
+    play: str
+    count: Count
+    role_folder: str = ""
+    around: Tuple[Mapping, ...] = ()  # the words of blocks, imports and roles round it
+    is_handlers: bool = False
+    is_late: bool = False  # in what is read while the play runs: an include
+    open: Tuple[str, ...] = ()
+    # Those of the play that were put in place, with whether all see them.
+    roles: List[Tuple[Role, bool]] = field(default_factory=list)
+    listed: List[Role] = field(default_factory=list)  # those that the play itself names
+    imported: List[Role] = field(default_factory=list)  # those that it imports at its start
+    # Names that roles give from some task on, with the source and the reason.
+    late: Dict[str, Tuple[Source, str]] = field(default_factory=dict)

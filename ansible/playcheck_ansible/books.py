@@ -6,10 +6,9 @@ from dataclasses import dataclass, field
 from typing import TYPE_CHECKING, Dict, Iterable, Iterator, List, Optional, Set, Tuple, Union
 
 from .nodes import Mapping, Node, Scalar, Sequence, Text, Value, is_nothing
-from .problems import Place
+from .problems import Mistake, Place
 
 if TYPE_CHECKING:
-    from .mistakes import Mistake
     from .precedence import Given, Source
 
 # A place, and what is said of it.

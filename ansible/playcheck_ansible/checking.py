@@ -12,12 +12,13 @@ from .connections import connection_variables
 from .documented_facts import documented_facts
 from .facts import trust_facts
 from .hosts import host_patterns, with_localhost
-from .inventory import Inventory, read_inventories
+from .inventory_reading import read_inventories
 from .literals import run_literal_passes
 from .loading import load_book
 from .magic import magic_variables
 from .plays import leave_all, run_book_passes
 from .program import Answer, Asker
+from .reports import Finding, Report, Unjudged
 from .reserved_names import lose_reserved, mistaken_names
 from .returns import measured
 from .settling import Settler
@@ -26,58 +27,14 @@ from .taint import CUT
 from .variables import put_variables
 
 if TYPE_CHECKING:
+    from .inventory import Inventory
     from .lines import Line
-    from .mistakes import Mistake
     from .modules import Modules
     from .nodes import Pairs
-    from .problems import Place
+    from .problems import Mistake
 
 # What a counted line that no file has is called.
 KINDS = {"asked": "task", "facts": "play", "condition": "block"}
-
-
-@dataclass
-class Finding:
-    code: str
-    title: str
-    place: Place
-    host: str = ""
-    name: str = ""
-    play: str = ""
-    kind: str = ""
-    detail: str = ""
-    help: str = ""
-    number: int = 0
-
-
-@dataclass
-class Unjudged:
-    place: Place
-    name: str
-    reason: str
-    kind: str = "task"
-
-
-@dataclass
-class Report:
-    book: str
-    findings: List[Finding] = field(default_factory=list)
-    unjudged: List[Unjudged] = field(default_factory=list)
-    notes: List[Unjudged] = field(default_factory=list)  # words of plays and blocks that weren't asked
-    tasks: int = 0
-    judged: int = 0
-    left_out: int = 0  # tasks that a run passes by, by their tags
-    budget: int = 0
-    has_bound: bool = True  # the budget is one: no task is tried more often than the profile has it
-    is_strict: bool = False  # what isn't judged is refused
-
-    @property
-    def is_whole(self) -> bool:
-        return self.judged == self.tasks and not self.notes
-
-    @property
-    def is_accepted(self) -> bool:
-        return not self.findings and (self.is_whole or not self.is_strict)
 
 
 @dataclass

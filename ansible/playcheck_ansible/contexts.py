@@ -1,5 +1,5 @@
 # SPDX-License-Identifier: MIT OR Apache-2.0
-# Where steps stand while they are read, and how many files were put in place.
+# Where steps stand while they are read, the roles that are put in place, and how many files.
 from __future__ import annotations
 
 from dataclasses import dataclass, field
@@ -8,9 +8,8 @@ from typing import TYPE_CHECKING, Dict, List, Tuple
 from .problems import Place, Problem
 
 if TYPE_CHECKING:
-    from .nodes import Mapping
+    from .nodes import Mapping, Node, Pairs
     from .precedence import Source
-    from .roles import Role
 
 MOST_FILES = 1000
 
@@ -25,6 +24,24 @@ class Count:
         self.files += 1
         if self.files > MOST_FILES:
             raise Problem(place, f"more than {MOST_FILES:,} files are put in place")
+
+
+@dataclass
+class Role:
+    name: str
+    folder: str
+    words: Mapping  # what stands beside its name
+    defaults: Pairs = field(default_factory=dict)
+    variables: Pairs = field(default_factory=dict)
+    tasks: List[Node] = field(default_factory=list)  # nodes
+    tasks_file: str = ""
+    handlers: List[Node] = field(default_factory=list)
+    handlers_file: str = ""
+    needs: List[Node] = field(default_factory=list)  # nodes of the roles that run before it
+    needed: List[Role] = field(default_factory=list)  # those that were put in place
+    beside: Pairs = field(default_factory=dict)  # the `vars` beside its name
+    parameters: Pairs = field(default_factory=dict)  # what else stands there and is no keyword
+    around: Tuple[Mapping, ...] = ()  # the words of what stands round it, its own last
 
 
 @dataclass

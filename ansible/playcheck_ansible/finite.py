@@ -10,7 +10,7 @@ from .literal_operands import is_plain
 from .nodes import Sequence, Value, as_value, has_template, is_literal
 
 if TYPE_CHECKING:
-    from .literals import Values
+    from .known_values import Values
 
 # Fields of results that are numbers or truth values, or texts of digits.
 NUMBERS = frozenset("""atime attempts changed ctime elapsed examined exists failed gid isdir islnk isreg matched mode

@@ -11,7 +11,7 @@ from .tokens import NAME
 from .values import FALSE_WORDS, TRUE_WORDS, is_whole, without_omit
 
 if TYPE_CHECKING:
-    from .literals import Values
+    from .known_values import Values
 
 KINDS = {
     **dict.fromkeys(("become", "diff", "no_log", "check_mode", "ignore_errors", "run_once", "any_errors_fatal",

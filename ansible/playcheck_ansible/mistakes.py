@@ -6,23 +6,16 @@ from dataclasses import dataclass
 from typing import TYPE_CHECKING, Dict, Iterator, List
 
 from .nodes import Atom, Mapping, Node, Scalar, as_value, has_template, is_nothing, is_text, items_or_one
+from .problems import Mistake
 from .values import FALSE_WORDS, TRUE_WORDS, as_int, as_list
 from .wording import nearest
 
 if TYPE_CHECKING:
     from .books import Task
     from .modules import Choices, Documented, Modules
-    from .problems import Place
 
 MOST_CHOICES = 12
 BACK = {"True": TRUE_WORDS, "False": FALSE_WORDS}
-
-
-@dataclass
-class Mistake:
-    code: str
-    place: Place
-    detail: str
 
 
 def documented_values(task: Task, modules: Modules) -> None:

@@ -6,14 +6,13 @@ import re
 from typing import TYPE_CHECKING, Dict, Iterable, Iterator, Set
 
 from .books import Block, Book, Play, Task, steps_below
-from .mistakes import Mistake
 from .names import KNOWN, given_names, names_of_vars
 from .nodes import Mapping, has_template, is_text
+from .problems import Mistake, Place
 from .tokens import NAME
 
 if TYPE_CHECKING:
     from .inventory import Inventory
-    from .problems import Place
 
 # Globals of templates: they are there where nothing sets the name. tests/reserved_names_checks.py compares these lists.
 GLOBALS = frozenset("cycler dict joiner lipsum lookup namespace now q query range self undef".split())

@@ -8,20 +8,19 @@ from typing import TYPE_CHECKING, Callable, List, Optional, Set, Tuple
 from .books import Block, Book, Play, Task
 from .expressions import read_once
 from .inclusion import topics_of
-from .lines import Line, Printer
-from .mistakes import Mistake
+from .lines import Line, Numbered, Printer
 from .modules import CHANGES_FLOW, PROFILE, SETS_UNKNOWN, Modules
 from .names import names_of_vars, read_places
 from .nodes import Mapping, Node, Sequence, as_node, has_template, pairs_in, texts_of
-from .problems import Place
+from .problems import Mistake, Place
 from .taint import CUT, Taint, leave_handlers
 from .unreadable_tasks import leave_unreadable
 from .wording import nearest
 
 if TYPE_CHECKING:
-    from .checking import Finding
     from .inventory import Inventory
     from .program import Answer, Asker
+    from .reports import Finding
 
 RESULT_FIELDS = {"changed", "failed", "skipped", "skip_reason", "msg", "results"}
 MOST_REFUSALS = 50  # for each the program is asked anew
@@ -60,6 +59,11 @@ class Settler(Taint):
         self.answer = self.asker.ask(self.numbered.json)
         return self.answer
 
+    def ask_part(self, play: Play, tasks: List[Task]) -> Tuple[Numbered, Answer]:
+        """What the program says of some tasks of a play alone."""
+        numbered = Printer(self.modules.unjudged_name()).part(play, tasks)
+        return numbered, self.asker.ask(numbered.json)
+
     def settle(self, finding: MakesFinding, go_on: bool = False) -> None:
         """Asks until the answer is about the flow; `finding` makes one of a refusal, with `go_on` its task is left."""
         forms = refusals = 0
@@ -70,7 +74,7 @@ class Settler(Taint):
             if self.is_left(answer, self.line(answer)):
                 forms += answer.code in FORM_CODES
                 if forms == MANY_FORMS:
-                    leave_unreadable(self, self.numbered.lines[answer.line:])
+                    leave_unreadable(self.numbered.lines[answer.line:], self.ask_part, self.is_left)
                     forms = 0
                 continue
             self.findings.append((self.line(answer), finding(answer, self.line(answer), self)))

@@ -16,10 +16,10 @@ from .positions import read_file
 from .precedence import Given, Source
 from .problems import Place, Problem
 from .role_variables import all_defaults, exported, given_to_play, given_to_tasks
-from .roles import Role, block_words, inherit, put_handlers, role_of
+from .roles import block_words, inherit, put_handlers, role_of
 
 if TYPE_CHECKING:
-    from .contexts import Context
+    from .contexts import Context, Role
 
 MOST_INCLUDES = 32
 # What bars an include from being put in place; the rest of its words become those of a block.

@@ -2,7 +2,7 @@
 use Rattle.std.specs.Prelude.{◌<◌, ◌≡◌, ◌⊎◌, ℕ, ◌+◌, ◌≤◌, max, List, ◌++◌, length, take, drop}
 use Rattle.std.specs.Prelude.{Result, IsErrOf}
 use Rattle.pb_lines.specs.declared.fault.LinesFault.{LinesFault}
-use Rattle.pb_lines.specs.declared.fault.LinesFault.TheVariants.{Failed, Full}
+use Rattle.pb_lines.specs.declared.fault.LinesFault.TheVariants.{Failed, Full, TooLong}
 
 -- new is old with these bytes at this offset
 abbrev pub Holds : List ℕ → ℕ → List ℕ → List ℕ → Type 0
@@ -46,8 +46,17 @@ pub record LeavesOnly {D : Type 0} (moment : D → ℕ) (left_since : D → ℕ 
   -- for a run that began earlier
   pub before : (t : ℕ) (c : List ℕ) → t ≤ moment old → left_since new t c → left_since old t c ⊎ P c
 
--- `Failed` is told only where the disk has failed since, and `Full` isn't told
+-- `Failed` is told only where the disk has failed since, and `Full` and `TooLong` aren't told
 pub record HasCause {T : Type 0} (before now : ℕ) (result : Result T LinesFault) : Type 0 where
   pub later : before ≤ now
   pub failed : IsErrOf result Failed → before < now
   pub not_full : IsErrOf result Full → ⊥
+  pub not_long : IsErrOf result TooLong → ⊥
+
+-- what was called between old and new only read
+pub record OnlyReads {D : Type 0} (honest : D → Type 0) (seen : D → List ℕ) (moment : D → ℕ)
+    (left_since : D → ℕ → List ℕ → Type 0) (faults : D → ℕ) (old new : D) : Type 0 where
+  pub same : seen new ≡ seen old
+  pub earlier : honest new → honest old
+  pub leaves : LeavesOnly moment left_since old new (λ c. c ≡ seen old)
+  pub later : faults old ≤ faults new

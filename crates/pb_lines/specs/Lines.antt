@@ -41,11 +41,16 @@ AreLines lines = All (λ line. IsLine line × (length line ≤ 16777216)) lines
 
 -- the file is whole records and a closed gate, all of it on the disk, and the place of that gate is
 -- known
-pub record IsSettled {D : Type 0} (seen : D → List ℕ) (may_leave : D → List ℕ → Type 0)
+pub record IsAtRest {D : Type 0} (seen : D → List ℕ) (may_leave : D → List ℕ → Type 0)
     (file : Lines D) : Type 0 where
   pub is : seen file.device ≡ at_rest (recovered (seen file.device))
   pub gate : file.end ≡ length (records (recovered (seen file.device)))
   pub durable : Only (seen file.device) (may_leave file.device)
+
+-- it is, if the bytes that were read are those that are there
+abbrev pub IsSettled : {D : Type 0} → (D → Type 0) → (D → List ℕ) → (D → List ℕ → Type 0)
+    → Lines D → Type 0
+IsSettled honest seen may_leave file = honest file.device → IsAtRest seen may_leave file
 
 -- the file stands for the lines, with one more or without it
 abbrev pub IsBeforeOrAfter : List (List ℕ) → List ℕ → List ℕ → Type 0

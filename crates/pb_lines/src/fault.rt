@@ -10,6 +10,8 @@ pub enum LinesFault {
     Failed,
     /// The file is as long as one may be.
     Full,
+    /// A line of the file is longer than `MAX_LINE`.
+    TooLong,
 }
 
 impl From<AllocError> for LinesFault {

@@ -1,7 +1,7 @@
 // A file in memory. Each call is done at once, so a crash leaves what is there. It keeps each past
 // content, and the calls that were made of it, from which a test makes what a crash of a disk may
 // leave.
-ghost use Rattle.std.specs.Prelude.{◌≡◌, ◌⊎◌, [], ◌∷◌, ◌++◌, length, drop, OnOk, OnErr};
+ghost use Rattle.std.specs.Prelude.{[], ◌++◌, ◌≡◌, ◌⊎◌, ◌∷◌, OnErr, OnOk, drop, length, ⊤};
 ghost use Rattle.pb_lines.specs.Past.{HadBeen, bytes_now, only_bytes};
 
 use crate::device::Device;
@@ -82,30 +82,33 @@ impl Device for Memory {
 
     ghost faults = { λ m. 0 };
 
+    ghost honest = { λ m. ⊤ };
+
     ghost counts_now = { λ m t c le now. bytes_now (drop t m.past.items) m.bytes.items c now };
 
     ghost only_now = { λ m c left. only_bytes m.past.items m.bytes.items c left };
 
-    fn read(&mut self, alloc: Global) -> Result<Vec<u8>, LinesFault> {
-        Ok(self.bytes.to_vec(alloc)?)
+    fn read_at(&mut self, alloc: Global, at: usize, most: usize) -> Result<Vec<u8>, LinesFault> {
+        let rest = &self.bytes[at.min(self.bytes.len())..];
+        Ok(rest[..most.min(rest.len())].to_vec(alloc)?)
     }
 
+    // A place past the end is the end.
     fn write_at(&mut self, at: usize, bytes: &[u8]) -> Result<(), LinesFault> {
         self.calls.push(Call::Write {
             at,
             bytes: bytes.to_vec(self.alloc)?,
         })?;
-        let mut next = self.bytes[..at].to_vec(self.alloc)?;
+        let (front, rest) = self.bytes.split_at(at.min(self.bytes.len()));
+        let mut next = front.to_vec(self.alloc)?;
         next.extend_from_slice(bytes)?;
-        if bytes.len() < self.bytes.len() - at {
-            next.extend_from_slice(&self.bytes[at + bytes.len()..])?;
-        }
+        next.extend_from_slice(&rest[bytes.len().min(rest.len())..])?;
         Ok(replace(self.alloc, &mut self.bytes, &mut self.past, next)?)
     }
 
     fn cut(&mut self, len: usize) -> Result<(), LinesFault> {
         self.calls.push(Call::Cut { len })?;
-        let next = self.bytes[..len].to_vec(self.alloc)?;
+        let next = self.bytes[..len.min(self.bytes.len())].to_vec(self.alloc)?;
         Ok(replace(self.alloc, &mut self.bytes, &mut self.past, next)?)
     }
 

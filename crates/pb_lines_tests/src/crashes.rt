@@ -1,11 +1,10 @@
 // What a crash of a disk may leave of a file, at each moment of some calls.
+use crate::opened::Files;
 use pb_lines::Call;
 use std::alloc::{AllocError, Global};
 
 // What a torn write may leave in each place.
 const TORN: [u8; 4] = [b' ', b'#', b'\n', b'a'];
-
-pub type Files = Vec<Vec<u8>>;
 
 fn part(bytes: &[u8], from: usize, to: usize) -> &[u8] {
     bytes.get(from..to.min(bytes.len())).unwrap_or(&[])

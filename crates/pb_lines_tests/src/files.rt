@@ -1,22 +1,22 @@
 // Lines that are added and read again, with a crash at each moment.
-use crate::crashes::{Files, crashes};
-use pb_lines::{Lines, LinesFault, MAX_LINE, Memory, is_line, recover};
+use crate::crashes::crashes;
+use crate::opened::{Files, opened};
+use pb_lines::{LinesFault, MAX_LINE, Memory, is_line};
 use std::alloc::Global;
 use std::process::Abort;
 use std::test::Fail;
 
 fn lines_of(alloc: Global, file: &[u8]) -> Result<Files, LinesFault> {
-    let mut disk = Memory::new(alloc, file.to_vec(alloc)?);
-    Ok(recover(alloc, &mut disk)?.lines)
+    let (lines, _) = opened(alloc, Memory::new(alloc, file.to_vec(alloc)?))?;
+    Ok(lines)
 }
 
-// A crash at any moment of the repair leaves the same lines.
+// A crash at any moment while the file is opened leaves the same lines.
 fn repair(rt: &(impl Abort + AllocGlobal), file: &[u8], lines: &Files) -> Result<(), Fail> {
     let alloc = rt.alloc();
-    let mut disk = Memory::new(alloc, file.to_vec(alloc)?);
-    let found = recover(alloc, &mut disk)?;
-    assert_eq!(rt; &found.lines, lines);
-    let (during, _) = crashes(alloc, file, disk.calls())?;
+    let (found, opened) = opened(alloc, Memory::new(alloc, file.to_vec(alloc)?))?;
+    assert_eq!(rt; &found, lines);
+    let (during, _) = crashes(alloc, file, opened.device.calls())?;
     for left in &during {
         assert_eq!(rt; &lines_of(alloc, left)?, lines);
     }
@@ -30,10 +30,7 @@ fn add(rt: &(impl Abort + AllocGlobal), file: &[u8], line: &[u8]) -> Result<Vec<
     let before = lines_of(alloc, file)?;
     let mut with = lines_of(alloc, file)?;
     with.push(line.to_vec(alloc)?)?;
-    let mut lines = match Lines::open(alloc, Memory::new(alloc, file.to_vec(alloc)?)) {
-        Ok((lines, _)) => lines,
-        Err((error, _)) => return Err(error.into()),
-    };
+    let (_, mut lines) = opened(alloc, Memory::new(alloc, file.to_vec(alloc)?))?;
     assert!(rt; is_line(line) && line.len() <= MAX_LINE);
     lines.append(alloc, line)?;
     let (during, end) = crashes(alloc, file, lines.device.calls())?;
@@ -63,13 +60,8 @@ fn each_moment_of_some_lines(rt: HostRuntime) -> Result<(), Fail> {
 fn what_a_torn_record_left_is_cut(rt: HostRuntime) -> Result<(), Fail> {
     let alloc = rt.alloc();
     let file = Memory::new(alloc, b" a\n#b\n c\n".to_vec(alloc)?);
-    let mut lines = match Lines::open(alloc, file) {
-        Ok((lines, found)) => {
-            assert_eq!(rt; found.len(), 1);
-            lines
-        }
-        Err((error, _)) => return Err(error.into()),
-    };
+    let (found, mut lines) = opened(alloc, file)?;
+    assert_eq!(rt; found.len(), 1);
     assert_eq!(rt; lines.device.bytes(), b" a\n#".as_slice());
     let more = vec![in alloc; b"b".to_vec(alloc)?, b"c".to_vec(alloc)?]?;
     lines.append_all(alloc, &more)?;
@@ -88,10 +80,7 @@ fn a_line_has_no_newline(rt: HostRuntime) -> Result<(), Fail> {
 fn each_moment_of_lines_together(rt: HostRuntime) -> Result<(), Fail> {
     let alloc = rt.alloc();
     let file = b" a\n#";
-    let mut lines = match Lines::open(alloc, Memory::new(alloc, file.to_vec(alloc)?)) {
-        Ok((lines, _)) => lines,
-        Err((error, _)) => return Err(error.into()),
-    };
+    let (_, mut lines) = opened(alloc, Memory::new(alloc, file.to_vec(alloc)?))?;
     let more = vec![in alloc; b"b".to_vec(alloc)?, Vec::new(alloc)]?;
     lines.append_together(alloc, &more)?;
     assert_eq!(rt; lines.device.bytes(), b" a\n b\n \n#".as_slice());

@@ -5,3 +5,9 @@
 mod crashes;
 #[cfg(test)]
 mod files;
+#[cfg(test)]
+mod long_lines;
+#[cfg(test)]
+mod opened;
+#[cfg(test)]
+mod system;

@@ -89,11 +89,7 @@ class Expression:
     @cached_property
     def bare(self) -> str:
         """It with its texts blanked."""
-        return self.filled(" ")
-
-    def filled(self, sign: str) -> str:
-        """It with its texts written as so many signs."""
-        return self.replaced([(token, sign * (token.end - token.start)) for token in self.texts])
+        return self.replaced([(token, " " * (token.end - token.start)) for token in self.texts])
 
     def replaced(self, changes: List[Tuple[Token, str]]) -> str:
         """It with some tokens, in their order, written otherwise."""

@@ -14,11 +14,11 @@ if TYPE_CHECKING:
 MOST_FILES = 1000
 
 
-@dataclass
 class Count:
     """How many files were put in place: where each names the next one twice they would double each time."""
 
-    files: int = 0
+    def __init__(self) -> None:
+        self.files = 0
 
     def add(self, place: Place) -> None:
         self.files += 1
@@ -26,7 +26,7 @@ class Count:
             raise Problem(place, f"more than {MOST_FILES:,} files are put in place")
 
 
-@dataclass
+@dataclass(eq=False)
 class Role:
     name: str
     folder: str
@@ -44,7 +44,7 @@ class Role:
     around: Tuple[Mapping, ...] = ()  # the words of what stands round it, its own last
 
 
-@dataclass
+@dataclass(eq=False)
 class Context:
     """Where steps stand: the file, the play, and the files that are open."""
 

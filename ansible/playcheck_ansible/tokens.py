@@ -34,7 +34,8 @@ def tokens_of(expression: str) -> Tuple[Token, ...]:
     quotes, at = "'\"", 0
     while at < len(expression):
         for match in lexer(quotes).finditer(expression, at):
-            found.append(Token(match.lastgroup or "", match[0], *match.span()))
+            # As Token(..) does, without a call of Python in between: a check makes so many of them.
+            found.append(tuple.__new__(Token, (match.lastgroup or "", match[0], match.start(), match.end())))
             if match.lastgroup == "open":
                 quotes = quotes.replace(match[0], "")
                 break

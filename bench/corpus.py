@@ -25,11 +25,11 @@ from playcheck_ansible.checking import Options, report_of, settled  # noqa: E402
 from playcheck_ansible.command import is_book  # noqa: E402
 from playcheck_ansible.documented import documentation, signatures_of  # noqa: E402
 from playcheck_ansible.loading import load_book  # noqa: E402
-from playcheck_ansible.looking_up import NAME, used_modules  # noqa: E402
+from playcheck_ansible.looking_up import MODULE, used_modules  # noqa: E402
 from playcheck_ansible.modules import PROFILE, Modules  # noqa: E402
-from playcheck_ansible.nodes import made, texts_of  # noqa: E402
+from playcheck_ansible.nodes import as_node, texts_of  # noqa: E402
 from playcheck_ansible.problems import Place, Problem  # noqa: E402
-from playcheck_ansible.unjudged import CUT  # noqa: E402
+from playcheck_ansible.taint import CUT  # noqa: E402
 
 PACKAGES = "usr/lib/python3/dist-packages"
 NAMES_AT_ONCE = 400
@@ -92,11 +92,11 @@ def judge(path, options, tally):
     tally.notes.update({bare(what) for _, what in settler.notes})
     tally.left_out.update(str(task.place) for task in settler.book.left_out)
     for task in settler.tasks:
-        is_judged = not task.reason or task.reason.startswith(CUT)
+        is_judged = not task.judging.reason or task.judging.reason.startswith(CUT)
         place = str(task.place)
         tally.tasks[place] = tally.tasks.get(place, True) and is_judged
         if not is_judged:
-            tally.causes[bare(task.reason)] += 1
+            tally.causes[bare(task.judging.reason)] += 1
     return report
 
 
@@ -116,7 +116,7 @@ def inputs_of(book, folder):
     groups = {name: {"hosts": [f"{name}-1", f"{name}-2"]} for name in sorted(names)}
     path = os.path.join(folder, "hosts.json")
     Path(path).write_text(json.dumps({"all": {"hosts": ["h1", "h2"]}, **groups}), encoding="utf-8")
-    return path, {name: made("all", Place("-e")) for name in variables}
+    return path, {name: as_node("all", Place("-e")) for name in variables}
 
 
 def playbooks(root):
@@ -175,7 +175,7 @@ def module_names(root, is_core):
 
 def looked_up(names, known):
     """Adds the documentation of these modules."""
-    wanted = sorted({name for name in names if NAME.fullmatch(name)} - set(known) - set(PROFILE))
+    wanted = sorted({name for name in names if MODULE.fullmatch(name)} - set(known) - set(PROFILE))
     for start in range(0, len(wanted), NAMES_AT_ONCE):
         known.update(documentation(wanted[start:start + NAMES_AT_ONCE], Trust(), SECONDS))
         print(f"looked up {min(start + NAMES_AT_ONCE, len(wanted))} of {len(wanted)} modules", file=sys.stderr)

@@ -223,22 +223,22 @@ def lost_titles():
 
 def lost_passes():
     """Each pass is named in docs/FROM_ANSIBLE.md."""
-    from playcheck_ansible.further_facts import further_facts
+    from playcheck_ansible.documented_facts import documented_facts
     from playcheck_ansible.literals import EXPRESSION_PASSES
     from playcheck_ansible.magic import magic_variables
     from playcheck_ansible.gathering import gathered_by_tasks
     from playcheck_ansible.inclusion import leave_early_notifiers
     from playcheck_ansible.null_rc import leave_readers_of_null
     from playcheck_ansible.outlived import leave_readers_of_items
-    from playcheck_ansible.passes import TASK_PASSES
-    from playcheck_ansible.plays import PLAY_PASSES
+    from playcheck_ansible.passes import ROUNDS
+    from playcheck_ansible.plays import PLAY_ROUNDS
     from playcheck_ansible.tags import leave_out
     from playcheck_ansible.variables import put_variables
 
     page = (TOP / "docs" / "FROM_ANSIBLE.md").read_text(encoding="utf-8")
-    passes = (leave_out, put_variables, further_facts, magic_variables, leave_readers_of_items, leave_readers_of_null,
+    passes = (leave_out, put_variables, documented_facts, magic_variables, leave_readers_of_items, leave_readers_of_null,
               leave_early_notifiers, gathered_by_tasks,
-              *TASK_PASSES, *PLAY_PASSES, *EXPRESSION_PASSES)
+              *(one for turns in (*ROUNDS, *PLAY_ROUNDS) for turn in turns for one in turn), *EXPRESSION_PASSES)
     held = page.partition("### What holds it\n")[2].partition("\n## ")[0]
     lost = [f"docs/FROM_ANSIBLE.md doesn't name {one.__name__}" for one in passes if f"`{one.__name__}`" not in page]
     lost += [f"docs/FROM_ANSIBLE.md doesn't say what holds {one.__name__}" for one in passes

@@ -7,6 +7,7 @@ from pathlib import Path
 
 from house_counts import lost_citations, lost_definitions, wrong_counts
 from house_licences import lost_notices, other_versions, wrong_licences
+from house_modules import import_cycles, large_parts
 from planted import lost_equals
 
 TOP = Path(__file__).resolve().parent.parent
@@ -218,6 +219,8 @@ def main():
         ("a link leads nowhere", lost_links),
         ("a path of a recipe leads nowhere", lost_paths),
         ("a record is of no wrong program", lost_records),
+        ("a module or a function of the front end is too long", large_parts),
+        ("modules of the front end need one another", import_cycles),
         ("a proof doesn't say what it is for", silent_proofs),
         ("a script's licence is wrong", wrong_licences),
         ("a licence isn't told", lost_notices),

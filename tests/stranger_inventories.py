@@ -24,7 +24,7 @@ class Skipped(Exception):
 def read(path: Path) -> Optional[Dict[str, Any]]:
     """The groups and the variables of hosts of an inventory, or None where it is refused."""
     from playcheck_ansible.ansible_core import Trust
-    from playcheck_ansible.inventory import put_together
+    from playcheck_ansible.inventory_reading import put_together
     from playcheck_ansible.problems import Problem
 
     try:

@@ -5,8 +5,7 @@ from __future__ import annotations
 import glob
 import os
 import tempfile
-from dataclasses import dataclass
-from typing import Dict, Iterable, Iterator, List, Optional, Tuple
+from typing import Dict, Iterable, Iterator, List, NamedTuple, Optional, Tuple
 
 from .problems import Place, Problem
 from .processes import on_path, run_within, without_relative
@@ -18,8 +17,7 @@ RUN = "--run-inventory"
 CONFIGURATION = "ansible.cfg"
 
 
-@dataclass(frozen=True)
-class Trust:
+class Trust(NamedTuple):
     """What of the repository that is checked programs of ansible-core may run."""
 
     inventory: bool = False  # programs and plugins that give inventories

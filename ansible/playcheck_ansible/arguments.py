@@ -5,9 +5,9 @@ from __future__ import annotations
 import re
 from typing import TYPE_CHECKING, Dict, List
 
-from .kinds import asked_word, wrong_word
+from .kinds import evaluated_word, wrong_word
 from .modules import CHANGES_FLOW, FREE_FORM, FREE_TEXTS, Modules
-from .nodes import (Mapping, Record, Scalar, Sequence, has_template, is_literal, is_nothing, is_text, made, plain,
+from .nodes import (Mapping, Record, Scalar, Sequence, as_node, as_value, has_template, is_literal, is_nothing, is_text,
                     texts_of)
 from .values import arguments_of, as_bool, converted, is_whole
 
@@ -30,10 +30,10 @@ def name_value_texts(task: Task, modules: Modules) -> None:
         return
     found = arguments_of(node.value)
     if found:
-        task.words.put(module, made(found, node.place))
+        task.words.put(module, as_node(found, node.place))
 
 
-def merged_args(task: Task, modules: Modules) -> None:
+def merged_args(task: Task) -> None:
     """`args` are parameters of the module; those that stand at the module itself win."""
     given = task.words.take("args")
     module = task.module()
@@ -55,7 +55,7 @@ def merged_args(task: Task, modules: Modules) -> None:
     task.words.put(module, merged)
 
 
-def messages(task: Task, modules: Modules) -> None:
+def messages(task: Task) -> None:
     """`debug: var` shows what it names, and says so where that isn't there; empty messages are Ansible's own."""
     node = task.words.get("debug")
     if node is not None and (is_nothing(node) or isinstance(node, Mapping)):
@@ -63,7 +63,7 @@ def messages(task: Task, modules: Modules) -> None:
     node = task.words.get("fail")
     if node is not None and (is_nothing(node) or isinstance(node, Mapping) and "msg" not in node):
         told = node.copy() if isinstance(node, Mapping) else Mapping({}, node.place)
-        told.put("msg", made("Failed as requested from task", node.place))
+        told.put("msg", as_node("Failed as requested from task", node.place))
         task.words.put("fail", told)
 
 
@@ -75,14 +75,14 @@ def shown(task: Task, node: Mapping) -> Mapping:
     elif verbosity is not None and wrong_word("verbosity", verbosity):
         task.leave(wrong_word("verbosity", verbosity), verbosity.place)
     elif verbosity is not None:
-        task.asked += asked_word("verbosity", verbosity)
+        task.evaluated += evaluated_word("verbosity", verbosity)
     name = node.take("var")
     if name is not None and "msg" in node:
         task.leave("`debug` with both `msg` and `var`", name.place)
         return node
     if name is None:
         if "msg" not in node:
-            node.put("msg", made("Hello world!", node.place))
+            node.put("msg", as_node("Hello world!", node.place))
         return node
     if is_text(name) and not has_template(name.value):
         name = Scalar("{{ " + read_if_there(name.value.strip()) + " }}", name.place, name.text, True)
@@ -113,12 +113,12 @@ def parameters(task: Task, modules: Modules) -> None:
     argv = node.get("argv")
     if module in FREE_FORM and isinstance(argv, Sequence):
         node.take("argv")
-        words = [str(plain(item)) for item in argv.items]
-        node.put("cmd", made(" ".join(words), node.place))
+        words = [str(as_value(item)) for item in argv.items]
+        node.put("cmd", as_node(" ".join(words), node.place))
     rename(node, modules.aliases.get(module, {}))
     if module == "assert":
         assert_messages(node, task)
-    passed = {*modules.asked.get(module, ()), *modules.undocumented(module, node.pairs)}
+    passed = {*modules.passed_over.get(module, ()), *modules.undocumented(module, node.pairs)}
     if module in modules.open:
         passed = {*passed, *node.pairs} - set(modules.parameters[module])
     pass_over_parameters(task, node, sorted(passed))
@@ -128,8 +128,8 @@ def parameters(task: Task, modules: Modules) -> None:
             continue
         if module in modules.documented and not task.is_handler and is_whole(given):
             # Ansible converts whatever the template gives: what is asked is that it gives anything.
-            task.asked.append(converted(given, "omitted"))
-            node.put(name, made(EMPTY.get(kind, ""), given.place))
+            task.evaluated.append(converted(given, "omitted"))
+            node.put(name, as_node(EMPTY.get(kind, ""), given.place))
         elif module != "assert":
             node.put(name, converted(given, kind, name))
 
@@ -140,12 +140,12 @@ def assert_messages(node: Mapping, task: Task) -> None:
         part = node.get(name)
         if isinstance(part, Sequence) and all(is_text(item) for item in part.items):
             node.take(name)
-            task.asked += [one for item in part.items for one in asked_word("success_msg", item)]
+            task.evaluated += [one for item in part.items for one in evaluated_word("success_msg", item)]
         elif name == "success_msg" and part is not None and not is_nothing(part):
             node.take(name)
             if not is_text(part):
                 task.leave("`success_msg` is no text", part.place)
-            task.asked += asked_word(name, part)
+            task.evaluated += evaluated_word(name, part)
         elif part is not None and is_nothing(part):
             node.take(name)
 
@@ -166,14 +166,14 @@ def pass_over_parameters(task: Task, node: Mapping, names: List[str]) -> None:
         if task.is_handler and not is_literal(part):
             task.leave(f"the parameter `{name}` of a handler holds a template", part.place)
         else:
-            task.asked += [converted(text, "omitted") for text in texts_of(part)]
+            task.evaluated += [converted(text, "omitted") for text in texts_of(part)]
 
 
 def facts(node: Mapping, task: Task) -> None:
     """Ansible makes truth values of these words in `set_fact`, and `cacheable` keeps facts for later runs."""
     cacheable = node.take("cacheable")
     if cacheable is not None:
-        task.asked.append(cacheable)
+        task.evaluated.append(cacheable)
     for name, part in node.pairs.items():
         if is_text(part) and part.value.lower() in ("yes", "no", "true", "false"):
             node.put(name, as_bool(part))

@@ -6,10 +6,9 @@ from dataclasses import dataclass, field
 from typing import TYPE_CHECKING, Dict, Iterable, Iterator, List, Optional, Set, Tuple, Union
 
 from .nodes import Mapping, Node, Scalar, Sequence, Text, Value, is_nothing
-from .problems import Place
+from .problems import Mistake, Place
 
 if TYPE_CHECKING:
-    from .mistakes import Mistake
     from .precedence import Given, Source
 
 # A place, and what is said of it.
@@ -26,33 +25,40 @@ TASK_WORDS = {
 }
 
 
+@dataclass(eq=False)
+class Judging:
+    """What the passes find out about a task: why it isn't judged, and what it may do beside what its words show."""
+
+    reason: str = ""  # why it isn't judged
+    reason_place: Optional[Place] = None
+    asks_templates: bool = False  # its templates are asked though it isn't judged
+    sets: Set[str] = field(default_factory=set)  # names that it sets beside those that it shows
+    sets_unknown: bool = False  # it may set names that the book doesn't show
+    notified: List[str] = field(default_factory=list)  # handlers that it notifies beside those that it shows
+    notifies_any: bool = False
+    forgets: bool = False  # it may bring hosts back that failed, or take variables away
+    ends_host: bool = False  # it may end the play for a host that goes on with the next one
+    outer_names: Set[str] = field(default_factory=set)  # those that `vars` and words round it mention
+    mistakes: List[Mistake] = field(default_factory=list)  # what the documentation of its module forbids
+    is_below_condition: bool = False  # a block round it has a condition
+    ignore_condition: Optional[Text] = None  # a template in the place of `ignore_errors`
+    facts: List[Value] = field(default_factory=list)  # what sets the documented facts that it gathers
+    has_no_bound: bool = False  # how often it is tried isn't known, or more often than the profile has it
+    is_outlived: bool = False  # where it fails its host's play may go on: it is ignored or rescued, or more always runs
+    is_free: bool = False  # hosts run it in no order
+
+
 @dataclass
 class Task:
     words: Mapping
     place: Place
     play: str = ""
     is_handler: bool = False
-    asked: List[Node] = field(default_factory=list)  # values of words that are passed over: their templates are asked
-    reason: str = ""  # why it isn't judged
-    reason_place: Optional[Place] = None
-    is_still_asked: bool = False  # its templates are asked all the same
-    gives: Set[str] = field(default_factory=set)  # names that it sets beside those that it shows
-    notifies: List[str] = field(default_factory=list)  # handlers that it notifies beside those that it shows
-    notifies_any: bool = False
-    sets_unseen: bool = False  # it may set names that the book doesn't show
-    forgets: bool = False  # it may bring hosts back that failed, or take variables away
-    ends_host: bool = False  # it may end the play for a host that goes on with the next one
-    outer_names: Set[str] = field(default_factory=set)  # those that `vars` and words round it mention
+    evaluated: List[Node] = field(default_factory=list)  # values of words that are passed over: templates are asked
     collections: List[str] = field(default_factory=list)  # those in which a short name of its module is looked for
-    mistakes: List[Mistake] = field(default_factory=list)  # what the documentation of its module forbids
-    is_below_condition: bool = False  # a block round it has a condition
-    may_ignore: Optional[Text] = None  # a template in the place of `ignore_errors`
-    facts: List[Value] = field(default_factory=list)  # what sets the further facts that it gathers
-    has_no_bound: bool = False  # how often it is tried isn't known, or more often than the profile has it
-    is_outlived: bool = False  # where it fails its host's play may go on: it is ignored or rescued, or more always runs
-    is_free: bool = False  # hosts run it in no order
     comes_with: str = ""  # of a handler: the folder of the role whose inclusion makes it known
     folder: str = ""  # of a handler: that of its role
+    judging: Judging = field(default_factory=Judging)
 
     def __post_init__(self) -> None:
         self.written = self.words.copy()
@@ -63,8 +69,8 @@ class Task:
 
     def leave(self, reason: str, place: Optional[Place] = None) -> None:
         """Says that it isn't judged; the first reason counts."""
-        if not self.reason:
-            self.reason, self.reason_place = reason, place or self.place
+        if not self.judging.reason:
+            self.judging.reason, self.judging.reason_place = reason, place or self.place
 
     def module(self) -> Optional[str]:
         """The key that is its module, or None where there is none or several."""
@@ -77,7 +83,7 @@ class Block:
     words: Mapping
     place: Place
     parts: Dict[str, List[Step]]  # block, rescue, always to their steps
-    asked: List[Node] = field(default_factory=list)
+    evaluated: List[Node] = field(default_factory=list)
     given: List[Given] = field(default_factory=list)  # what it gives to the tasks in it, beside `vars` of its own
     is_role: bool = False  # the collections of its play aren't its
     is_include: bool = False  # it has tags of its own, and where its condition is false it sets nothing
@@ -110,16 +116,16 @@ class Play:
     words: Mapping
     place: Place
     sections: Dict[str, List[Step]]  # pre_tasks, tasks, post_tasks, handlers to their steps
-    asked: List[Node] = field(default_factory=list)
+    evaluated: List[Node] = field(default_factory=list)
     reason: str = ""  # why none of its tasks is judged
     has_no_host: bool = False  # the inventory has no host of its `hosts`
     given: List[Given] = field(default_factory=list)  # what all of its tasks are given, with the sources
     # Names that roles give from some task on, with their source and the reason.
     late: Dict[str, Tuple[Source, str]] = field(default_factory=dict)
-    unseen_files: List[Note] = field(default_factory=list)  # files of variables that couldn't be read
+    unread_files: List[Note] = field(default_factory=list)  # files of variables that couldn't be read
     lost: Dict[str, str] = field(default_factory=dict)  # names of `vars` that the profile can't have, with the reason
     prompted: Set[str] = field(default_factory=set)  # names whose values are asked for at the start
-    facts: List[Value] = field(default_factory=list)  # what sets the further facts that it gathers
+    facts: List[Value] = field(default_factory=list)  # what sets the documented facts that it gathers
 
     def __post_init__(self) -> None:
         self.written = self.words.copy()

@@ -9,75 +9,32 @@ from .ansible_core import Trust
 from .books import Book, Play, Raw
 from .codes import OWN_TITLES, TITLES
 from .connections import connection_variables
+from .documented_facts import documented_facts
 from .facts import trust_facts
-from .further_facts import further_facts
 from .hosts import host_patterns, with_localhost
-from .inventory import Inventory, read_inventories
+from .inventory_reading import read_inventories
 from .literals import run_literal_passes
 from .loading import load_book
 from .magic import magic_variables
 from .plays import leave_all, run_book_passes
 from .program import Answer, Asker
+from .reports import Finding, Report, Unjudged
 from .reserved_names import lose_reserved, mistaken_names
 from .returns import measured
 from .settling import Settler
 from .tags import leave_out
-from .unjudged import CUT
+from .taint import CUT
 from .variables import put_variables
 
 if TYPE_CHECKING:
+    from .inventory import Inventory
     from .lines import Line
-    from .mistakes import Mistake
     from .modules import Modules
     from .nodes import Pairs
-    from .problems import Place
+    from .problems import Mistake
 
 # What a counted line that no file has is called.
 KINDS = {"asked": "task", "facts": "play", "condition": "block"}
-
-
-@dataclass
-class Finding:
-    code: str
-    title: str
-    place: Place
-    host: str = ""
-    name: str = ""
-    play: str = ""
-    kind: str = ""
-    detail: str = ""
-    help: str = ""
-    number: int = 0
-
-
-@dataclass
-class Unjudged:
-    place: Place
-    name: str
-    reason: str
-    kind: str = "task"
-
-
-@dataclass
-class Report:
-    book: str
-    findings: List[Finding] = field(default_factory=list)
-    unjudged: List[Unjudged] = field(default_factory=list)
-    notes: List[Unjudged] = field(default_factory=list)  # words of plays and blocks that weren't asked
-    tasks: int = 0
-    judged: int = 0
-    left_out: int = 0  # tasks that a run passes by, by their tags
-    budget: int = 0
-    has_bound: bool = True  # the budget is one: no task is tried more often than the profile has it
-    is_strict: bool = False  # what isn't judged is refused
-
-    @property
-    def is_whole(self) -> bool:
-        return self.judged == self.tasks and not self.notes
-
-    @property
-    def is_accepted(self) -> bool:
-        return not self.findings and (self.is_whole or not self.is_strict)
 
 
 @dataclass
@@ -101,7 +58,7 @@ def prepared(path: str, options: Options, book: Book) -> Tuple[Book, Inventory]:
         put_variables(play, inventory)
     run_book_passes(book, options.modules, options.extra)
     connection_variables(book, inventory)
-    further_facts(book, options.trusts_facts)
+    documented_facts(book, options.trusts_facts)
     run_literal_passes(book, inventory)
     if options.trusts_facts:
         trust_facts(book)
@@ -137,13 +94,13 @@ def report_of(path: str, settler: Settler) -> Report:
     report.findings = numbered(settler)
     refused = {id(line.step) for line, _ in settler.findings if line is not None and line.step is not None}
     for task in tasks:
-        if task.reason and id(task) not in refused:
-            kind = "handler" if task.is_handler else "task"
-            report.unjudged.append(Unjudged(task.reason_place or task.place, task.name, task.reason, kind))
+        reason, place = task.judging.reason, task.judging.reason_place or task.place
+        if reason and id(task) not in refused:
+            report.unjudged.append(Unjudged(place, task.name, reason, "handler" if task.is_handler else "task"))
     report.notes = [Unjudged(place, "", what) for place, what in settler.notes]
-    report.judged = sum(not task.reason or task.reason.startswith(CUT) for task in tasks)
+    report.judged = sum(not task.judging.reason or task.judging.reason.startswith(CUT) for task in tasks)
     report.budget = settler.answer.budget
-    report.has_bound = not any(task.has_no_bound for task in tasks)
+    report.has_bound = not any(task.judging.has_no_bound for task in tasks)
     return report
 
 

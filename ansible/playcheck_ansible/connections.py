@@ -32,7 +32,7 @@ def ask_given(step: Play | Block | Task) -> None:
     for key in ("vars", "set_fact"):
         for name, part in pairs_in(step.words.get(key)).items():
             if name in KINDS:
-                step.asked += asked_value(part, KINDS[name])
+                step.evaluated += asked_value(part, KINDS[name])
     register = step.words.get("register") if isinstance(step, Task) else None
     if isinstance(step, Task) and is_text(register) and register.value in KINDS:
         step.leave(f"a result is no {WHAT[KINDS[register.value]]}", register.place)

@@ -7,7 +7,7 @@ import json
 import os
 from typing import TYPE_CHECKING, Dict, Iterable, Iterator, List, Optional, Tuple
 
-from .books import Block, Raw, Task
+from .books import Play, Raw, Task
 from .nodes import Node, Scalar, Text
 from .problems import Place, Problem
 
@@ -48,8 +48,8 @@ def write(folder: str, name: str, value: object) -> None:
 
 def line_json(number: int, line: Line) -> Dict[str, object]:
     """A counted line: what it is, where it stands, whether it is judged, and how many expressions have other values."""
-    place = line.place
-    reason = getattr(line.step, "reason", "") if line.step is not None else ""
+    place, step = line.place, line.step
+    reason = step.judging.reason if isinstance(step, Task) else step.reason if isinstance(step, Play) else ""
     return {"counted_line": number, "kind": line.kind, "file": place.file, "line": place.line, "column": place.column,
             "name": line.name, "play": line.play.name if line.play is not None else "",
             "not_judged": reason or None, "stand_ins": sum(by_text([line]).values())}
@@ -86,7 +86,7 @@ def others(settler: Settler) -> List[Place]:
 
 
 def is_other(line: Line) -> bool:
-    """Whether another task stands beside what a line stands for, or in its place, or a word that changes its run isn't printed."""
+    """Whether another task stands beside that of a line, or for it, or a word that changes its run isn't printed."""
     if line.kind in ("asked", "condition"):
         return True
     source = line.source
@@ -94,9 +94,10 @@ def is_other(line: Line) -> bool:
         return False
     lost = [key for key, node in source.written.pairs.items()
             if key in UNPRINTED and key not in source.words and not is_off(node)]
-    if isinstance(source, Block):
-        return bool(lost)
-    return bool(lost or source.reason or source.facts) or isinstance(source, Task) and source.has_no_bound
+    if isinstance(source, Task):
+        judging = source.judging
+        return bool(lost or judging.reason or judging.facts or judging.has_no_bound)
+    return bool(lost or isinstance(source, Play) and (source.reason or source.facts))
 
 
 def is_off(node: Node) -> bool:

@@ -8,10 +8,10 @@ import zlib
 from typing import Dict, List, Optional, Tuple
 
 from .ansible_core import Trust, run_ansible
-from .identifiers import VARIABLE
 from .modules import BOOL_FIELD, FAILURE, PROFILE, Choices, Signature, are_choices, names_of, record_of
 from .nodes import Record, Value
 from .problems import Problem
+from .tokens import VARIABLE
 
 SECONDS = 300
 MOST_UNDOCUMENTED = 4

@@ -8,8 +8,7 @@ from typing import TYPE_CHECKING, FrozenSet, List, Optional, Tuple
 
 from .expression_parser import Parser, Unfit
 from .forms import SUSPECT, outside_form
-from .identifiers import NAME
-from .tokens import Token, tokens_of
+from .tokens import NAME, Token, tokens_of
 
 if TYPE_CHECKING:
     from .expression_tree import Tree
@@ -46,7 +45,7 @@ class Expression:
         """The names that it may read; those in its texts too where it reads other hosts."""
         if any(word in self.text for word in BY_TEXT):
             return frozenset(NAME.findall(self.text))
-        # Most expressions have no texts, and no more is asked of them: this takes a quarter of the time of their tokens.
+        # Most expressions have no texts, and no more is asked of them: this takes less time than their tokens.
         return frozenset(token.text for token in self.reads) if QUOTE.search(self.text) else \
             frozenset(READ.findall(self.text))
 
@@ -90,11 +89,7 @@ class Expression:
     @cached_property
     def bare(self) -> str:
         """It with its texts blanked."""
-        return self.filled(" ")
-
-    def filled(self, sign: str) -> str:
-        """It with its texts written as so many signs."""
-        return self.replaced([(token, sign * (token.end - token.start)) for token in self.texts])
+        return self.replaced([(token, " " * (token.end - token.start)) for token in self.texts])
 
     def replaced(self, changes: List[Tuple[Token, str]]) -> str:
         """It with some tokens, in their order, written otherwise."""

@@ -3,15 +3,14 @@
 from __future__ import annotations
 
 import re
-from dataclasses import dataclass
-from typing import TYPE_CHECKING, Callable, Iterator
+from typing import TYPE_CHECKING, Callable, Iterator, NamedTuple
 
 from .books import Block, Play, Task
 from .literal_operands import is_plain
-from .nodes import Sequence, Value, has_template, is_literal, plain
+from .nodes import Sequence, Value, as_value, has_template, is_literal
 
 if TYPE_CHECKING:
-    from .literals import Values
+    from .known_values import Values
 
 # Fields of results that are numbers or truth values, or texts of digits.
 NUMBERS = frozenset("""atime attempts changed ctime elapsed examined exists failed gid isdir islnk isreg matched mode
@@ -25,8 +24,7 @@ DEEPEST = 8
 IsFinite = Callable[[str], bool]
 
 
-@dataclass(frozen=True)
-class Finite:
+class Finite(NamedTuple):
     """Answers whether `int` takes what a path holds, in a task with these values of names."""
 
     values: Values
@@ -69,4 +67,4 @@ def texts_in(value: Value) -> Iterator[str]:
 def has_plain_items(holder: Play | Block | Task) -> bool:
     """Whether a task's loop is a literal list of values that `int` takes."""
     node = holder.words.get("loop") if isinstance(holder, Task) else None
-    return isinstance(node, Sequence) and is_literal(node) and all(map(is_plain, texts_in(plain(node))))
+    return isinstance(node, Sequence) and is_literal(node) and all(map(is_plain, texts_in(as_value(node))))

@@ -4,13 +4,12 @@ from __future__ import annotations
 
 from typing import TYPE_CHECKING, Callable, Dict
 
-from .kinds import asked_word, wrong_word
-from .nodes import Scalar, is_literal, made, plain
+from .kinds import evaluated_word, wrong_word
+from .nodes import Scalar, as_node, as_value, is_literal
 from .values import as_int
 
 if TYPE_CHECKING:
     from .books import Task
-    from .modules import Modules
 
 # Words that change neither the flow nor the variables.
 PASSED = ("tags", "become", "become_exe", "become_flags", "become_method", "become_user", "environment", "no_log",
@@ -21,7 +20,7 @@ FLOW = ("run_once", "any_errors_fatal", "ignore_unreachable", "delegate_facts", 
         "module_defaults", "max_fail_percentage")
 
 
-def flow_words(task: Task, modules: Modules) -> None:
+def flow_words(task: Task) -> None:
     """Words that change the flow, which the profile lacks: with them a task isn't judged."""
     for key in FLOW:
         node = task.words.get(key)
@@ -49,14 +48,15 @@ def runs_for_all(task: Task) -> bool:
     """
     loops = any(key == "loop" or key.startswith("with_") for key in task.words.pairs)
     facts = task.words.get("set_fact")
-    hangs = task.is_below_condition or "when" in task.words or loops or task.is_outlived or task.is_free
+    judging = task.judging
+    hangs = judging.is_below_condition or "when" in task.words or loops or judging.is_outlived or judging.is_free
     return ("register" in task.words and hangs
             or facts is not None and not is_literal(facts) or not is_literal(task.words["run_once"]))
 
 
 def is_left_running(task: Task) -> bool:
     """A task that isn't waited for registers the number of its job; a template may say so."""
-    poll = plain(as_int(task.words.get("poll") or made(None, task.place)))
+    poll = as_value(as_int(task.words.get("poll") or as_node(None, task.place)))
     is_waited_for = poll is None or isinstance(poll, int) and poll > 0
     return "register" in task.words and not is_waited_for
 
@@ -78,10 +78,10 @@ def pass_over(task: Task, key: str) -> None:
     elif wrong or key == "debugger" and not is_literal(node):
         task.leave(wrong or "`debugger` is a template", node.place)
     else:
-        task.asked += asked_word(key, node)
+        task.evaluated += evaluated_word(key, node)
 
 
-def passed_words(task: Task, modules: Modules) -> None:
+def passed_words(task: Task) -> None:
     """Words that change neither the flow nor variables: their templates are asked, and they are passed over."""
     for key in PASSED:
         if key in task.words:

@@ -11,7 +11,7 @@ from .problems import Place, Problem
 from .wording import message_of, not_judged_of, verdict_of
 
 if TYPE_CHECKING:
-    from .checking import Report, Unjudged
+    from .reports import Report, Unjudged
 
 RED, BOLD, PLAIN = "\033[31m", "\033[1m", "\033[0m"
 

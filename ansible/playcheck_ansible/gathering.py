@@ -4,8 +4,8 @@ from __future__ import annotations
 
 from typing import TYPE_CHECKING
 
-from .kinds import asked_word, wrong_word
-from .nodes import Mapping, Node, Pairs, Scalar, has_template, made, texts_of
+from .kinds import evaluated_word, wrong_word
+from .nodes import Mapping, Node, Scalar, as_node, has_template, texts_of
 
 if TYPE_CHECKING:
     from .books import Play
@@ -14,15 +14,15 @@ if TYPE_CHECKING:
 LARGE_SUBSETS = ("all", "hardware", "network", "virtual", "ohai", "facter")
 
 
-def gathered_facts(play: Play, extra: Pairs) -> None:
+def gathered_facts(play: Play) -> None:
     """Ansible gathers facts unless a play says that it doesn't."""
     if "gather_facts" not in play.words:
-        play.words.put("gather_facts", made(True, play.place))
+        play.words.put("gather_facts", as_node(True, play.place))
     node = play.words["gather_facts"]
     subset = play.words.get("gather_subset")
     if not isinstance(node, Scalar) or not isinstance(node.value, bool):
-        play.words.put("gather_facts", made(True, node.place))
-        play.asked += asked_word("gather_facts", node)
+        play.words.put("gather_facts", as_node(True, node.place))
+        play.evaluated += evaluated_word("gather_facts", node)
         play.reason = play.reason or wrong_word("gather_facts", node)
         leave_facts(play, "`gather_facts` is a template")
     elif subset is not None and leaves_facts_out(subset):

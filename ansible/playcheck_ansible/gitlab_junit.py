@@ -13,7 +13,7 @@ from .printing import json_of, line_of
 from .wording import message_of, not_judged_of, outcome_of, verdict_of
 
 if TYPE_CHECKING:
-    from .checking import Finding, Report, Unjudged
+    from .reports import Finding, Report, Unjudged
 
 # Places in texts, which move with lines that are put in before them.
 MOVING = re.compile(r"lines? \d+(?:, \d+)*|:\d+(?::\d+)?")

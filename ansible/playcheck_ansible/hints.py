@@ -6,11 +6,11 @@ import re
 from dataclasses import dataclass
 from typing import TYPE_CHECKING, Iterable, List, Optional, Set, Tuple
 
+from .book_hints import (earlier_handler, entered_before, judged_by_others, other_host, second_handler, unknown_host,
+                         unknown_hosts)
 from .books import TASK_WORDS, Block, Holder, Play, Raw, Task, is_module
+from .documented_facts import DOCUMENTED
 from .expressions import read_once
-from .further_facts import FURTHER
-from .further_hints import (earlier_handler, entered_before, judged_by_others, other_host, second_handler, unknown_host,
-                            unknown_hosts)
 from .modules import PROFILE
 from .names import CONDITIONS, FACTS, GRAMMAR, Read, given_names, names_of_vars, read_places
 from .nodes import Mapping, Node, Scalar, Text, texts_of
@@ -37,7 +37,7 @@ class Culprit:
 
 def culprit(task: Task, known: Set[str]) -> Optional[Culprit]:
     """The first name that a task reads without a guard and that is set nowhere."""
-    places = list(read_places(task.words, task.asked))
+    places = list(read_places(task.words, task.evaluated))
     return culprit_in([place for place in places if place[1].is_first], known) or \
         culprit_in([place for place in places if not place[1].is_first], known)
 
@@ -57,7 +57,7 @@ def is_guarded(name: str, places: List[Read]) -> bool:
 
 def first_text(task: Task) -> Optional[Text]:
     """The first text that holds an expression."""
-    for _, node in read_places(task.words, task.asked):
+    for _, node in read_places(task.words, task.evaluated):
         if node.place.line:
             return node
     return None
@@ -102,14 +102,14 @@ def of_holder(answer: Answer, holder: Holder | Raw, line: Line, settler: Settler
         return unknown_hosts(holder, settler)
     if line.kind == "condition" and isinstance(holder, Block) and "when" in holder.words:
         return Hint(holder.words["when"].place)
-    if line.kind == "asked" and isinstance(holder, (Play, Block)) and holder.asked:
+    if line.kind == "asked" and isinstance(holder, (Play, Block)) and holder.evaluated:
         return of_words(answer, holder, settler)
     return Hint(holder.place)
 
 
 def of_words(answer: Answer, holder: Play | Block, settler: Settler) -> Hint:
     """Of the words of a play or a block that are passed over."""
-    places = list(read_places(Mapping({}, holder.place), holder.asked))
+    places = list(read_places(Mapping({}, holder.place), holder.evaluated))
     names = settler.names_in_scope(holder)
     found = culprit_in(places, names) if answer.code == "V01" else None
     return nowhere(found, names, settler) if found else Hint(places[0][1].place if places else holder.place)
@@ -137,9 +137,9 @@ def nowhere(found: Culprit, names: Set[str], settler: Settler) -> Hint:
 
 def reading_hint(task: Task, line: Line, settler: Settler) -> Optional[Hint]:
     """A name that is set on some ways alone."""
-    for expression, node in read_places(task.words, task.asked):
+    for expression, node in read_places(task.words, task.evaluated):
         for name in [token.text for token in read_once(expression).reads]:
-            if name in PERHAPS_FACTS or name in FURTHER and name not in settler.given():
+            if name in PERHAPS_FACTS or name in DOCUMENTED and name not in settler.given():
                 return Hint(node.place, f"'{name}' is a fact that is perhaps missing",
                             f"Guard: when: {name} is defined, or {name} | default('')")
             giver = settler.giver(name)
@@ -152,7 +152,7 @@ def reading_hint(task: Task, line: Line, settler: Settler) -> Optional[Hint]:
 
 
 def missing(task: Task, line: Line, settler: Settler) -> Optional[Hint]:
-    for expression, node in read_places(task.words, task.asked):
+    for expression, node in read_places(task.words, task.evaluated):
         for path in read_once(expression).fields:
             giver = settler.giver(path[0])
             if giver is not None:
@@ -185,7 +185,7 @@ def wrong_kind(task: Task, line: Line, settler: Settler) -> Optional[Hint]:
             name = shown(node)
             return Hint(key_place(task, (key,)) or node.place, f"{key}: '{name}' may be no truth value",
                         f"Write a comparison, as {name} == '..' or {name} | length > 0")
-    for expression, node in read_places(task.words, task.asked):
+    for expression, node in read_places(task.words, task.evaluated):
         found = DEFAULTED.fullmatch(expression)
         if found:
             return Hint(node.place, f"'{found[1]}' and its default may be of two kinds")

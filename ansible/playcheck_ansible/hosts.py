@@ -9,7 +9,7 @@ from typing import TYPE_CHECKING, Dict, List, Match, Optional
 from .inventory import BASE, Inventory
 from .inventory_names import LONGEST
 from .matching import SlowPattern, matching
-from .nodes import has_template, made, texts_of
+from .nodes import as_node, has_template, texts_of
 
 if TYPE_CHECKING:
     from .books import Play
@@ -37,16 +37,16 @@ def host_patterns(play: Play, inventory: Inventory, added: List[str], is_given: 
         found = matched(words, inventory, added)
     except SlowPattern as slow:
         play.reason = play.reason or str(slow)
-        play.words.put("hosts", made("all", node.place))
+        play.words.put("hosts", as_node("all", node.place))
         return
     if found is None:
         return
     if not found:
         play.has_no_host = True
         play.reason = play.reason or NO_MATCH
-        play.words.put("hosts", made(empty_group(inventory), node.place))
+        play.words.put("hosts", as_node(empty_group(inventory), node.place))
     elif hides_local or is_pattern:
-        play.words.put("hosts", made(found, node.place))
+        play.words.put("hosts", as_node(found, node.place))
 
 
 def empty_group(inventory: Inventory) -> str:

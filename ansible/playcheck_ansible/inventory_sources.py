@@ -9,10 +9,9 @@ from functools import lru_cache
 from typing import TYPE_CHECKING
 
 from .ansible_core import READERS, RUN, Trust, run_ansible
-from .inventory_ini import read_ini
 from .inventory_names import divided_port
 from .inventory_yaml import is_listed, take_groups, take_listed
-from .nodes import Mapping, Record, is_nothing, plain, plain_pairs
+from .nodes import Mapping, Record, as_value, as_values, is_nothing
 from .positions import node_of, read_bytes, text_in
 from .printing import told
 from .problems import Place, Problem
@@ -95,6 +94,8 @@ def read_file(inventory: "Inventory", path: str, trust: Trust) -> bool:
     if not looks_like_yaml(data, path):
         if trust.repository and on_path("ansible-inventory"):
             return take_asked(inventory, path, trust)
+        from .inventory_ini import read_ini  # read where it is wanted: many inventories are YAML
+
         return read_ini(inventory, path, data)
     return read_yaml(inventory, path, data, trust)
 
@@ -125,11 +126,11 @@ def read_yaml(inventory: "Inventory", path: str, data: bytes, trust: Trust) -> b
     if not isinstance(node, Mapping):
         raise Problem(node.place, "an inventory is a mapping of groups")
     plugin = node.get("plugin")
-    if plugin is not None and plain(plugin):
-        may_run(path, f"for the plugin {plain(plugin)}", trust)
+    if plugin is not None and as_value(plugin):
+        may_run(path, f"for the plugin {as_value(plugin)}", trust)
         return take_asked(inventory, path, trust)
     if is_listed(node):
-        take_listed(inventory, plain_pairs(node))
+        take_listed(inventory, as_values(node))
     else:
         take_groups(inventory, node)
     return bool(node.pairs)
@@ -137,7 +138,7 @@ def read_yaml(inventory: "Inventory", path: str, data: bytes, trust: Trust) -> b
 
 def take_asked(inventory: "Inventory", path: str, trust: Trust, plugins: str = READERS) -> bool:
     """Adds what `ansible-inventory` says of a file or a folder."""
-    value = asked(os.path.abspath(path), path, trust, plugins)
+    value = listing_of(os.path.abspath(path), path, trust, plugins)
     take_listed(inventory, value)
     names = {name for name, group in value.items() if name not in ("_meta", "all", "ungrouped")
              or isinstance(group, list) and group
@@ -147,7 +148,7 @@ def take_asked(inventory: "Inventory", path: str, trust: Trust, plugins: str = R
 
 
 @lru_cache(64)
-def asked(path: str, shown: str, trust: Trust, plugins: str) -> Record:
+def listing_of(path: str, shown: str, trust: Trust, plugins: str) -> Record:
     """What `ansible-inventory` prints; its warnings are told, once for all books."""
     place = Place(shown)
     said, warned, status = run_ansible("ansible-inventory", ["-i", path, "--list"], SECONDS, trust, place, plugins)

@@ -5,7 +5,7 @@ from __future__ import annotations
 from typing import TYPE_CHECKING, List, Optional, Tuple
 
 from .inventory_names import NameFault, host_names
-from .nodes import Mapping, Node, Record, Scalar, Sequence, is_nothing, is_text, plain, plain_pairs
+from .nodes import Mapping, Node, Record, Scalar, Sequence, as_value, as_values, is_nothing, is_text
 from .problems import Place, Problem
 
 if TYPE_CHECKING:
@@ -65,7 +65,7 @@ def take_group(inventory: "Inventory", name: str, node: Node) -> None:
     for pattern, given in pairs_of(node.get("hosts"), "hosts"):
         take_hosts(inventory, name, pattern, given, node.place)
     for variable, value in pairs_of(node.get("vars"), "vars"):
-        inventory.group(name)["vars"][variable] = plain(value)
+        inventory.group(name)["vars"][variable] = as_value(value)
     for child, group in pairs_of(node.get("children"), "children"):
         if name != "all":
             inventory.add_child(name, child)
@@ -79,7 +79,7 @@ def take_hosts(inventory: "Inventory", group: str, pattern: str, given: Node, pl
         raise Problem(place, str(error)) from None
     for name in names:
         inventory.add_host(group, name, port)
-        inventory.hosts[name].update(plain_pairs(given) if isinstance(given, Mapping) else {})
+        inventory.hosts[name].update(as_values(given) if isinstance(given, Mapping) else {})
 
 
 def pairs_of(node: Optional[Node], what: str) -> List[Tuple[str, Node]]:

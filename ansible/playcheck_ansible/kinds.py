@@ -6,13 +6,12 @@ import re
 from dataclasses import replace
 from typing import TYPE_CHECKING, Dict, Iterable, Tuple
 
-from .identifiers import NAME
 from .nodes import Mapping, Node, Scalar, Sequence, Text, is_literal, is_nothing, is_text
-from .truths import FALSE_WORDS, TRUE_WORDS
-from .values import is_whole, without_omit
+from .tokens import NAME
+from .values import FALSE_WORDS, TRUE_WORDS, is_whole, without_omit
 
 if TYPE_CHECKING:
-    from .literals import Values
+    from .known_values import Values
 
 KINDS = {
     **dict.fromkeys(("become", "diff", "no_log", "check_mode", "ignore_errors", "run_once", "any_errors_fatal",
@@ -34,7 +33,7 @@ FORCED = {"bool": "not ({0})", "int": "({0}) < 1", "text": "[[{0}] | join, ({0})
 PATH = re.compile(r"[A-Za-z_]\w*(?:\.[A-Za-z_]\w*)*")
 
 
-def asked_word(key: str, node: Node) -> "list[Node]":
+def evaluated_word(key: str, node: Node) -> "list[Node]":
     """What is asked of a word that is passed over: its templates, and of a template that is all of it the kind too."""
     kind = KINDS.get(key)
     if not kind or not is_whole(node):
@@ -65,7 +64,7 @@ def wrong_word(key: str, node: Node) -> str:
     what = "truth value" if kind == "bool" else "number"
     if not is_literal(node):
         return f"`{key}` is a text with a template, and perhaps no {what}"
-    return "" if is_of_kind(getattr(node, "value", node), kind) else f"`{key}` is no {what}"
+    return "" if is_of_kind(node.value if isinstance(node, Scalar) else node, kind) else f"`{key}` is no {what}"
 
 
 def is_list_of_texts(node: Node, key: str) -> bool:

@@ -6,7 +6,8 @@ from dataclasses import dataclass, field
 from typing import TYPE_CHECKING, Iterable, List, Optional, Tuple, Union
 
 from .books import PARTS, SECTIONS, Block, Book, Holder, Play, Raw, Step, Task
-from .nodes import Mapping, Node, Pairs, Record, Scalar, Sequence, Text, Value, has_template, is_text, plain, texts_of
+from .nodes import (Mapping, Node, Pairs, Record, Scalar, Sequence, Text, Value, as_value, has_template, is_text,
+                    texts_of)
 
 if TYPE_CHECKING:
     from .problems import Place
@@ -62,7 +63,7 @@ class Printer:
 
     def book(self, book: Book) -> Numbered:
         if book.node is not None:
-            return Numbered(plain(book.node), self.lines)
+            return Numbered(as_value(book.node), self.lines)
         plays = [self.play(play) for play in book.plays]
         return Numbered(plays, self.lines)
 
@@ -79,13 +80,13 @@ class Printer:
     def play(self, play: Play | Raw) -> Value:
         if isinstance(play, Raw):
             self.lines.append(Line("play", None, play))
-            return plain(play.node)
+            return as_value(play.node)
         self.lines.append(Line("play", play, nodes=(play.words,)))
-        printed = {key: plain(part) for key, part in play.words.pairs.items()}
+        printed = {key: as_value(part) for key, part in play.words.pairs.items()}
         if printed.get("gather_facts") is True:
             self.lines.append(Line("facts", play))
         asked = self.facts(play, play.facts if printed.get("gather_facts") is True else [])
-        asked += self.asked(play, play.asked, {}, play)
+        asked += self.evaluations(play, play.evaluated, {}, play)
         for section in SECTIONS:
             steps = play.sections.get(section)
             if steps or (asked and section == "tasks"):
@@ -105,7 +106,7 @@ class Printer:
                 printed += self.task(step, play)
             else:
                 self.lines.append(Line("task", play, step))
-                printed.append(plain(step.node))
+                printed.append(as_value(step.node))
         return printed
 
     def included(self, block: Block, play: Play) -> List[Value]:
@@ -113,7 +114,7 @@ class Printer:
         given = block.words.get("vars")
         if given is not None:
             self.lines.append(Line("block", play, block, (given,)))
-            return [{"vars": plain(given), "block": self.included_steps(block, play)}]
+            return [{"vars": as_value(given), "block": self.included_steps(block, play)}]
         return self.included_steps(block, play)
 
     def included_steps(self, block: Block, play: Play) -> List[Value]:
@@ -133,11 +134,11 @@ class Printer:
               first: Optional[Record] = None) -> Record:
         words = words or block.words
         self.lines.append(Line("block", play, block, (words,)))
-        printed = {key: plain(part) for key, part in words.pairs.items() if key not in PARTS}
+        printed = {key: as_value(part) for key, part in words.pairs.items() if key not in PARTS}
         if first:
             self.lines.append(Line("condition", play, block))
         asked: List[Value] = [first] if first else []
-        asked += self.asked(block, block.asked, {}, play)
+        asked += self.evaluations(block, block.evaluated, {}, play)
         for part in PARTS:
             steps = block.parts.get(part)
             if steps is None:
@@ -149,42 +150,43 @@ class Printer:
     def task(self, task: Task, play: Play) -> List[Value]:
         kind = "handler" if task.is_handler else "task"
         scope = {key: task.words[key] for key in ("when", "loop", "vars") if key in task.words}
-        asked = [] if task.reason and not task.is_still_asked else self.asked_words(task, scope, play)
-        if task.reason:
+        judging = task.judging
+        asked = [] if judging.reason and not judging.asks_templates else self.evaluations_of(task, scope, play)
+        if judging.reason:
             self.lines.append(Line(kind, play, task))
             return [*asked, self.unjudged(task, play)]
         self.lines.append(Line(kind, play, task, (task.words,)))
-        return [*asked, {key: plain(part) for key, part in task.words.pairs.items()},
-                *self.not_ignored(task, play), *self.facts(play, task.facts)]
+        return [*asked, {key: as_value(part) for key, part in task.words.pairs.items()},
+                *self.not_ignored(task, play), *self.facts(play, task.judging.facts)]
 
-    def asked_words(self, task: Task, scope: Pairs, play: Play) -> List[Value]:
+    def evaluations_of(self, task: Task, scope: Pairs, play: Play) -> List[Value]:
         """What the words of a task ask: some before its condition, the others under it and in its loop."""
-        first = [node for node in task.asked if is_first(node)]
+        first = [node for node in task.evaluated if is_first(node)]
         own = {key: node for key, node in scope.items() if key == "vars"}
-        others = [node for node in task.asked if not is_first(node)]
-        return self.asked(task, first, own, play) + self.asked(task, others, scope, play)
+        others = [node for node in task.evaluated if not is_first(node)]
+        return self.evaluations(task, first, own, play) + self.evaluations(task, others, scope, play)
 
     def facts(self, play: Play, tasks: List[Value]) -> List[Value]:
-        """What sets further facts behind the task that gathers them."""
+        """What sets documented facts behind the task that gathers them."""
         self.lines += [Line("facts", play)] * len(tasks)
         return list(tasks)
 
     def not_ignored(self, task: Task, play: Play) -> List[Value]:
         """Behind a task whose `ignore_errors` is a template: where that is false, the host may end here."""
-        if task.may_ignore is None:
+        if task.judging.ignore_condition is None:
             return []
         given = {"vars": task.words["vars"]} if "vars" in task.words else {}
-        self.lines.append(Line("asked", play, task, (task.may_ignore, *given.values())))
-        words = {key: plain(node) for key, node in given.items()}
-        return [{"fail": {"msg": "the task failed"}, "when": f"not ({task.may_ignore.value})", **words}]
+        self.lines.append(Line("asked", play, task, (task.judging.ignore_condition, *given.values())))
+        words = {key: as_value(node) for key, node in given.items()}
+        return [{"fail": {"msg": "the task failed"}, "when": f"not ({task.judging.ignore_condition.value})", **words}]
 
-    def asked(self, source: Holder, values: Iterable[Node], scope: Pairs, play: Play) -> List[Value]:
+    def evaluations(self, source: Holder, values: Iterable[Node], scope: Pairs, play: Play) -> List[Value]:
         """A message of the templates that stand in words which are passed over, so that they are asked."""
         texts = [text for value in values for text in texts_of(value) if has_template(text.value)]
         if not texts:
             return []
         self.lines.append(Line("asked", play, source, (*texts, *scope.values())))
-        words = {key: plain(node) for key, node in scope.items()}
+        words = {key: as_value(node) for key, node in scope.items()}
         return [{"debug": {"msg": [text.value for text in texts]}, **words}]
 
     def unjudged(self, task: Task, play: Play) -> Record:
@@ -198,7 +200,7 @@ class Printer:
         if task.is_handler and topics:
             printed["listen"] = topics
         ignores = task.words.get("ignore_errors")
-        if isinstance(ignores, Scalar) and ignores.value is True and task.may_ignore is None:
+        if isinstance(ignores, Scalar) and ignores.value is True and task.judging.ignore_condition is None:
             printed["ignore_errors"] = True
         notified: List[Value] = [*self.notified(task, play)]
         if notified:
@@ -208,8 +210,8 @@ class Printer:
     def notified(self, task: Task, play: Play) -> List[str]:
         written = task.words.get("notify")
         texts = [text.value for text in texts_of(written)] if written is not None else []
-        texts = [*texts, *task.notifies]
-        if task.notifies_any or any(has_template(text) for text in texts):
+        texts = [*texts, *task.judging.notified]
+        if task.judging.notifies_any or any(has_template(text) for text in texts):
             texts = [text for text in texts if not has_template(text)] + later_handlers(task, play)
         return list(dict.fromkeys(texts))
 

@@ -3,25 +3,21 @@
 from __future__ import annotations
 
 import re
-from typing import Callable, Dict, Iterable, Iterator, List, Match, Optional, Pattern, Protocol, Set, Tuple
+from typing import TYPE_CHECKING, Iterable, Set
 
 from .books import Book, Holder, Task
 from .expressions import read_once
 from .finite import Finite, has_plain_items
-from .inventory import Inventory, is_opaque
 from .kinds import forced
-from .names import KNOWN, MAGIC, Read, given_names, read_places
-from .nodes import Atom, Scalar, Text, Value, is_literal, pairs_in, plain
+from .known_defaults import plain_defaults, plain_truths
+from .known_values import Values
+from .names import Read, read_places
+from .nodes import Scalar, Text
 from .rewriting import Change, changed_texts, rewrite_words
 from .stand_ins import rewritten, stand_ins
-from .truths import is_true
 
-DEFAULT = r"\s*\|\s*default\((?P<default>[^(),]*)(?P<falsy>,\s*(?:boolean\s*=\s*)?[Tt]rue\s*)?\)"
-NAME = r"(?<![\w.\])])(?<!\.\s)(?P<name>[A-Za-z_]\w*)"
-BOOL = re.compile(NAME + rf"(?:{DEFAULT})?\s*\|\s*bool\b(?:\(\s*\))?(?!\s*[|.\[(])")
-FALSY = re.compile(NAME + DEFAULT)
-QUOTED_TRUE, QUOTED_FALSE = "'true'", "'false'"
-WORDS = {"true": True, "True": True, "false": False, "False": False}
+if TYPE_CHECKING:
+    from .inventory import Inventory
 
 
 def run_literal_passes(book: Book, inventory: Inventory) -> None:
@@ -44,11 +40,11 @@ class Expressions:
         if "debug" in holder.words:
             holder.words.put("debug", changed_texts(holder.words["debug"], self.change_asked))
         rewrite_words(holder.words, self.change)
-        holder.asked = [changed_texts(node, self.change_asked) for node in forced(holder.asked, self.values)]
-        if isinstance(holder, Task) and holder.may_ignore is not None:
-            holder.may_ignore = ignored(holder, holder.may_ignore, self.change)
-            self.mark([(holder.may_ignore.value, holder.may_ignore)])
-        self.mark(read_places(holder.words, holder.asked))
+        holder.evaluated = [changed_texts(node, self.change_asked) for node in forced(holder.evaluated, self.values)]
+        if isinstance(holder, Task) and holder.judging.ignore_condition is not None:
+            holder.judging.ignore_condition = ignored(holder, holder.judging.ignore_condition, self.change)
+            self.mark([(holder.judging.ignore_condition.value, holder.judging.ignore_condition)])
+        self.mark(read_places(holder.words, holder.evaluated))
 
     def change(self, expression: str) -> str:
         return self.written(plain_defaults(plain_truths(expression, self.values), self.values), False)
@@ -83,125 +79,6 @@ def ignored(task: Task, node: Text, change: Change) -> Text:
     if what or "item" in read_once(node.value).names:
         task.leave(f"`ignore_errors` with {what or '`item`'}", node.place)
     return condition
-
-
-class Values:
-    """The literal values that anything gives a name: None where another value is possible too."""
-
-    def __init__(self, book: Book, inventory: Inventory) -> None:
-        self.book, self.inventory = book, inventory
-        self.of_names: Optional[Dict[str, Optional[List[Value]]]] = None  # found where it is first asked for
-        # All that gives a name its value by `vars` and `set_fact`, and None for what registers it.
-        self.written: Dict[str, List[Value]] = {}
-
-    def find(self) -> Dict[str, Optional[List[Value]]]:
-        found: Dict[str, Optional[List[Value]]] = {}
-        for name, value, is_known in self.givings():
-            self.written.setdefault(name, []).append(value)
-            known = found.get(name, [])
-            found[name] = [*known, value] if is_known and known is not None else None
-        for play in self.book.read_plays():
-            lost = [name for holder in play.containers() for name in holder.lost]
-            found.update(dict.fromkeys([*play.prompted, *lost]))
-        return found
-
-    def givings(self) -> Iterator[Tuple[str, Value, bool]]:
-        """Each name with a value that it is given, and whether that is literal: of a result it is None."""
-        for name, value in self.inventory.variables():
-            yield name, value, not is_opaque(value)
-        for holder in (holder for play in self.book.read_plays() for holder in play.holders()):
-            for name, node in pairs_in(holder.words.get("vars")).items():
-                yield name, plain(node), is_literal(node)
-        for task in self.book.tasks():
-            facts = pairs_in(task.words.get("set_fact"))
-            for name in given_names(task):
-                part = facts.get(name)
-                yield name, plain(part) if part is not None else None, part is not None and is_literal(part)
-
-    def known(self, name: str) -> Optional[List[Value]]:
-        """All values that a name may have, or None where they aren't known; a name that nothing gives has none."""
-        if self.of_names is None:
-            self.of_names = self.find()
-        is_outside = name in KNOWN or name in MAGIC or name.startswith("ansible_")
-        return None if is_outside else self.of_names.get(name, [])
-
-
-class KnownValues(Protocol):
-    def known(self, name: str) -> Optional[List[Value]]:
-        """All values that a name may have, or None where they aren't known."""
-
-
-# The text of a group of a match, as the expression has it.
-Group = Callable[[Match[str], str], str]
-
-
-def plain_truths(expression: str, values: KnownValues) -> str:
-    """`x | bool` is `x` where each value that `x` may have is a truth value, and a comparison where each is a text."""
-    if "bool" not in expression:
-        return expression
-    return replaced(expression, BOOL, lambda found, text: truth(found, text, values))
-
-
-def truth(found: Match[str], text: Group, values: KnownValues) -> Optional[str]:
-    name = found["name"]
-    known, default = values.known(name), None
-    if found["default"] is None and name in WORDS:
-        return name
-    if found["default"] is not None:
-        written = literal(text(found, "default"))
-        default = None if written is None else is_true(written)
-        if default is None or found["falsy"] and default and not all(known or ()):
-            return None
-    if known is None or not known and default is None:
-        return None
-    if all(isinstance(value, bool) for value in known):
-        return name + default_text(default, "true", "false")
-    if all(isinstance(value, str) for value in known):
-        words = sorted({"true", *(str(value) for value in known if is_true(value))})
-        listed = ", ".join(f"'{word}'" for word in words)
-        return f"({name}{default_text(default, QUOTED_TRUE, QUOTED_FALSE)} in [{listed}])"
-    return None
-
-
-def default_text(default: Optional[bool], when_true: str, when_false: str) -> str:
-    return "" if default is None else f" | default({when_true if default else when_false})"
-
-
-def plain_defaults(expression: str, values: KnownValues) -> str:
-    """`default(x, true)` is `default(x)` where no value that stands before it may be empty or false."""
-    if "default" not in expression:
-        return expression
-    return replaced(expression, FALSY, lambda found, text: unconditional(found, text, values))
-
-
-def unconditional(found: Match[str], text: Group, values: KnownValues) -> Optional[str]:
-    known = values.known(found["name"])
-    if not found["falsy"] or known is None or not all(known):
-        return None
-    return f"{found['name']} | default({text(found, 'default')})"
-
-
-def replaced(expression: str, pattern: Pattern[str], change: Callable[[Match[str], Group], Optional[str]]) -> str:
-    """The expression with what a pattern finds outside of its texts replaced, where `change` answers something."""
-    if "|" not in expression:
-        return expression
-    parts, at = [], 0
-    for found in pattern.finditer(read_once(expression).filled("'")):
-        new = change(found, lambda match, group: expression[match.start(group):match.end(group)].strip())
-        if new is not None:
-            parts += [expression[at:found.start()], new]
-            at = found.end()
-    return "".join([*parts, expression[at:]])
-
-
-def literal(text: str) -> Atom:
-    """The value of a literal as an expression writes it, or None where it is something else."""
-    if text in WORDS:
-        return WORDS[text]
-    if re.fullmatch(r"-?\d{1,18}", text):
-        return int(text)
-    quoted = re.fullmatch(r"'([^'\\]*)'|\"([^\"\\]*)\"", text)
-    return (quoted[1] if quoted[1] is not None else quoted[2]) if quoted else None
 
 
 EXPRESSION_PASSES = (plain_truths, plain_defaults, stand_ins)

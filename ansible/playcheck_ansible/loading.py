@@ -7,13 +7,14 @@ from dataclasses import replace
 from typing import List, Optional, Tuple, Union
 
 from .books import Book, Play, Raw, Step, Task, items_of
+from .contexts import Context, Count
 from .looking_up import note_collections
-from .nodes import Mapping, Node, Pairs, Scalar, Sequence, has_template, is_nothing, is_text, items_or_one, made, plain
+from .nodes import (Mapping, Node, Pairs, Scalar, Sequence, as_node, as_value, has_template, is_nothing, is_text,
+                    items_or_one)
 from .positions import read_file
 from .precedence import Given, Source
 from .problems import Place, Problem
-from .steps import (MOST_INCLUDES, Context, Count, found_file, include_key, left_include, put_role_parts, role_blocks,
-                    steps_of)
+from .steps import MOST_INCLUDES, found_file, include_key, left_include, put_role_parts, role_blocks, steps_of
 from .tags import tags_of
 
 # The profile has so many lines at most.
@@ -67,7 +68,7 @@ def imported_plays(item: Mapping, key: str, path: str, open_files: Tuple[str, ..
 def left_play(item: Mapping, key: str) -> Play:
     """In the place of a playbook whose name isn't known: a play with a task that isn't judged."""
     task = Task(Mapping({key: item[key]}, item.place, {key: item.keys[key]}), item.place)
-    words = {"hosts": made("all", item.place), "gather_facts": made(False, item.place)}
+    words = {"hosts": as_node("all", item.place), "gather_facts": as_node(False, item.place)}
     tasks: List[Step] = [left_include(task, "`import_playbook` with a name that is no literal text")]
     return Play(Mapping(words, item.place), item.place, {"tasks": tasks})
 
@@ -83,15 +84,15 @@ def add_words(play: Play | Raw, item: Mapping, key: str) -> None:
             play.reason = play.reason or "it is imported under a condition"
         elif word == "tags":
             tags = sorted(tags_of(item) | tags_of(play.words))
-            play.words.put("tags", made(tags, part.place))
+            play.words.put("tags", as_node(tags, part.place))
         elif word not in (key, "name"):
-            play.asked.append(part)
+            play.evaluated.append(part)
 
 
 def play_of(item: Mapping, path: str, count: Count) -> Play:
     words = item.copy()
     name = item.get("name") or item.get("hosts")
-    context = Context(path, os.path.dirname(path), str(plain(name)) if isinstance(name, Scalar) else "", count)
+    context = Context(path, os.path.dirname(path), str(as_value(name)) if isinstance(name, Scalar) else "", count)
     play = Play(words, item.place, {})
     roles = role_blocks(play, context)
     # In this order Ansible reads what roles the parts of a play import.
@@ -120,7 +121,7 @@ def variables_of(node: Node, play: Play, context: Context) -> Pairs:
     """The variables of a file; what can't be read by its name is said, and names may come from it."""
     for choice in items_or_one(node):
         if not is_text(choice) or has_template(choice.value):
-            play.unseen_files.append((node.place, "a file of variables named by a template: its names aren't known"))
+            play.unread_files.append((node.place, "a file of variables named by a template: its names aren't known"))
             return {}
         path = found_file(choice.value, context, "vars")
         if path:
@@ -128,7 +129,7 @@ def variables_of(node: Node, play: Play, context: Context) -> Pairs:
             if isinstance(read, Mapping):
                 return read.pairs
             if not is_nothing(read):
-                play.unseen_files.append((node.place, f"{choice.value} is no mapping: its names aren't known"))
+                play.unread_files.append((node.place, f"{choice.value} is no mapping: its names aren't known"))
             return {}
-    play.unseen_files.append((node.place, "a file of variables isn't there: its names aren't known"))
+    play.unread_files.append((node.place, "a file of variables isn't there: its names aren't known"))
     return {}

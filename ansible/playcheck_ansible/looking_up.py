@@ -7,10 +7,10 @@ from typing import Callable, Iterable, Iterator, List
 
 from .ansible_core import TRUST, Trust, own_text
 from .books import Block, Book, Holder, Play, Step, Task, is_module
-from .identifiers import NAME
 from .modules import INCLUDES, PREFIXES, UNKNOWN, Modules, ansible_name, short_name
 from .nodes import Mapping, is_text, texts_of
 from .problems import Problem
+from .tokens import NAME
 
 SECONDS = 60
 # What is no name of a module isn't asked: it might be taken for an option.

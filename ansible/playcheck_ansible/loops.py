@@ -6,19 +6,18 @@ import re
 from typing import TYPE_CHECKING, List, Optional
 
 from .expressions import read_once
-from .identifiers import VARIABLE
-from .kinds import asked_word, wrong_word
+from .kinds import evaluated_word, wrong_word
 from .names import GRAMMAR, KNOWN, MAGIC, expressions_of, given_names, mentioned, names_of_vars, read_places
-from .nodes import Mapping, Node, Sequence, has_template, is_nothing, is_text, items_or_one, made, pairs_in, texts_of
+from .nodes import Mapping, Node, Sequence, as_node, has_template, is_nothing, is_text, items_or_one, pairs_in, texts_of
 from .rewriting import Change, changed_texts, rewrite_words
+from .tokens import VARIABLE
 from .values import is_whole
 
 if TYPE_CHECKING:
     from .books import Task
-    from .modules import Modules
 
 
-def dict_loops(task: Task, modules: Modules) -> None:
+def dict_loops(task: Task) -> None:
     """`with_dict` of literal mappings is a list of their pairs."""
     node = task.words.get("with_dict")
     dicts = [one for one in items_or_one(node) if isinstance(one, Mapping)]
@@ -26,13 +25,13 @@ def dict_loops(task: Task, modules: Modules) -> None:
         return
     if any(has_template(key) for one in dicts for key in one.pairs):
         return
-    items: List[Node] = [made({"key": key, "value": part}, one.place_of(key))
+    items: List[Node] = [as_node({"key": key, "value": part}, one.place_of(key))
                          for one in dicts for key, part in one.pairs.items()]
     task.words.put("loop", Sequence(items, node.place))
     task.words.take("with_dict")
 
 
-def loop_variables(task: Task, modules: Modules) -> None:
+def loop_variables(task: Task) -> None:
     """A loop variable with a name of its own is `item`, where nothing else of the task has one of the two names."""
     control = task.words.get("loop_control")
     named = control.get("loop_var") if isinstance(control, Mapping) else None
@@ -45,7 +44,7 @@ def loop_variables(task: Task, modules: Modules) -> None:
             task.leave(f"`loop_var`: {reason}", named.place)
             return
         rewrite_words(task.words, renaming(named.value), lists)
-        task.asked = [changed_texts(node, renaming(named.value)) for node in task.asked]
+        task.evaluated = [changed_texts(node, renaming(named.value)) for node in task.evaluated]
     changed = task.words["loop_control"]
     others = {key: node for key, node in pairs_in(changed).items() if key != "loop_var"}
     task.words.put("loop_control", Mapping(others, changed.place))
@@ -60,17 +59,17 @@ def loop_variable_bar(task: Task, named: Node, lists: List[str]) -> str:
         return f"'{name}' is a name that Ansible gives"
     both = {name, "item"}
     of_list = [expression for key in lists for expression, _ in expressions_of(task.words.get(key), False)]
-    others = given_names(task) | names_of_vars(task.words) | task.outer_names
+    others = given_names(task) | names_of_vars(task.words) | task.judging.outer_names
     if both & set().union(others, *(read_once(expression).names for expression in of_list)):
         return f"'{name}' or 'item' is used elsewhere too"
     inside = Mapping({key: part for key, part in task.words.pairs.items() if key not in lists}, task.place)
-    if "item" in mentioned(inside, task.asked):
+    if "item" in mentioned(inside, task.evaluated):
         return "'item' is read too"
-    texts = [text.value for node in [*task.words.pairs.values(), *task.asked] for text in texts_of(node)]
+    texts = [text.value for node in [*task.words.pairs.values(), *task.evaluated] for text in texts_of(node)]
     notified = [text.value for text in texts_of(task.words.get("notify"))]
     if any("{%" in text for text in texts) or any(name in text for text in notified):
         return "it may be read where it can't be followed"
-    if any(is_hidden(name, expression) for expression, _ in read_places(inside, task.asked)):
+    if any(is_hidden(name, expression) for expression, _ in read_places(inside, task.evaluated)):
         return "it may be read where it can't be followed"
     return ""
 
@@ -92,7 +91,7 @@ def renaming(name: str) -> Change:
     return change
 
 
-def loops(task: Task, modules: Modules) -> None:
+def loops(task: Task) -> None:
     """`with_list`, and `with_items` one level flat, are `loop`; a label of `loop_control` is asked."""
     if "with_list" in task.words:
         task.words.put("loop", task.words.pairs.pop("with_list"))
@@ -117,7 +116,7 @@ def loops(task: Task, modules: Modules) -> None:
         wrong = wrong_word(key, node)
         if wrong:
             task.leave(wrong, node.place)
-        task.asked += asked_word(key, node)
+        task.evaluated += evaluated_word(key, node)
 
 
 def flat_items(node: Node) -> Optional[Node]:

@@ -7,7 +7,7 @@ import re
 from typing import TYPE_CHECKING, Callable, Dict, Iterable, Iterator, List, Set
 
 from .books import Book, Holder, Play, Raw, Task, steps_below
-from .further_facts import FURTHER
+from .documented_facts import DOCUMENTED
 from .names import MAGIC, mentioned
 from .nodes import Mapping, Record, Scalar, pairs_in, texts_of
 
@@ -57,7 +57,7 @@ def magic_variables(book: Book, inventory: Inventory, tags: Iterable[str] = (), 
 
 
 def names_in(holder: Holder) -> Iterator[str]:
-    for node in [*holder.words.pairs.values(), *holder.asked]:
+    for node in [*holder.words.pairs.values(), *holder.evaluated]:
         for text in texts_of(node):
             yield from NAMES.findall(text.value)
 
@@ -112,7 +112,7 @@ def outside_names(book: Book) -> Callable[[str], bool]:
     by_keyword = {f"ansible_{way}{KEYWORDS[word]}" for word in keywords for way in ("", "ssh_")}
 
     def is_outside(name: str) -> bool:
-        is_given = name in FURTHER or GIVEN.fullmatch(name) is not None and name not in by_keyword
+        is_given = name in DOCUMENTED or GIVEN.fullmatch(name) is not None and name not in by_keyword
         return name in MAGIC or name in by_keyword or name.startswith("ansible_") and may_gather and not is_given
 
     return is_outside
@@ -122,4 +122,4 @@ def is_gathering(play: Play) -> bool:
     """Whether facts may be set that the book doesn't show: by gathering, or by a task that isn't judged."""
     node = play.words.get("gather_facts")
     return not isinstance(node, Scalar) or node.value is not False or any(
-        task.module() == "setup" or task.reason for task in play.tasks())
+        task.module() == "setup" or task.judging.reason for task in play.tasks())

@@ -5,25 +5,17 @@ from __future__ import annotations
 from dataclasses import dataclass
 from typing import TYPE_CHECKING, Dict, Iterator, List
 
-from .nodes import Atom, Mapping, Node, Scalar, has_template, is_nothing, is_text, items_or_one, plain
-from .truths import FALSE_WORDS, TRUE_WORDS
-from .values import as_int, as_list
+from .nodes import Atom, Mapping, Node, Scalar, as_value, has_template, is_nothing, is_text, items_or_one
+from .problems import Mistake
+from .values import FALSE_WORDS, TRUE_WORDS, as_int, as_list
 from .wording import nearest
 
 if TYPE_CHECKING:
     from .books import Task
     from .modules import Choices, Documented, Modules
-    from .problems import Place
 
 MOST_CHOICES = 12
 BACK = {"True": TRUE_WORDS, "False": FALSE_WORDS}
-
-
-@dataclass
-class Mistake:
-    code: str
-    place: Place
-    detail: str
 
 
 def documented_values(task: Task, modules: Modules) -> None:
@@ -42,17 +34,17 @@ def documented_values(task: Task, modules: Modules) -> None:
         given.setdefault(modules.aliases[module].get(name, name), []).append(name)
     for option in known.required:
         if option not in given:
-            task.mistakes.append(Mistake("A-required", place, f"`{option}` of {known.name} is missing"))
+            task.judging.mistakes.append(Mistake("A-required", place, f"`{option}` of {known.name} is missing"))
     for option, names in given.items():
         if len(names) > 1:
             place = node.keys.get(names[1]) or node.place
             told = f"`{names[0]}` and `{names[1]}` of {known.name} are one"
-            task.mistakes.append(Mistake("A-alias", place, told))
+            task.judging.mistakes.append(Mistake("A-alias", place, told))
         for name in names:
             if option in known.choices:
                 is_list = modules.parameters[module].get(option) in ("list", "ints")
                 value = as_list(node[name]) if is_list else node[name]
-                task.mistakes += wrong_choices(value, name, known, known.choices[option])
+                task.judging.mistakes += wrong_choices(value, name, known, known.choices[option])
 
 
 def wrong_choices(node: Node, name: str, known: Documented, choices: Choices) -> Iterator[Mistake]:
@@ -77,7 +69,7 @@ def is_choice(node: Scalar[Atom], choices: Choices) -> bool:
     if not choices or is_nothing(node) or is_text(node) and has_template(node.value):
         return True
     if isinstance(choices[0], int):
-        number = plain(as_int(node))
+        number = as_value(as_int(node))
         return isinstance(number, bool) or not isinstance(number, int) or number in choices
     text = str(node.value)
     # YAML makes truth values of words as `yes`: Ansible takes the one choice that is such a word.

@@ -61,7 +61,7 @@ FREE_TEXTS = {"raw": "free_form", "script": "free_form", "ansible.windows.win_co
               "ansible.windows.win_shell": "free_form", "win_command": "free_form", "win_shell": "free_form"}
 INCLUDES = ("include", "include_tasks", "import_tasks", "include_role", "import_role", "import_playbook")
 # Modules that may set names or groups which the book doesn't show.
-SETS_UNSEEN = ("include_vars", "package_facts", "service_facts", "set_stats", "gather_facts", "add_host", "group_by")
+SETS_UNKNOWN = ("include_vars", "package_facts", "service_facts", "set_stats", "gather_facts", "add_host", "group_by")
 # Ansible's own modules that the profile lacks: one of them may be meant by a name that nothing knows.
 CORE = ("add_host", "apt", "apt_key", "apt_repository", "assemble", "async_status", "blockinfile", "cron", "debconf",
         "dnf", "dpkg_selections", "expect", "fetch", "find", "gather_facts", "get_url", "getent", "git", "group",
@@ -99,7 +99,7 @@ class Modules:
     def __post_init__(self) -> None:
         self.parameters = dict(PROFILE)
         self.aliases = {name: dict(given) for name, given in ALIASES.items()}
-        self.asked = {name: set(given) for name, given in PASSED_OVER.items()}
+        self.passed_over = {name: set(given) for name, given in PASSED_OVER.items()}
         self.written: Dict[str, str] = {}  # Ansible's name of a module to the one that it is declared under
         self.open: Set[str] = set()  # modules that take any parameter
         self.files: Dict[str, str] = {}  # of a module of a collection the file of its text
@@ -117,7 +117,7 @@ class Modules:
         file = further.get("file")
         self.written[ansible_name(module)] = name
         self.aliases[name] = {one: str(other) for one, other in record_of(further.get("aliases")).items()}
-        self.asked[name] = set(names_of(further.get("asked")))
+        self.passed_over[name] = set(names_of(further.get("asked")))
         self.open |= {name} if further.get("open") else set()
         if isinstance(file, str):
             self.files[name] = file
@@ -135,7 +135,7 @@ class Modules:
 
     def undocumented(self, name: str, given: Iterable[str]) -> Set[str]:
         """Those of these parameters that the documentation of a module lacks and its text has."""
-        known = {*self.parameters[name], *self.asked.get(name, ()), *self.aliases.get(name, {})}
+        known = {*self.parameters[name], *self.passed_over.get(name, ()), *self.aliases.get(name, {})}
         unknown = [one for one in given if one not in known] if name in self.files else []
         if not unknown:
             return set()

@@ -39,7 +39,7 @@ def expressions_of_template(text: str) -> Tuple[str, ...]:
     return tuple(text[start + 2:end - 2] for start, end in template_spans(text))
 
 
-def read_places(words: Mapping, asked: Iterable[Node] = ()) -> Iterator[Read]:
+def read_places(words: Mapping, evaluated: Iterable[Node] = ()) -> Iterator[Read]:
     """Each expression of a task's words, with the node in which it stands."""
     for key, node in words.pairs.items():
         if key == "assert" and isinstance(node, Mapping):
@@ -47,7 +47,7 @@ def read_places(words: Mapping, asked: Iterable[Node] = ()) -> Iterator[Read]:
                 yield from expressions_of(part, name == "that")
         elif key not in ("name", "notify", "listen", "register"):
             yield from expressions_of(node, key in CONDITIONS)
-    for node in asked:
+    for node in evaluated:
         yield from expressions_of(node, False)
 
 
@@ -72,17 +72,17 @@ def outside_node(node: Node, is_condition: bool = False) -> Tuple[str, Optional[
     return "", None
 
 
-def mentioned(words: Mapping, asked: Iterable[Node] = ()) -> Set[str]:
+def mentioned(words: Mapping, evaluated: Iterable[Node] = ()) -> Set[str]:
     """All names that a task's texts mention; a field of `ansible_facts` is named as the fact itself."""
     names: Set[str] = set()
-    for expression, _ in read_places(words, asked):
+    for expression, _ in read_places(words, evaluated):
         names |= read_once(expression).mentioned
     return names
 
 
 def given_names(task: Task) -> Set[str]:
     """The names that a task sets: its register, what `set_fact` sets, and what is known besides."""
-    names = set(task.gives)
+    names = set(task.judging.sets)
     register = task.words.get("register")
     if is_text(register):
         names.add(register.value)

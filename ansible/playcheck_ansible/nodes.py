@@ -73,34 +73,34 @@ Parts = Union[Atom, Node, Listed["Parts"], Keyed[str, "Parts"]]
 
 
 @overload
-def made(value: Keyed[str, Parts], place: Place) -> Mapping: ...
+def as_node(value: Keyed[str, Parts], place: Place) -> Mapping: ...
 
 
 @overload
-def made(value: Parts, place: Place) -> Node: ...
+def as_node(value: Parts, place: Place) -> Node: ...
 
 
-def made(value: Parts, place: Place) -> Node:
+def as_node(value: Parts, place: Place) -> Node:
     """The node of a plain value that no file holds, at the place for which it was made."""
     if isinstance(value, (Scalar, Sequence, Mapping)):
         return value
     if value is None or isinstance(value, (bool, int, float, str)):
         return Scalar(value, place, "" if value is None else str(value))
     if isinstance(value, dict):
-        return Mapping({key: made(part, place) for key, part in value.items()}, place, dict.fromkeys(value, place))
-    return Sequence([made(item, place) for item in value], place)
+        return Mapping({key: as_node(part, place) for key, part in value.items()}, place, dict.fromkeys(value, place))
+    return Sequence([as_node(item, place) for item in value], place)
 
 
-def plain(node: Node) -> Value:
+def as_value(node: Node) -> Value:
     if isinstance(node, Mapping):
-        return plain_pairs(node)
+        return as_values(node)
     if isinstance(node, Sequence):
-        return [plain(item) for item in node.items]
+        return [as_value(item) for item in node.items]
     return node.value
 
 
-def plain_pairs(node: Mapping) -> Record:
-    return {key: plain(part) for key, part in node.pairs.items()}
+def as_values(node: Mapping) -> Record:
+    return {key: as_value(part) for key, part in node.pairs.items()}
 
 
 def is_text(node: Optional[Node]) -> TypeGuard[Text]:

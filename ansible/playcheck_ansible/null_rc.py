@@ -31,7 +31,7 @@ def leave_readers_of_null(book: Book) -> None:
 
 def gives_null(task: Task) -> bool:
     node = task.words.get(task.module() or "")
-    goes_on = task.is_outlived or "failed_when" in task.words or "until" in task.words
+    goes_on = task.judging.is_outlived or "failed_when" in task.words or "until" in task.words
     return (task.module() in PROGRAMS and isinstance(node, Mapping) and "chdir" in node and goes_on
             and bool(register_of(task)))
 
@@ -43,7 +43,7 @@ def places(step: Play | Block | Task) -> Iterator[Tuple[str, bool]]:
     others = Mapping({key: node for key, node in step.words.pairs.items() if key not in kept.pairs}, step.place)
     for node in kept.pairs.values():
         yield from ((expression, True) for expression, _ in expressions_of(node, False))
-    yield from ((expression, False) for expression, _ in read_places(others, step.asked))
+    yield from ((expression, False) for expression, _ in read_places(others, step.evaluated))
 
 
 def is_read(expression: str, goes_on: bool, names: Set[str]) -> bool:

@@ -23,12 +23,12 @@ def note_outlived(play: Play) -> None:
     forced = play.words.get("force_handlers")
     is_forced = forced is not None and not (isinstance(forced, Scalar) and forced.value is False)
     for task in play.tasks():
-        task.is_free, task.is_outlived = is_free, is_forced or ignores(task)
+        task.judging.is_free, task.judging.is_outlived = is_free, is_forced or ignores(task)
     for block in play.blocks():
         if block.parts.get("rescue") or block.parts.get("always") or ignores(block):
             for step in steps_below([block]):
                 if isinstance(step, Task):
-                    step.is_outlived = True
+                    step.judging.is_outlived = True
 
 
 def is_word(play: Play, word: str, value: str) -> bool:
@@ -47,7 +47,7 @@ def leave_readers_of_items(book: Book) -> None:
     Such a loop counts as failed, and the host goes on with a result that has none of the module's fields.
     """
     loops = {name: task for task in book.tasks() for name in [register_of(task)]
-             if name and "loop" in task.words and task.is_outlived and task.module() not in ACTIONS}
+             if name and "loop" in task.words and task.judging.is_outlived and task.module() not in ACTIONS}
     for play in book.plays if loops else ():
         for holder in [play, *play.steps()] if isinstance(play, Play) else ():
             if not isinstance(holder, Raw):
@@ -61,7 +61,7 @@ def register_of(task: Task) -> str:
 
 def leave_reader(holder: "Play | Block | Task", loops: "dict[str, Task]") -> None:
     if isinstance(holder, Task):
-        found = read_in(holder.words, holder.asked, loops)
+        found = read_in(holder.words, holder.evaluated, loops)
         if found and loops[found] is not holder:
             holder.leave(told(found, loops))
         return
@@ -70,7 +70,7 @@ def leave_reader(holder: "Play | Block | Task", loops: "dict[str, Task]") -> Non
         if found:
             holder.lost[name] = f"its value on line {node.place.line} is read where {told(found, loops)}"
     found = read_in(Mapping({key: node for key, node in holder.words.pairs.items() if key != "vars"}, holder.place),
-                    holder.asked, loops)
+                    holder.evaluated, loops)
     for task in steps_below([holder]) if found and isinstance(holder, Block) else ():
         if isinstance(task, Task):
             task.leave(told(found, loops))
@@ -81,9 +81,9 @@ def told(name: str, loops: "dict[str, Task]") -> str:
             "unreachable behind one that failed")
 
 
-def read_in(words: Mapping, asked: Iterable[Node], loops: "dict[str, Task]") -> str:
+def read_in(words: Mapping, evaluated: Iterable[Node], loops: "dict[str, Task]") -> str:
     """The first of these names whose items an expression may read."""
-    for expression, _ in read_places(words, asked):
+    for expression, _ in read_places(words, evaluated):
         by_text = "hostvars" in expression or "vars" in expression
         for found in ITEMS_READ.finditer(expression if by_text else read_once(expression).bare):
             if found["name"] in loops and (by_text or not found["dot"]):

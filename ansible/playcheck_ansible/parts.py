@@ -7,7 +7,7 @@ from dataclasses import dataclass, replace
 from typing import Iterable, List, Optional, Tuple, Union
 
 from .expression_parser import Unfit
-from .truths import TRUE_FOR_FILTER, is_true
+from .values import TRUE_FOR_FILTER, is_true
 
 # How tightly the profile binds: what stands in a looser part is put into parentheses.
 OR, AND, NOT, RELATION, OPERAND, PLAIN = range(6)
@@ -15,7 +15,7 @@ OR, AND, NOT, RELATION, OPERAND, PLAIN = range(6)
 Literal = Union[None, bool, int, float, str]
 
 
-@dataclass(frozen=True)
+@dataclass(eq=False)
 class Part:
     text: Optional[str]  # None where the profile has no such value
     kind: str = ""  # bool, int, text, float or split (a text that was divided) where it is known

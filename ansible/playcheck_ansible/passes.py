@@ -3,15 +3,17 @@
 # docs/FROM_ANSIBLE.md says of each why it keeps the meaning.
 from __future__ import annotations
 
+from typing import Callable, Tuple
+
 from .arguments import merged_args, messages, name_value_texts, parameters
 from .books import Task, is_module
 from .flow_words import flow_words, pass_over, passed_words
-from .kinds import asked_word
+from .kinds import evaluated_word
 from .loops import dict_loops, loop_variables, loops
 from .mistakes import documented_values
-from .modules import CORE, SETS_UNSEEN, UNKNOWN, Modules, short_name
+from .modules import CORE, SETS_UNKNOWN, UNKNOWN, Modules, short_name
 from .names import mentioned
-from .nodes import Mapping, Node, Scalar, Sequence, has_template, is_nothing, is_text, made, texts_of
+from .nodes import Mapping, Node, Scalar, Sequence, as_node, has_template, is_nothing, is_text, texts_of
 from .values import as_bool, as_int, converted, is_whole
 from .wording import nearest
 
@@ -26,13 +28,16 @@ SHORT = 5
 
 def run_passes(task: Task, modules: Modules) -> None:
     """All passes over a task, in their order; where one finds a form outside the profile the rest is left."""
-    for one in TASK_PASSES:
-        if task.reason:
-            return
-        one(task, modules)
+    for of_words, of_modules in ROUNDS:
+        for one in of_words:
+            if not task.judging.reason:
+                one(task)
+        for other in of_modules:
+            if not task.judging.reason:
+                other(task, modules)
 
 
-def plain_keywords(task: Task, modules: Modules) -> None:
+def plain_keywords(task: Task) -> None:
     """`yes`, numbers as texts and nothing at all, as Ansible takes them for keywords."""
     words = task.words
     for key in TRUTHS:
@@ -46,13 +51,13 @@ def plain_keywords(task: Task, modules: Modules) -> None:
             bounded_retries(task)
     ignores = words.get("ignore_errors")
     if is_whole(ignores) and not task.is_handler:
-        task.asked += asked_word("ignore_errors", ignores)
-        task.may_ignore = Scalar(ignores.value.strip()[2:-2].strip(), ignores.place, ignores.text, True)
-        words.put("ignore_errors", made(True, ignores.place))
+        task.evaluated += evaluated_word("ignore_errors", ignores)
+        task.judging.ignore_condition = Scalar(ignores.value.strip()[2:-2].strip(), ignores.place, ignores.text, True)
+        words.put("ignore_errors", as_node(True, ignores.place))
     for key in ("name", "register"):
         node = words.get(key)
         if isinstance(node, Scalar) and isinstance(node.value, (int, float)):
-            words.put(key, made(node.text, node.place))
+            words.put(key, as_node(node.text, node.place))
     for key in ("when", "vars", "notify", "loop", "changed_when", "failed_when", "name", "args"):
         if key in words and is_nothing(words.get(key)):
             words.take(key)
@@ -63,13 +68,13 @@ def bounded_retries(task: Task) -> None:
     node = task.words["retries"]
     number = node.value if isinstance(node, Scalar) and isinstance(node.value, int) else None
     if is_whole(node) or number is not None and number > MOST_RETRIES:
-        task.has_no_bound = True
-        task.words.put("retries", made(MOST_RETRIES, node.place))
+        task.judging.has_no_bound = True
+        task.words.put("retries", as_node(MOST_RETRIES, node.place))
         if number is None:
-            task.asked += asked_word("retries", node)
+            task.evaluated += evaluated_word("retries", node)
 
 
-def plain_conditions(task: Task, modules: Modules) -> None:
+def plain_conditions(task: Task) -> None:
     """A condition in braces is the expression itself."""
     for key in ("when", "changed_when", "failed_when", "until"):
         if key in task.words:
@@ -84,7 +89,7 @@ def without_braces(node: Node) -> Node:
     return node
 
 
-def action_words(task: Task, modules: Modules) -> None:
+def action_words(task: Task) -> None:
     """`action` and `local_action` with a module's name become that module."""
     for key in ("action", "local_action"):
         node = task.words.take(key)
@@ -94,7 +99,7 @@ def action_words(task: Task, modules: Modules) -> None:
         arguments: Node
         if is_text(node):
             name, _, text = node.value.strip().partition(" ")
-            arguments = made(text.strip() or None, node.place)
+            arguments = as_node(text.strip() or None, node.place)
         elif isinstance(node, Mapping) and is_text(module):
             name, copied = module.value, node.copy()
             copied.take("module")
@@ -120,7 +125,7 @@ def plain_module_names(task: Task, modules: Modules) -> None:
             task.words.keys[name] = place or node.place
 
 
-def unread_vars(task: Task, modules: Modules) -> None:
+def unread_vars(task: Task) -> None:
     """A name of a task's `vars` that holds `omit` and that nothing reads is dropped: it is never evaluated."""
     given = task.words.get("vars")
     if not isinstance(given, Mapping):
@@ -130,7 +135,7 @@ def unread_vars(task: Task, modules: Modules) -> None:
         if not any("omit" in text.value for text in texts_of(node)):
             continue
         others = Mapping({**task.words.pairs, "vars": without(kept, name)}, task.place)
-        if name not in mentioned(others, task.asked) | task.outer_names:
+        if name not in mentioned(others, task.evaluated) | task.judging.outer_names:
             kept.take(name)
     task.words.put("vars", kept)
     if not kept.pairs:
@@ -150,9 +155,9 @@ def known_module(task: Task, modules: Modules) -> None:
     why = modules.unknown.get(module, modules.unasked)
     told = f"the module `{module}` is neither built in nor declared{': ' * bool(why)}{why}{meant(module, modules)}"
     task.leave(told, task.words.keys.get(module) or node.place)
-    if not task.is_handler and module not in SETS_UNSEEN:
-        task.is_still_asked = True
-        task.asked += [converted(text, "omitted") for text in texts_of(node)]
+    if not task.is_handler and module not in SETS_UNKNOWN:
+        task.judging.asks_templates = True
+        task.evaluated += [converted(text, "omitted") for text in texts_of(node)]
 
 
 def meant(module: str, modules: Modules) -> str:
@@ -163,7 +168,7 @@ def meant(module: str, modules: Modules) -> str:
     return f". Did you mean '{near}'?" if near else ""
 
 
-def meta_actions(task: Task, modules: Modules) -> None:
+def meta_actions(task: Task) -> None:
     """Of `meta` the profile has `flush_handlers`; `noop` and `reset_connection` do nothing to the flow."""
     node = task.words.get("meta")
     if not is_text(node):
@@ -171,11 +176,11 @@ def meta_actions(task: Task, modules: Modules) -> None:
     word = node.value.strip()
     if word in NO_FLOW:
         task.words.take("meta")
-        task.words.put("debug", made({"msg": ""}, node.place))
+        task.words.put("debug", as_node({"msg": ""}, node.place))
     elif word != "flush_handlers":
-        task.ends_host = word in ENDS
-        task.sets_unseen = not task.ends_host
-        task.forgets = word in ("clear_facts", "clear_host_errors")
+        task.judging.ends_host = word in ENDS
+        task.judging.sets_unknown = not task.judging.ends_host
+        task.judging.forgets = word in ("clear_facts", "clear_host_errors")
         task.leave(f"`meta: {word}`", node.place)
     elif "when" in task.words:
         task.leave("`meta: flush_handlers` with a condition", node.place)
@@ -185,6 +190,10 @@ def meta_actions(task: Task, modules: Modules) -> None:
                 task.words.take(key)
 
 
-TASK_PASSES = (plain_keywords, plain_conditions, action_words, plain_module_names, flow_words, name_value_texts,
-               merged_args, passed_words, messages, unread_vars, dict_loops, loop_variables, loops, known_module,
-               meta_actions, documented_values, parameters)
+# In this order: by turns those that read a task's words alone, and those that ask what is known of modules.
+ROUNDS: Tuple[Tuple[Tuple[Callable[[Task], None], ...], Tuple[Callable[[Task, Modules], None], ...]], ...] = (
+    ((plain_keywords, plain_conditions, action_words), (plain_module_names,)),
+    ((flow_words,), (name_value_texts,)),
+    ((merged_args, passed_words, messages, unread_vars, dict_loops, loop_variables, loops), (known_module,)),
+    ((meta_actions,), (documented_values, parameters)),
+)

@@ -9,8 +9,8 @@ from .printing import json_of, line_of
 from .wording import message_of, verdict_of
 
 if TYPE_CHECKING:
-    from .checking import Report, Unjudged
     from .problems import Place
+    from .reports import Report, Unjudged
 
 SARIF_SCHEMA = "https://json.schemastore.org/sarif-2.1.0.json"
 NOT_JUDGED = "not-judged"

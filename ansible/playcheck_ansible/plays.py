@@ -3,20 +3,20 @@
 from __future__ import annotations
 
 import re
-from typing import TYPE_CHECKING, Iterable, List, Match, Optional, Set
+from typing import TYPE_CHECKING, Callable, Iterable, List, Match, Optional, Set, Tuple
 
 from .books import SECTIONS, Block, Book, Play, Raw, Task, steps_below
 from .flow_words import FLOW, PASSED
 from .gathering import gathered_by_tasks, gathered_facts
-from .identifiers import VARIABLE
 from .inclusion import leave_early_notifiers
-from .kinds import FIRST, asked_word, wrong_word
+from .kinds import FIRST, evaluated_word, wrong_word
 from .names import mentioned, names_of_vars
-from .nodes import (Mapping, Node, Pairs, Scalar, Sequence, has_template, is_literal, is_nothing, is_text, items_or_one,
-                    made, pairs_in)
+from .nodes import (Mapping, Node, Pairs, Scalar, Sequence, as_node, has_template, is_literal, is_nothing, is_text,
+                    items_or_one, pairs_in)
 from .null_rc import leave_readers_of_null
 from .outlived import leave_readers_of_items, note_outlived
 from .passes import TRUTHS, run_passes, without_braces
+from .tokens import VARIABLE
 from .values import as_bool, as_int
 
 if TYPE_CHECKING:
@@ -33,8 +33,11 @@ STRATEGIES = {"debug": "linear", "ansible.builtin.linear": "linear", "ansible.bu
 def run_book_passes(book: Book, modules: Modules, extra: Pairs) -> None:
     """All passes over a book: its plays, their blocks and their tasks."""
     for play in book.read_plays():
-        for one in PLAY_PASSES:
-            one(play, extra)
+        for of_words, of_extra in PLAY_ROUNDS:
+            for one in of_words:
+                one(play)
+            for other in of_extra:
+                other(play, extra)
         note_outer_names(play)
         leave_tagged(play)
         note_outlived(play)
@@ -56,9 +59,9 @@ def note_outer_names(play: Play) -> None:
     """Tells the tasks with `vars` or a loop variable of their own which names are mentioned round them."""
     tasks = [task for task in play.tasks() if "loop_control" in task.words or "vars" in task.words]
     if tasks:
-        names: Set[str] = set().union(*(mentioned(holder.words, holder.asked) for holder in play.containers()))
+        names: Set[str] = set().union(*(mentioned(holder.words, holder.evaluated) for holder in play.containers()))
         for task in tasks:
-            task.outer_names = names
+            task.judging.outer_names = names
 
 
 def leave_tagged(play: Play) -> None:
@@ -75,7 +78,7 @@ def leave_all(tasks: Iterable[Task], reason: str) -> None:
         task.leave(reason)
 
 
-def empty_sections(play: Play, extra: Pairs) -> None:
+def empty_sections(play: Play) -> None:
     """A word without a value is none, and truth values, numbers and strategies are what Ansible makes of them."""
     words = play.words
     for key in (*SECTIONS, "handlers", "vars", "vars_files", "roles", "name", "gather_facts", "serial", "strategy"):
@@ -86,7 +89,7 @@ def empty_sections(play: Play, extra: Pairs) -> None:
             words.put(key, as_bool(words[key]))
     strategy = words.get("strategy")
     if is_text(strategy) and strategy.value in STRATEGIES:
-        words.put("strategy", made(STRATEGIES[strategy.value], strategy.place))
+        words.put("strategy", as_node(STRATEGIES[strategy.value], strategy.place))
     if "serial" in words:
         words.put("serial", counts(words["serial"]))
     plain_name(words)
@@ -96,7 +99,7 @@ def plain_name(words: Mapping) -> None:
     """A number as a name is a text; what is no single value is none."""
     name = words.get("name")
     if isinstance(name, Scalar) and not isinstance(name.value, str):
-        words.put("name", made(name.text, name.place))
+        words.put("name", as_node(name.text, name.place))
     elif name is not None and not isinstance(name, Scalar):
         words.take("name")
 
@@ -142,7 +145,7 @@ def named_hosts(play: Play, extra: Pairs) -> None:
     found = [looked_up(text, play, extra) for text in items_or_one(node)]
     if any(is_text(text) and has_template(text.value) for text in found):
         play.reason = play.reason or "the play's `hosts` are a template"
-        play.words.put("hosts", made("all", node.place))
+        play.words.put("hosts", as_node("all", node.place))
     else:
         play.words.put("hosts", Sequence(found, node.place) if isinstance(node, Sequence) else found[0])
 
@@ -162,11 +165,11 @@ def looked_up(node: Node, play: Play, extra: Pairs) -> Node:
     return Scalar(LOOKED_UP.sub(value, node.value), node.place, node.text, True)
 
 
-def play_words(play: Play, extra: Pairs) -> None:
+def play_words(play: Play) -> None:
     """As of tasks: what changes the flow leaves all tasks of the play, the rest is asked and passed over."""
     flow = {word: play.words.take(word) for word in PLAY_FLOW}
     bars = [word for word, node in flow.items() if is_on(node, word, play)]
-    play.asked += [node for node in flow.values() if node is not None]
+    play.evaluated += [node for node in flow.values() if node is not None]
     wrong = [wrong_word(word, node) for word, node in flow.items() if node is not None and wrong_word(word, node)]
     if bars or wrong:
         play.reason = play.reason or (f"`{bars[0]}` of the play changes the flow" if bars else wrong[0])
@@ -179,7 +182,7 @@ def play_words(play: Play, extra: Pairs) -> None:
         elif node is not None and wrong_word(word, node):
             play.reason = play.reason or wrong_word(word, node)
         elif node is not None:
-            play.asked += asked_word(word, node)
+            play.evaluated += evaluated_word(word, node)
     lost_variables(play)
 
 
@@ -232,7 +235,7 @@ def block_words(block: Block, extra: Pairs) -> None:
     below = [step for step in steps_below([block]) if isinstance(step, Task)]
     if "when" in words:
         for task in below:
-            task.is_below_condition = True
+            task.judging.is_below_condition = True
     once = words.take("run_once")
     for task in below:
         if once is not None and "run_once" not in task.words:
@@ -252,11 +255,11 @@ def block_words(block: Block, extra: Pairs) -> None:
 def ask_below(block: Block, word: str, node: Node, tasks: List[Task]) -> None:
     """Asks a word of a block, at its start; of one that Ansible asks before each condition that may be too late."""
     wrong = wrong_word(word, node)
-    is_late = word in FIRST and not is_literal(node) and any(task.is_below_condition for task in tasks)
+    is_late = word in FIRST and not is_literal(node) and any(task.judging.is_below_condition for task in tasks)
     if wrong or is_late:
         leave_all(tasks, wrong or f"`{word}` is asked before the condition of its block")
     else:
-        block.asked += asked_word(word, node)
+        block.evaluated += evaluated_word(word, node)
 
 
 def notify_below(node: Optional[Node], tasks: List[Task]) -> None:
@@ -268,4 +271,8 @@ def notify_below(node: Optional[Node], tasks: List[Task]) -> None:
         task.words.put("notify", Sequence([*items_or_one(own), *items_or_one(node)], node.place))
 
 
-PLAY_PASSES = (empty_sections, prompted_variables, extra_variables, named_hosts, gathered_facts, play_words)
+# In this order: by turns those that read a play's words alone, and those that ask for the command line's variables.
+PLAY_ROUNDS: Tuple[Tuple[Tuple[Callable[[Play], None], ...], Tuple[Callable[[Play, Pairs], None], ...]], ...] = (
+    ((empty_sections,), (prompted_variables, extra_variables, named_hosts)),
+    ((gathered_facts, play_words), ()),
+)

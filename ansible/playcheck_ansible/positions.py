@@ -6,7 +6,6 @@ import errno
 import os
 import re
 import stat
-from dataclasses import dataclass
 from typing import Dict, Iterator, List, Optional, Tuple, Union
 
 import yaml
@@ -96,14 +95,12 @@ def place_at(text: str, position: object, path: str) -> Place:
     return Place(path, text.count("\n", 0, position) + 1, position - text.rfind("\n", 0, position))
 
 
-@dataclass
 class Opened:
-    """A list or a mapping that isn't ended."""
+    """A list or a mapping that isn't ended; how many nodes came before it, and the key whose value is awaited."""
 
-    node: Union[Sequence, Mapping]
-    anchor: Optional[str]
-    before: int  # how many nodes came before it
-    key: Optional[Tuple[str, Place]] = None  # the one whose value is awaited
+    def __init__(self, node: Union[Sequence, Mapping], anchor: Optional[str], before: int) -> None:
+        self.node, self.anchor, self.before = node, anchor, before
+        self.key: Optional[Tuple[str, Place]] = None
 
 
 class Composer:

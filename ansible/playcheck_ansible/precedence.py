@@ -2,9 +2,8 @@
 # Which of the places that give a name its value wins: Ansible's 22 sources in their order, and what of them a task sees.
 from __future__ import annotations
 
-from dataclasses import dataclass
 from enum import IntEnum
-from typing import TYPE_CHECKING, Iterable, List, Mapping, Optional, Tuple
+from typing import TYPE_CHECKING, Iterable, List, Mapping, NamedTuple, Optional, Tuple
 
 if TYPE_CHECKING:
     from .nodes import Node, Pairs
@@ -37,8 +36,7 @@ class Source(IntEnum):
     EXTRA = 22
 
 
-@dataclass(frozen=True)
-class Given:
+class Given(NamedTuple):
     """What one place gives: its source, where it stands among others of that source, and its names."""
 
     source: Source

@@ -22,3 +22,11 @@ class Problem(Exception):
     def __init__(self, place: Optional[Place], what: str, status: int = 64) -> None:
         super().__init__(f"{place}: {what}" if place else what)
         self.status = status
+
+
+class Mistake(NamedTuple):
+    """What the front end refuses itself."""
+
+    code: str
+    place: Place
+    detail: str

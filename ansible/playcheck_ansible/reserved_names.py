@@ -6,14 +6,13 @@ import re
 from typing import TYPE_CHECKING, Dict, Iterable, Iterator, Set
 
 from .books import Block, Book, Play, Task, steps_below
-from .identifiers import NAME
-from .mistakes import Mistake
 from .names import KNOWN, given_names, names_of_vars
 from .nodes import Mapping, has_template, is_text
+from .problems import Mistake, Place
+from .tokens import NAME
 
 if TYPE_CHECKING:
     from .inventory import Inventory
-    from .problems import Place
 
 # Globals of templates: they are there where nothing sets the name. tests/reserved_names_checks.py compares these lists.
 GLOBALS = frozenset("cycler dict joiner lipsum lookup namespace now q query range self undef".split())
@@ -55,7 +54,7 @@ def note_mistakes(step: Play | Block | Task) -> None:
     tasks = [step] if isinstance(step, Task) else tasks_in(step)
     first = next(iter(tasks), None)
     if first is not None:
-        first.mistakes += [Mistake("A-name", place, f"'{name}' is no name of a variable{why(name)}")
+        first.judging.mistakes += [Mistake("A-name", place, f"'{name}' is no name of a variable{why(name)}")
                            for name, place in names_in(step).items() if not is_name(name)]
 
 

@@ -7,8 +7,8 @@ from typing import TYPE_CHECKING, Dict, List
 from .precedence import OF_NEEDED, OF_PLAY, OF_ROLE, Given, Source
 
 if TYPE_CHECKING:
+    from .contexts import Role
     from .nodes import Node
-    from .roles import Role
 
 
 def needed_by(role: Role) -> List[Role]:

@@ -5,17 +5,15 @@ from __future__ import annotations
 import os
 import re
 from dataclasses import dataclass, field
-from typing import TYPE_CHECKING, List, Optional, Tuple
+from typing import List, Optional
 
 from .books import Play, Task, items_of
+from .contexts import Context, Role
 from .flow_words import FLOW, PASSED
-from .nodes import (Mapping, Node, Pairs, Scalar, Sequence, has_template, is_literal, is_nothing, is_text, items_or_one,
-                    made)
+from .nodes import (Mapping, Node, Pairs, Scalar, Sequence, as_node, has_template, is_literal, is_nothing, is_text,
+                    items_or_one)
 from .positions import read_file
 from .problems import Place, Problem
-
-if TYPE_CHECKING:
-    from .steps import Context
 
 SUFFIXES = (".yml", ".yaml", ".json")
 # Words beside a role's name that are Ansible's keywords: any other is a variable of the role.
@@ -25,24 +23,6 @@ ROLE_WORDS = {"role", "name", "vars", "when", "tags", "any_errors_fatal", "becom
               "port", "remote_user", "run_once", "throttle", "timeout"}
 INCLUDE_WORDS = {"name", "tasks_from", "vars_from", "defaults_from", "handlers_from", "public", "apply",
                  "allow_duplicates", "rolespec_validate"}
-
-
-@dataclass
-class Role:
-    name: str
-    folder: str
-    words: Mapping  # what stands beside its name
-    defaults: Pairs = field(default_factory=dict)
-    variables: Pairs = field(default_factory=dict)
-    tasks: List[Node] = field(default_factory=list)  # nodes
-    tasks_file: str = ""
-    handlers: List[Node] = field(default_factory=list)
-    handlers_file: str = ""
-    needs: List[Node] = field(default_factory=list)  # nodes of the roles that run before it
-    needed: List[Role] = field(default_factory=list)  # those that were put in place
-    beside: Pairs = field(default_factory=dict)  # the `vars` beside its name
-    parameters: Pairs = field(default_factory=dict)  # what else stands there and is no keyword
-    around: Tuple[Mapping, ...] = ()  # the words of what stands round it, its own last
 
 
 def role_of(node: Node, context: Context, is_include: bool = False) -> Optional[Role]:
@@ -112,7 +92,7 @@ def put_own_collection(role: Role) -> None:
     own, dot, _ = role.name.rpartition(".")
     if dot and role.folder.split(os.sep)[-4:-2] == own.split("."):
         others = items_or_one(role.words.get("collections"))
-        role.words.put("collections", made([own, *others], role.words.place))
+        role.words.put("collections", as_node([own, *others], role.words.place))
 
 
 def role_file(folder: str, part: str, name: str) -> Optional[str]:
@@ -173,10 +153,10 @@ def put_handlers(play: Play, role: Role, handlers: List[Task]) -> None:
             continue
         handler.folder = role.folder
         if "collections" not in handler.words:
-            handler.words.put("collections", role.words.get("collections") or made([], handler.place))
+            handler.words.put("collections", role.words.get("collections") or as_node([], handler.place))
         if handler.name:
             topics = items_or_one(handler.words.get("listen"))
-            longer = made(f"{role.name} : {handler.name}", handler.place)
+            longer = as_node(f"{role.name} : {handler.name}", handler.place)
             handler.words.put("listen", Sequence([*topics, longer], handler.place))
             there[handler.name] = handler
         play.sections.setdefault("handlers", []).append(handler)

@@ -7,7 +7,7 @@ from graphlib import CycleError, TopologicalSorter
 from typing import TYPE_CHECKING, Dict, Iterable, List, Optional, Set, Tuple, Union
 
 from .books import Block, Book, Holder, Play, Step, Task, steps_below
-from .further_facts import FURTHER
+from .documented_facts import DOCUMENTED
 from .names import KNOWN, given_names, mentioned, names_of_vars
 from .nodes import Mapping, Node
 
@@ -58,7 +58,7 @@ class Scope:
 
     def names_in_scope(self, task: Holder) -> Set[str]:
         """All names that anything gives to a task, a block or a play; `item` in a loop alone."""
-        names = set().union(self.outside, KNOWN, FURTHER, *(given_names(one) for one in self.tasks),
+        names = set().union(self.outside, KNOWN, DOCUMENTED, *(given_names(one) for one in self.tasks),
                             *(names_of_vars(holder.words) for holder in [task, *self.holders.get(id(task), [])]))
         return names if "loop" in task.words else names - {"item"}
 

@@ -8,20 +8,19 @@ from typing import TYPE_CHECKING, Callable, List, Optional, Set, Tuple
 from .books import Block, Book, Play, Task
 from .expressions import read_once
 from .inclusion import topics_of
-from .lines import Line, Printer
-from .mistakes import Mistake
-from .modules import CHANGES_FLOW, PROFILE, SETS_UNSEEN, Modules
+from .lines import Line, Numbered, Printer
+from .modules import CHANGES_FLOW, PROFILE, SETS_UNKNOWN, Modules
 from .names import names_of_vars, read_places
-from .nodes import Mapping, Node, Sequence, has_template, made, pairs_in, texts_of
-from .problems import Place
-from .unjudged import CUT, Marker, leave_handlers
-from .unread import leave_unread
+from .nodes import Mapping, Node, Sequence, as_node, has_template, pairs_in, texts_of
+from .problems import Mistake, Place
+from .taint import CUT, Taint, leave_handlers
+from .unreadable_tasks import leave_unreadable
 from .wording import nearest
 
 if TYPE_CHECKING:
-    from .checking import Finding
     from .inventory import Inventory
     from .program import Answer, Asker
+    from .reports import Finding
 
 RESULT_FIELDS = {"changed", "failed", "skipped", "skip_reason", "msg", "results"}
 MOST_REFUSALS = 50  # for each the program is asked anew
@@ -42,7 +41,7 @@ MakesFinding = Callable[["Answer", Optional[Line], "Settler"], "Finding"]
 MakesOwnFinding = Callable[[Mistake, Line], "Finding"]
 
 
-class Settler(Marker):
+class Settler(Taint):
     """Asks the program until it answers about the flow: each form outside the profile leaves its task."""
 
     def __init__(self, book: Book, modules: Modules, inventory: Inventory, asker: Asker) -> None:
@@ -60,6 +59,11 @@ class Settler(Marker):
         self.answer = self.asker.ask(self.numbered.json)
         return self.answer
 
+    def ask_part(self, play: Play, tasks: List[Task]) -> Tuple[Numbered, Answer]:
+        """What the program says of some tasks of a play alone."""
+        numbered = Printer(self.modules.unjudged_name()).part(play, tasks)
+        return numbered, self.asker.ask(numbered.json)
+
     def settle(self, finding: MakesFinding, go_on: bool = False) -> None:
         """Asks until the answer is about the flow; `finding` makes one of a refusal, with `go_on` its task is left."""
         forms = refusals = 0
@@ -70,7 +74,7 @@ class Settler(Marker):
             if self.is_left(answer, self.line(answer)):
                 forms += answer.code in FORM_CODES
                 if forms == MANY_FORMS:
-                    leave_unread(self, self.numbered.lines[answer.line:])
+                    leave_unreadable(self.numbered.lines[answer.line:], self.ask_part, self.is_left)
                     forms = 0
                 continue
             self.findings.append((self.line(answer), finding(answer, self.line(answer), self)))
@@ -86,11 +90,11 @@ class Settler(Marker):
         """Makes findings of what documentation shows, and cuts these tasks, before the program is asked."""
         for task in self.tasks:
             play = self.play_of(task)
-            if task.mistakes and not play.reason:
+            if task.judging.mistakes and not play.reason:
                 line = Line("handler" if task.is_handler else "task", play, task)
-                self.findings += [(line, finding(mistake, line)) for mistake in task.mistakes]
-                task.reason, task.reason_place = f"{CUT}{task.mistakes[0].code}", task.place
-                task.is_still_asked = False
+                self.findings += [(line, finding(mistake, line)) for mistake in task.judging.mistakes]
+                task.judging.reason, task.judging.reason_place = f"{CUT}{task.judging.mistakes[0].code}", task.place
+                task.judging.asks_templates = False
 
     def line(self, answer: Answer) -> Optional[Line]:
         return self.numbered.line(answer.line)
@@ -107,19 +111,19 @@ class Settler(Marker):
             return left_notifier(step, line.play, reason)
         holder = line.source
         if line.kind == "asked" and isinstance(holder, (Play, Block)):
-            self.notes.append((holder.asked[0].place, f"words of the {holder_kind(holder)} aren't asked: {reason}"))
-            holder.asked = []
+            self.notes.append((holder.evaluated[0].place, f"words of the {holder_kind(holder)} aren't asked: {reason}"))
+            holder.evaluated = []
             return True
-        if isinstance(step, Task) and step.is_still_asked:
-            step.is_still_asked = False
+        if isinstance(step, Task) and step.judging.asks_templates:
+            step.judging.asks_templates = False
             return True
-        if isinstance(step, Task) and not step.reason:
+        if isinstance(step, Task) and not step.judging.reason:
             step.leave(reason)
-            step.sets_unseen = step.module() in SETS_UNSEEN
+            step.judging.sets_unknown = step.module() in SETS_UNKNOWN
             if step.module() == "meta":
                 leave_handlers(line.play, [step])
             return True
-        if isinstance(step, Block) and ("when" in step.words or "vars" in step.words or step.asked):
+        if isinstance(step, Block) and ("when" in step.words or "vars" in step.words or step.evaluated):
             return self.left_block(step, reason)
         if step is line.play or step is None:
             return self.left_play(line.play, answer.code, reason)
@@ -150,16 +154,16 @@ class Settler(Marker):
             for key in list(holder.words.pairs):
                 if key not in ("hosts", "name"):
                     holder.words.take(key)
-            holder.asked = []
+            holder.evaluated = []
         for task in play.tasks():
             task.leave(play.reason)
-            task.is_still_asked = False
+            task.judging.asks_templates = False
 
     def lost_by_probing(self, play: Play) -> bool:
         """Takes out the values of `vars` that the program can't read, each asked alone."""
         found = False
         given = pairs_in(play.words.get("vars"))
-        hosts = play.words.get("hosts") or made("all", play.place)
+        hosts = play.words.get("hosts") or as_node("all", play.place)
         for name, node in list(given.items()):
             if not any(has_template(text.value) for text in texts_of(node)):
                 continue
@@ -187,11 +191,11 @@ class Settler(Marker):
 
             known = self.names_in_scope(task)
             found = culprit(task, known)
-            if found and found.name != "item" and self.has_unseen(task, play):
+            if found and found.name != "item" and self.may_be_set_elsewhere(task, play):
                 near = nearest(found.name, known)
                 meant = f". Did you mean '{near}'?" if near else ""
                 return f"it reads '{found.name}', which may come from what isn't judged{meant}"
-        if answer.code == "V05" and any(step.sets_unseen and step.reason for step in play.tasks()):
+        if answer.code == "V05" and any(step.judging.sets_unknown and step.judging.reason for step in play.tasks()):
             return "what it notifies may stand in what isn't judged"
         if answer.code == "V06" and self.makes_groups():
             return "it names a group or a host that the book may make"
@@ -199,7 +203,7 @@ class Settler(Marker):
 
     def undocumented_field(self, task: Task) -> str:
         """Whether a task reads a field that its module's documentation gives no kind."""
-        for expression, _ in read_places(task.words, task.asked):
+        for expression, _ in read_places(task.words, task.evaluated):
             for name, field in read_once(expression).fields:
                 giver = self.giver(name)
                 known = self.modules.documented.get(giver.module() or "") if giver is not None else None
@@ -210,25 +214,26 @@ class Settler(Marker):
     def makes_groups(self) -> bool:
         return any(task.module() in ("add_host", "group_by") for task in self.tasks)
 
-    def has_unseen(self, task: Task, play: Play) -> bool:
+    def may_be_set_elsewhere(self, task: Task, play: Play) -> bool:
         """Whether something that isn't judged may set names that a task reads: before it, or for its whole play."""
         behind = False
         for one in self.tasks:
             behind = behind or one is task
             is_wide = one.is_handler or self.play_of(one) is play and "include_role" in one.words
-            if one.reason and one.sets_unseen and (not behind or is_wide):
+            if one.judging.reason and one.judging.sets_unknown and (not behind or is_wide):
                 return True
-        return bool(play.unseen_files)
+        return bool(play.unread_files)
 
     def cut(self, answer: Answer) -> bool:
         """Leaves a refused task, so that the next finding is told; whether there was one to leave."""
         line = self.line(answer)
-        if line is None or not isinstance(line.step, Task) or line.step.reason and not line.step.is_still_asked:
+        task = line.step if line is not None else None
+        if not isinstance(task, Task) or task.judging.reason and not task.judging.asks_templates:
             return False
-        line.step.is_still_asked = False
-        line.step.leave(f"{CUT}{answer.code}")
+        task.judging.asks_templates = False
+        task.leave(f"{CUT}{answer.code}")
         if answer.code in ("V05", "V12"):
-            line.step.words.take("notify")
+            task.words.take("notify")
         return True
 
 
@@ -237,11 +242,11 @@ def left_notifier(task: Task, play: Play, reason: str) -> bool:
     known: Set[str] = set().union(*map(topics_of, play.sections.get("handlers", [])))
     node = task.words.get("notify")
     kept: List[Node] = [text for text in texts_of(node) if text.value in known or has_template(text.value)]
-    others = [name for name in task.notifies if name in known]
-    is_less = node is not None and len(kept) < len(texts_of(node)) or len(others) < len(task.notifies)
+    others = [name for name in task.judging.notified if name in known]
+    is_less = node is not None and len(kept) < len(texts_of(node)) or len(others) < len(task.judging.notified)
     if node is not None:
         task.words.put("notify", Sequence(kept, node.place))
-    task.notifies = others
+    task.judging.notified = others
     task.leave(reason)
     return is_less
 
@@ -258,7 +263,7 @@ def outside_parameter(task: Task, modules: Modules) -> str:
         return ""
     if module == "assert":
         return "a condition that the profile lacks" if not set(node.pairs) - set(PROFILE[module]) else ""
-    further = modules.asked.get(module, set()) | CHANGES_FLOW.get(module, set())
+    further = modules.passed_over.get(module, set()) | CHANGES_FLOW.get(module, set())
     names = [name for name in node.pairs if name in further]
     if module in ("command", "shell") and "argv" in node:
         names.append("argv")

@@ -5,7 +5,7 @@ from __future__ import annotations
 import os
 import re
 from dataclasses import dataclass, field, replace
-from typing import Dict, Iterable, List, Optional, Set, Tuple
+from typing import TYPE_CHECKING, Iterable, List, Optional, Set
 
 from .books import PARTS, Block, Play, Raw, Step, Task, items_of, steps_below
 from .expressions import read_once
@@ -16,46 +16,15 @@ from .positions import read_file
 from .precedence import Given, Source
 from .problems import Place, Problem
 from .role_variables import all_defaults, exported, given_to_play, given_to_tasks
-from .roles import Role, block_words, inherit, put_handlers, role_of
+from .roles import block_words, inherit, put_handlers, role_of
+
+if TYPE_CHECKING:
+    from .contexts import Context, Role
 
 MOST_INCLUDES = 32
-MOST_FILES = 1000
 # What bars an include from being put in place; the rest of its words become those of a block.
 BARS_INCLUDE = ("loop", "until", "retries", "register", "loop_control", "async", "args", "notify", "changed_when",
                 "failed_when")
-
-
-@dataclass
-class Count:
-    """How many files were put in place: where each names the next one twice they would double each time."""
-
-    files: int = 0
-
-    def add(self, place: Place) -> None:
-        self.files += 1
-        if self.files > MOST_FILES:
-            raise Problem(place, f"more than {MOST_FILES:,} files are put in place")
-
-
-@dataclass
-class Context:
-    """Where steps stand: the file, the play, and the files that are open."""
-
-    file: str
-    book_folder: str
-    play: str
-    count: Count
-    role_folder: str = ""
-    around: Tuple[Mapping, ...] = ()  # the words of blocks, imports and roles round it
-    is_handlers: bool = False
-    is_late: bool = False  # in what is read while the play runs: an include
-    open: Tuple[str, ...] = ()
-    # Those of the play that were put in place, with whether all see them.
-    roles: List[Tuple[Role, bool]] = field(default_factory=list)
-    listed: List[Role] = field(default_factory=list)  # those that the play itself names
-    imported: List[Role] = field(default_factory=list)  # those that it imports at its start
-    # Names that roles give from some task on, with the source and the reason.
-    late: Dict[str, Tuple[Source, str]] = field(default_factory=dict)
 
 
 def include_key(item: Node, names: Iterable[str]) -> Optional[str]:
@@ -158,7 +127,7 @@ def is_public(role: Role) -> bool:
 
 def left_include(task: Task, what: str) -> Task:
     task.leave(f"{what} isn't put in place")
-    task.sets_unseen = task.notifies_any = True
+    task.judging.sets_unknown = task.judging.notifies_any = True
     return task
 
 
@@ -266,7 +235,7 @@ def included_block(task: Task, kind: str, words: Mapping, steps: List[Step]) -> 
     if block.is_include and isinstance(given, Mapping):
         block.given.append(Given(Source.INCLUDE_PARAMETERS, given.pairs))
     if block.is_include:
-        block.asked += [words.pairs.pop("ignore_errors")] if "ignore_errors" in words else []
+        block.evaluated += [words.pairs.pop("ignore_errors")] if "ignore_errors" in words else []
         block.is_asked_once = is_asked_once(words, steps)
     return block
 
@@ -292,10 +261,10 @@ def tasks_below(steps: Iterable[Step]) -> List[Task]:
 def left_whole(task: Task, kind: str, bar: str, steps: List[Step], names: Set[str]) -> Task:
     """An include that can't be put in place, though what it sets and notifies is known."""
     task.leave(f"`{kind}` with `{bar}` isn't put in place")
-    task.gives |= names
+    task.judging.sets |= names
     for step in tasks_below(steps):
-        task.notifies += [text.value for text in texts_of(step.words.get("notify")) if not has_template(text.value)] \
-            if "notify" in step.words else []
-        task.notifies_any = task.notifies_any or step.notifies_any
-        task.sets_unseen = task.sets_unseen or step.sets_unseen
+        notified = [text.value for text in texts_of(step.words.get("notify"))]
+        task.judging.notified += [name for name in notified if not has_template(name)]
+        task.judging.notifies_any = task.judging.notifies_any or step.judging.notifies_any
+        task.judging.sets_unknown = task.judging.sets_unknown or step.judging.sets_unknown
     return task

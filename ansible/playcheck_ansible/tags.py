@@ -5,7 +5,7 @@ from __future__ import annotations
 from typing import FrozenSet, Iterable, List
 
 from .books import PARTS, SECTIONS, Block, Book, Raw, Step, Task, steps_below
-from .nodes import Mapping, Scalar, has_template, items_or_one, made
+from .nodes import Mapping, Scalar, as_node, has_template, items_or_one
 
 UNTAGGED = frozenset(["untagged"])
 
@@ -59,7 +59,7 @@ class Chosen:
             if part in block.parts:
                 block.parts[part] = self.kept(block.parts[part], outer if block.is_include else tags)
         self.includes += [block] * block.is_include
-        if block.is_include and not block.asked and not set(block.words.pairs) - {"name", "tags"}:
+        if block.is_include and not block.evaluated and not set(block.words.pairs) - {"name", "tags"}:
             return block.parts["block"]
         return [block] if any(block.parts.values()) else []
 
@@ -75,7 +75,7 @@ def leave_out(book: Book, only: Iterable[str] = (), skip: Iterable[str] = ()) ->
             if section in play.sections:
                 play.sections[section] = chosen.kept(play.sections[section], tags)
         if not chosen.takes(frozenset(["always"])):
-            play.words.put("gather_facts", made(False, play.place))
+            play.words.put("gather_facts", as_node(False, play.place))
     book.left_out, book.includes = chosen.left_out, chosen.includes
 
 

@@ -3,8 +3,12 @@
 from __future__ import annotations
 
 import re
+from functools import lru_cache
 from typing import List, NamedTuple, Tuple
 
+NAME = re.compile(r"[A-Za-z_][A-Za-z0-9_]*")
+# One that the profile has for a variable, a parameter or a field.
+VARIABLE = re.compile(r"[A-Za-z_][A-Za-z0-9_]{0,127}")
 TEXTS = {"'": r"'(?:[^'\\]|\\.)*'", '"': r'"(?:[^"\\]|\\.)*"'}
 REST = (r"(?P<float>\d+\.\d+)|(?P<int>\d+)|(?P<name>[A-Za-z_]\w*)"
         r"|(?P<sign>==|!=|<=|>=|//|\*\*|[-+*/%~<>=()\[\].,|])|(?P<other>\S)")
@@ -17,13 +21,11 @@ class Token(NamedTuple):
     end: int
 
 
+@lru_cache(None)
 def lexer(quotes: str) -> re.Pattern[str]:
     """The tokens of an expression in which these quotes may be closed."""
     texts = "|".join(TEXTS[quote] for quote in quotes)
     return re.compile(f"(?P<text>{texts})|(?P<open>[{quotes}])|{REST}" if quotes else REST, re.S)
-
-
-LEXERS = {quotes: lexer(quotes) for quotes in ("'\"", "'", '"', "")}
 
 
 def tokens_of(expression: str) -> Tuple[Token, ...]:
@@ -31,8 +33,9 @@ def tokens_of(expression: str) -> Tuple[Token, ...]:
     found: List[Token] = []
     quotes, at = "'\"", 0
     while at < len(expression):
-        for match in LEXERS[quotes].finditer(expression, at):
-            found.append(Token(match.lastgroup or "", match[0], *match.span()))
+        for match in lexer(quotes).finditer(expression, at):
+            # As Token(..) does, without a call of Python in between: a check makes so many of them.
+            found.append(tuple.__new__(Token, (match.lastgroup or "", match[0], match.start(), match.end())))
             if match.lastgroup == "open":
                 quotes = quotes.replace(match[0], "")
                 break

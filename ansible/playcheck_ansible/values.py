@@ -7,12 +7,15 @@ import json
 import re
 from typing import TYPE_CHECKING, Dict, List, Optional
 
-from .nodes import Mapping, Node, Scalar, Sequence, Text, has_template, is_literal, is_text, made, plain
-from .truths import FALSE_WORDS, TRUE_WORDS
+from .nodes import Mapping, Node, Scalar, Sequence, Text, Value, as_node, as_value, has_template, is_literal, is_text
 
 if TYPE_CHECKING:
     from typing_extensions import TypeGuard
 
+# Texts that Ansible takes for truth values: of keywords and parameters, and of its filter `bool`.
+TRUE_WORDS = ("yes", "on", "1", "true", "t", "y")
+FALSE_WORDS = ("no", "off", "0", "false", "f", "n")
+TRUE_FOR_FILTER = ("yes", "on", "1", "true")
 WHOLE = re.compile(r"\s*\{\{(?:(?!\}\}).)*\}\}\s*", re.S)
 OMITTED = re.compile(r"(\|\s*default\()\s*omit\s*(?:,\s*[Tt]rue\s*)?\)(\s*\}\})")
 # What stands for a parameter that `default(omit)` leaves out.
@@ -26,6 +29,11 @@ ESCAPE = re.compile(r"""\\(?:U[a-fA-F0-9]{8}|u[a-fA-F0-9]{4}|x[a-fA-F0-9]{2}|N\{
 def is_whole(node: Optional[Node]) -> TypeGuard[Text]:
     """Whether a node is a text that is one template."""
     return is_text(node) and WHOLE.fullmatch(node.value) is not None
+
+
+def is_true(value: Value) -> bool:
+    """What Ansible's filter `bool` makes of a value: any other text is false."""
+    return value if isinstance(value, bool) else str(value).lower() in TRUE_FOR_FILTER
 
 
 def split_words(text: str) -> Optional[List[str]]:
@@ -112,7 +120,7 @@ def without_omit(node: Text, kind: str) -> Text:
 def as_text(node: Node, name: str) -> Node:
     if isinstance(node, (Mapping, Sequence)):
         if name == "content" and is_literal(node):
-            return made(json.dumps(plain(node)), node.place)
+            return as_node(json.dumps(as_value(node)), node.place)
         return node
     if is_text(node):
         return whole_as_text(node)

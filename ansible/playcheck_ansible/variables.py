@@ -3,12 +3,11 @@
 # show a task another value than Ansible does, at the task itself.
 from __future__ import annotations
 
-from dataclasses import dataclass, replace
-from typing import TYPE_CHECKING, Dict, Iterable, Iterator, List, Optional, Set, Tuple
+from typing import TYPE_CHECKING, Dict, Iterable, Iterator, List, NamedTuple, Optional, Set, Tuple
 
 from .books import SECTIONS, Block, Play, Raw, Task
 from .names import mentioned
-from .nodes import Mapping, Node, Sequence, is_text, items_or_one, made, plain
+from .nodes import Mapping, Node, Sequence, as_node, as_value, is_text, items_or_one
 from .precedence import OF_PLAY, Given, Source, in_order, values_of, winner
 
 if TYPE_CHECKING:
@@ -19,8 +18,7 @@ MOST_NAMES = 1000
 MOST_VALUES = 100_000
 
 
-@dataclass(frozen=True)
-class Around:
+class Around(NamedTuple):
     """What is round a task: all that gives it names, in Ansible's order, and what is written, the outermost first."""
 
     given: Tuple[Given, ...]
@@ -49,7 +47,7 @@ def prompts_of(play: Play) -> Dict[str, Node]:
     node = play.words.get("vars_prompt")
     items = node.items if isinstance(node, Sequence) else []
     names = [item.get("name") for item in items if isinstance(item, Mapping)]
-    return {name.value: made("", name.place) for name in names if is_text(name)}
+    return {name.value: as_node("", name.place) for name in names if is_text(name)}
 
 
 class Variables:
@@ -81,7 +79,7 @@ class Variables:
         self.play.prompted = {name for name, one in ((name, around.real(name)) for name in written)
                               if one is not None and one.source == Source.PROMPTS}
         write(self.play, written)
-        around = replace(around, written=(written,))
+        around = around._replace(written=(written,))
         for section in SECTIONS:
             self.walk(self.play.sections.get(section, []), around)
         self.walk(self.play.sections.get("handlers", []), around)
@@ -110,7 +108,7 @@ class Variables:
         written = {name: node for name, node in values_of(given).items()
                    if outer.shown(name) is not node and not self.is_beaten(name, inside, block)}
         write(block, written)
-        inside = replace(inside, written=(*outer.written, written))
+        inside = inside._replace(written=(*outer.written, written))
         if block.folder:
             self.at_roles.setdefault(block.folder, []).append(inside)
         for part in block.parts.values():
@@ -118,7 +116,7 @@ class Variables:
 
     def place_handler(self, handler: Task, outer: Around) -> None:
         """A handler of a role sees what its role's tasks see, though it stands at the end of the play."""
-        arounds = [replace(one, written=outer.written) for one in self.at_roles.get(handler.folder, [outer])]
+        arounds = [one._replace(written=outer.written) for one in self.at_roles.get(handler.folder, [outer])]
         own, pairs = list(given_by(handler)), own_pairs(handler.words)
         names = self.names_read(handler)
         for other in arounds[1:]:
@@ -129,7 +127,7 @@ class Variables:
 
     def place_task(self, task: Task, around: Around, of_handler: Optional[Set[str]] = None) -> None:
         """Writes at the task what it reads and would read otherwise."""
-        if task.reason or of_handler is None and not self.contested:
+        if task.judging.reason or of_handler is None and not self.contested:
             return
         names = of_handler if of_handler is not None else self.names_read(task) & self.contested
         added: Dict[str, Node] = {}
@@ -203,7 +201,7 @@ def write(holder: Play | Block, written: Dict[str, Node]) -> None:
 def is_same(one: Optional[Given], other: Optional[Given], name: str) -> bool:
     if one is None or other is None:
         return one is other
-    return plain(one.pairs[name]) == plain(other.pairs[name])
+    return as_value(one.pairs[name]) == as_value(other.pairs[name])
 
 
 def size(node: Node) -> int:

@@ -10,8 +10,8 @@ from .printing import line_of
 
 if TYPE_CHECKING:
     from .books import Task
-    from .checking import Finding, Report, Unjudged
     from .problems import Place
+    from .reports import Finding, Report, Unjudged
 
 
 def message_of(finding: Finding) -> str:

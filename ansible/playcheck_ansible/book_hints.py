@@ -10,7 +10,7 @@ from .books import Play, Raw, Step, Task
 from .expressions import read_once
 from .hosts import divided
 from .names import read_places
-from .nodes import Node, Scalar, plain, texts_of
+from .nodes import Node, Scalar, as_value, texts_of
 from .wording import Hint, named, nearest, shown, where
 
 if TYPE_CHECKING:
@@ -29,7 +29,7 @@ NEVER_FAIL = ("debug", "set_fact", "meta")
 def unknown_host(task: Task, line: Line, settler: Settler) -> Optional[Hint]:
     """A host or a group that an expression names and the inventory lacks."""
     hosts, groups = settler.inventory.hosts, {*settler.inventory.groups, "all", "ungrouped"}
-    for expression, node in read_places(task.words, task.asked):
+    for expression, node in read_places(task.words, task.evaluated):
         for pattern, known, what in ((HOSTVARS, hosts, "host"), (GROUPS, groups, "group")):
             for found in pattern.finditer(expression):
                 name = found[1] or found[2]
@@ -58,8 +58,8 @@ def lacking(name: str, known: Iterable[str], what: str) -> str:
 def other_host(task: Task, line: Line, settler: Settler) -> Optional[Hint]:
     """A variable of another host, which may be in another batch."""
     serial = line.play.words.get("serial") if line.play is not None else None
-    later = f"be in another batch (serial: {plain(serial)})" if serial is not None else "not have come so far"
-    for expression, node in read_places(task.words, task.asked):
+    later = f"be in another batch (serial: {as_value(serial)})" if serial is not None else "not have come so far"
+    for expression, node in read_places(task.words, task.evaluated):
         path = OTHER_HOST.search(expression)
         if path:
             return Hint(node.place, f"'{path[0]}': that host may {later}, or may have left the run",
@@ -116,5 +116,5 @@ def entered_before(name: str, node: Node, reader: Task, giver: Task, settler: Se
 def may_fail(task: Task) -> bool:
     """Whether a failure of a task can lead out of its block."""
     ignores = task.words.get("ignore_errors")
-    is_ignored = isinstance(ignores, Scalar) and ignores.value is True and task.may_ignore is None
+    is_ignored = isinstance(ignores, Scalar) and ignores.value is True and task.judging.ignore_condition is None
     return not is_ignored and task.module() not in NEVER_FAIL

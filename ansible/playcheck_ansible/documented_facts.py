@@ -30,7 +30,7 @@ FIELDS: Dict[str, Iterable[str]] = {
     "env": (),  # those that the book reads
 }
 # A name of `ansible_` to its value: only the kind counts.
-FURTHER: Record = {
+DOCUMENTED: Record = {
     **{f"ansible_{name}": TEXT for name in TEXTS}, **{f"ansible_{name}": NUMBER for name in NUMBERS},
     "ansible_fips": TRUTH, "ansible_is_chroot": TRUTH, "ansible_python": {
         "executable": TEXT, "has_sslcontext": TRUTH, "type": TEXT,
@@ -42,24 +42,25 @@ FIELD = re.compile(r"(?<![\w.\]])ansible_facts(?:\.(\w+)|\[['\"](\w+)['\"]\])")
 OF_ENVIRONMENT = re.compile(r"\bansible_env(?:\.([A-Za-z_]\w*)|\[['\"]([A-Za-z_]\w*)['\"]\])")
 
 
-def further_facts(book: Book, trusts: bool) -> None:
+def documented_facts(book: Book, trusts: bool) -> None:
     """Notes for each play that gathers facts which further ones are set there."""
     read: Set[str] = set()
     fields: Record = {}
     plays = book.read_plays()
     for holder in (one for play in plays for one in play.holders()):
         rewrite_words(holder.words, plain_name)
-        holder.asked = [changed_texts(node, plain_name) for node in holder.asked]
-        for text in (text for node in [*holder.words.pairs.values(), *holder.asked] for text in texts_of(node)):
+        holder.evaluated = [changed_texts(node, plain_name) for node in holder.evaluated]
+        for text in (text for node in [*holder.words.pairs.values(), *holder.evaluated] for text in texts_of(node)):
             if "ansible_" in text.value:
                 read.update(READ.findall(text.value))
                 fields.update(dict.fromkeys((one or other for one, other in OF_ENVIRONMENT.findall(text.value)), TEXT))
-    found: Record = {name: fields if name == "ansible_env" else FURTHER[name] for name in sorted(read & set(FURTHER))}
+    found: Record = {name: fields if name == "ansible_env" else DOCUMENTED[name]
+                     for name in sorted(read & set(DOCUMENTED))}
     for play in plays if found else ():
         play.facts = set_facts(found, trusts and "gather_subset" not in play.written)
         for task in play.tasks():
             if task.module() == "setup":
-                task.facts = set_facts(found, False)
+                task.judging.facts = set_facts(found, False)
 
 
 def plain_name(expression: str) -> str:
@@ -69,7 +70,7 @@ def plain_name(expression: str) -> str:
 
 def own_name(found: Match[str]) -> str:
     name = f"ansible_{found[1] or found[2]}"
-    return name if name in FURTHER else found[0]
+    return name if name in DOCUMENTED else found[0]
 
 
 def set_facts(found: Record, is_certain: bool) -> List[Value]:

@@ -5,10 +5,10 @@ from __future__ import annotations
 from typing import TYPE_CHECKING, Dict, List, Optional, Set
 
 from .books import Block, Book, Note, Play, Task, is_module, steps_below
+from .documented_facts import DOCUMENTED
 from .expressions import read_once
-from .further_facts import FURTHER
 from .magic import outside_names
-from .modules import SETS_UNSEEN, Modules
+from .modules import SETS_UNKNOWN, Modules
 from .names import FACTS, KNOWN, given_names, mentioned, names_of_vars, outside_node, read_places
 from .nodes import Mapping, is_text, pairs_in
 from .scope import Scope
@@ -19,7 +19,7 @@ if TYPE_CHECKING:
 CUT = "refused: "
 
 
-class Marker(Scope):
+class Taint(Scope):
     """Leaves each task that reads what a task which isn't judged gives."""
 
     def __init__(self, book: Book, modules: Modules, inventory: Inventory) -> None:
@@ -29,7 +29,7 @@ class Marker(Scope):
         self.is_outside = outside_names(book)
         self.reads = {id(task): names_read(task) for task in self.tasks}
         # What isn't asked beside tasks: words of plays and blocks, and files of variables, with their places.
-        self.notes: List[Note] = [note for play in self.plays for note in play.unseen_files]
+        self.notes: List[Note] = [note for play in self.plays for note in play.unread_files]
 
     def static_marks(self) -> None:
         given_by_vars: Set[str] = set().union(*(names_of_vars(holder.words) for play in self.plays
@@ -44,7 +44,8 @@ class Marker(Scope):
                 name = sorted(twice)[0]
                 task.leave(f"'{name}' is set here and given by `vars`; which of them counts isn't modelled")
             module = task.module()
-            task.sets_unseen = task.sets_unseen or (bool(task.reason) and module in SETS_UNSEEN)
+            if task.judging.reason and module in SETS_UNKNOWN:
+                task.judging.sets_unknown = True
         for play in self.plays:
             leave_handlers(play)
 
@@ -54,7 +55,7 @@ class Marker(Scope):
             tainted = self.tainted()
             marked = False
             for task in self.tasks:
-                if not task.reason or task.is_still_asked:
+                if not task.judging.reason or task.judging.asks_templates:
                     marked = self.mark(task, tainted) or marked
             if not marked:
                 self.drop_asked(tainted)
@@ -65,7 +66,7 @@ class Marker(Scope):
         for name in sorted(self.reads[id(task)]):
             if name in tainted or self.is_outside_fact(name):
                 task.leave(f"it reads '{name}': {tainted.get(name, 'a name that the profile lacks')}")
-                task.is_still_asked = False
+                task.judging.asks_templates = False
                 return True
         return False
 
@@ -82,7 +83,7 @@ class Marker(Scope):
                 tainted.update(block.lost)
                 self.taint_passed(block, tainted)
         for task in self.tasks:
-            if task.reason:
+            if task.judging.reason:
                 for name in given_names(task):
                     tainted.setdefault(name, f"it is set on line {task.place.line}, which isn't judged")
         self.taint_forgotten(tainted)
@@ -93,8 +94,8 @@ class Marker(Scope):
 
     def taint_forgotten(self, tainted: Dict[str, str]) -> None:
         """What tasks set may be gone where hosts that failed come back, or facts are cleared."""
-        for task in [task for task in self.tasks if task.forgets]:
-            for name in {*FACTS, *FURTHER, "ansible_facts"}.union(*(given_names(one) for one in self.tasks)):
+        for task in [task for task in self.tasks if task.judging.forgets]:
+            for name in {*FACTS, *DOCUMENTED, "ansible_facts"}.union(*(given_names(one) for one in self.tasks)):
                 tainted.setdefault(name, f"it may be gone behind line {task.place.line}")
 
     def taint_passed(self, block: Block, tainted: Dict[str, str]) -> None:
@@ -106,13 +107,13 @@ class Marker(Scope):
     def taint_lost(self, play: Play, tainted: Dict[str, str]) -> None:
         """What a play sets behind the place at which a host may leave it, and what an unjudged play gathers."""
         tasks = play.tasks()
-        ends = [index for index, task in enumerate(tasks) if task.ends_host]
+        ends = [index for index, task in enumerate(tasks) if task.judging.ends_host]
         if ends:
             for task in tasks[ends[0]:]:
                 for name in given_names(task):
                     tainted.setdefault(name, f"it is set behind line {tasks[ends[0]].place.line}, which ends the play")
         if play.reason and not play.has_no_host:
-            for name in (*FACTS, *FURTHER, "ansible_facts"):
+            for name in (*FACTS, *DOCUMENTED, "ansible_facts"):
                 tainted.setdefault(name, f"the play on line {play.place.line} isn't judged")
 
     def taint_vars(self, tainted: Dict[str, str]) -> None:
@@ -143,16 +144,16 @@ class Marker(Scope):
     def drop_asked(self, tainted: Dict[str, str]) -> None:
         """Words of plays and blocks that read what isn't judged aren't asked, and this is said."""
         holders = [holder for play in self.plays for holder in play.containers()]
-        for holder, node in [(holder, node) for holder in holders for node in holder.asked]:
+        for holder, node in [(holder, node) for holder in holders for node in holder.evaluated]:
             read = mentioned(Mapping({"vars": node}, node.place))
             bad = sorted(name for name in read if name in tainted or self.is_outside_fact(name))
             if bad:
-                holder.asked = [other for other in holder.asked if other is not node]
+                holder.evaluated = [other for other in holder.evaluated if other is not node]
                 self.notes.append((node.place, f"this word isn't asked: it reads '{bad[0]}'"))
 
     def leave_block(self, block: Block, reason: str) -> None:
         block.words.take("when")
-        block.asked = []
+        block.evaluated = []
         for step in steps_below([block]):
             if isinstance(step, Task):
                 step.leave(reason, block.place)
@@ -165,16 +166,16 @@ def is_passed(block: Block) -> bool:
 def names_read(task: Task) -> Set[str]:
     """The names that a task reads; of an unknown module those of the texts that are asked."""
     words = task.words
-    if task.is_still_asked:
+    if task.judging.asks_templates:
         words = Mapping({key: part for key, part in words.pairs.items() if not is_module(key)}, words.place)
-    return mentioned(words, task.asked)
+    return mentioned(words, task.evaluated)
 
 
 def leave_outside(task: Task) -> None:
     """Leaves a task with a form that shows at once to lie outside the profile."""
-    if task.reason:
+    if task.judging.reason:
         return
-    for expression, text in read_places(task.words, task.asked):
+    for expression, text in read_places(task.words, task.evaluated):
         what = read_once(expression).form
         if what:
             task.leave(f"{what}, which the profile lacks", text.place)
@@ -193,7 +194,8 @@ def lose_outside(holder: Play | Block) -> None:
 
 def leave_handlers(play: Play, tasks: Optional[List[Task]] = None) -> None:
     """Where a flush isn't judged, neither is a handler that it may run."""
-    flushes = [task for task in (tasks if tasks is not None else play.tasks()) if task.reason and is_flush(task)]
+    some = tasks if tasks is not None else play.tasks()
+    flushes = [task for task in some if task.judging.reason and is_flush(task)]
     for handler in play.tasks() if flushes else []:
         if handler.is_handler:
             handler.leave(f"the flush on line {flushes[0].place.line} isn't judged")

@@ -12,7 +12,7 @@ from ansible_lookups import wrong_long_names, wrong_lookups, wrong_time_limit, w
 from ansible_parts import wrong_limits, wrong_program, wrong_short_name
 from ansible_pipelines import wrong_action, wrong_completion, wrong_gitlab_job, wrong_hook, wrong_zsh
 from ansible_rewritings import wrong_rewritings
-from ansible_rows import wrong_rows
+from ansible_forms import wrong_rows
 from ansible_tools import SECONDS, TOOL, TOP, WAITED, fork_commands, is_forked, run_tool
 from ansible_words import wrong_words
 from check import Check, Outcome, outcome_of

@@ -180,6 +180,19 @@ ROWS = [
         ["other.yml:4: not judged: task 'Under': it is imported under a condition",
          'accepted, 0 of 1 tasks judged'],
         files={'other.yml': '- hosts: all\n  gather_facts: false\n  tasks:\n  - {name: Under, ping: }\n'}),
+    Row("an inventory for another program", tasks("ping:"),
+        ["! playcheck-ansible: i.toml: `ansible-inventory` isn't installed; it comes with ansible-core"], ("-i", "i.toml"),
+        files={"i.toml": "[web]\n"}),
+    Row("a group below two others", tasks("{ping: , when: y > 3}"),
+        ["accepted, 1 of 1 tasks judged, at most 1 module calls"],
+        files={"hosts.yml": "a: {children: {c: }}\nb: {children: {c: }}\nc: {hosts: {h1: {y: 5}}}\n"}),
+    Row("the second template of a value", tasks("{vars: {v: '{{ port }} {{ [1] | max }}'}, block: [{name: In, debug: {msg: '{{ v }}'}}]}"),
+        ["4: not judged: task 'In': it reads 'v': its value on line 4 has the filter `max`, which the profile lacks",
+         "accepted, 0 of 1 tasks judged"]),
+    Row("hidden files and those of editors in a folder of variables", tasks("{ping: , when: y > 3}"),
+        ["accepted, 1 of 1 tasks judged, at most 2 module calls"],
+        files={"group_vars/all/a.yml": "y: 5\n", "group_vars/all/.b.yml": "y: five\n", "group_vars/all/c.yml~": "y: five\n",
+               "group_vars/all/d.txt": "y: five\n", "group_vars/all/more/e.yml": "z: 1\n"}),
 ]
 
 

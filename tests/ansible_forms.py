@@ -193,6 +193,11 @@ ROWS = [
         ["accepted, 1 of 1 tasks judged, at most 2 module calls"],
         files={"group_vars/all/a.yml": "y: 5\n", "group_vars/all/.b.yml": "y: five\n", "group_vars/all/c.yml~": "y: five\n",
                "group_vars/all/d.txt": "y: five\n", "group_vars/all/more/e.yml": "z: 1\n"}),
+    Row("a name of hosts that is a number", "- hosts: [h1, 5]\n  gather_facts: false\n" + tasks("ping:"),
+        ["3: P04 play: a value that hasn't the form which its keyword wants",
+         "6: not judged: a value that hasn't the form which the profile wants", "refused, 1 finding, 0 of 1 tasks judged"]),
+    Row("hosts of a group that are one text", tasks("{ping: , when: y > 3}"),
+        ["accepted, 1 of 1 tasks judged, at most 1 module calls"], files={"hosts.yml": "web: {hosts: h1, vars: {y: 5}}\n"}),
 ]
 
 

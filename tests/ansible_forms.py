@@ -198,6 +198,16 @@ ROWS = [
          "6: not judged: a value that hasn't the form which the profile wants", "refused, 1 finding, 0 of 1 tasks judged"]),
     Row("hosts of a group that are one text", tasks("{ping: , when: y > 3}"),
         ["accepted, 1 of 1 tasks judged, at most 1 module calls"], files={"hosts.yml": "web: {hosts: h1, vars: {y: 5}}\n"}),
+    Row("a file of variables wins over what is typed", tasks("{ping: , when: y > 3}"),
+        ["accepted, 1 of 1 tasks judged, at most 2 module calls"], head="  vars_prompt: [{name: y}]\n  vars_files: [f.yml]\n",
+        files={"f.yml": "y: 5\n"}),
+    Row("what is typed wins over a play's vars", tasks("{name: Number, ping: , when: y > 3}"),
+        ["6: V04 task 'Number', host h1: a value of the wrong kind", "refused, 1 finding, 1 of 1 tasks judged"],
+        head="  vars_prompt: [{name: y}]\n  vars: {y: 5}\n"),
+    Row("a topic, and a text that nothing listens to", tasks("{name: Call, command: x, notify: [topic, Gone]}")
+        + "  handlers:\n  - {name: H, ping: , listen: topic}\n",
+        ["4: V05 task 'Call': a text that notifies nothing: no handler of the name 'Gone'",
+         "refused, 1 finding, 2 of 2 tasks judged"]),
 ]
 
 

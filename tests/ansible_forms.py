@@ -2,6 +2,7 @@
 # Small books with forms that are rare or wrong, and what is said of each; see ansible_rows.py.
 from typing import Iterator
 
+import ansible_faults
 import ansible_rows
 from ansible_rows import Row, said, tasks
 
@@ -212,7 +213,7 @@ ROWS = [
 
 
 def wrong_rows() -> Iterator[str]:
-    for row in (*ansible_rows.ROWS, *ROWS):
+    for row in (*ansible_rows.ROWS, *ROWS, *ansible_faults.ROWS):
         found = said(row)
         if found != row.wanted:
             yield f"{row.title}: wanted {row.wanted}, found {found}"

@@ -6,6 +6,7 @@ import ansible_faults
 import ansible_rows
 from ansible_rows import Row, said, tasks
 
+TRUTHS = ("yes", "on", "1", "true", "t", "y", "no", "off", "0", "false", "f", "n", "ON", "False")
 ROWS = [
     Row('args beside a text',
         '  tasks:\n  - {name: Odd, command: x, args: {chdir: /}}\n  - {name: Left, copy: 5, args: {dest: /a}}\n',
@@ -209,6 +210,11 @@ ROWS = [
         + "  handlers:\n  - {name: H, ping: , listen: topic}\n",
         ["4: V05 task 'Call': a text that notifies nothing: no handler of the name 'Gone'",
          "refused, 1 finding, 2 of 2 tasks judged"]),
+    Row("texts that are truth values of a word", tasks(*(f"{{ping: , ignore_errors: '{word}'}}" for word in TRUTHS)),
+        [f"accepted, {len(TRUTHS)} of {len(TRUTHS)} tasks judged, at most {2 * len(TRUTHS)} module calls"]),
+    Row("fields of the version of a Python", tasks(*(f"debug: {{msg: '{{{{ ansible_python.version.{field} }}}}'}}" for field in
+                                                     ("major", "minor", "micro", "releaselevel", "serial"))),
+        ["accepted, 5 of 5 tasks judged, at most 2 module calls"], ("--trust-facts",), gathers=True),
 ]
 
 

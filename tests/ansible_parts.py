@@ -27,7 +27,8 @@ def is_read(items: int) -> bool:
 
 
 def wrong_parts() -> Iterator[str]:
-    for search in (wrong_limits, wrong_program, wrong_short_name, wrong_folder, wrong_matching):
+    for search in (wrong_limits, wrong_program, wrong_short_name, wrong_folder, wrong_matching,
+                   wrong_collections):
         yield from search()
 
 
@@ -95,3 +96,16 @@ def wrong_matching() -> Iterator[str]:
         except Problem as problem:
             if str(problem) != "/gone can't be run: No such file or directory":
                 yield f"a pattern without a Python: {problem}"
+
+
+def wrong_collections() -> Iterator[str]:
+    """Roles of collections are looked for where each of Ansible's two variables says."""
+    for name in ("ANSIBLE_COLLECTIONS_PATH", "ANSIBLE_COLLECTIONS_PATHS"):
+        with tempfile.TemporaryDirectory() as folder:
+            role = Path(folder, "there", "ansible_collections", "one", "two", "roles", "three", "tasks", "main.yml")
+            role.parent.mkdir(parents=True)
+            role.write_text("- ping:\n")
+            Path(folder, "book.yml").write_text("- hosts: all\n  gather_facts: false\n  roles: [one.two.three]\n")
+            done = run_tool(["check", "book.yml", "-i", "h1,"], folder, given={name: f"/gone:{folder}/there"})
+        if done.stdout != "book.yml: accepted, 1 of 1 tasks judged, at most 1 module calls\n":
+            yield f"{name}: {done}"

@@ -26,6 +26,12 @@ def is_read(items: int) -> bool:
     return True
 
 
+def wrong_parts() -> Iterator[str]:
+    for search in (wrong_limits, wrong_program, wrong_short_name, wrong_folder, wrong_matching,
+                   wrong_collections):
+        yield from search()
+
+
 def wrong_limits() -> Iterator[str]:
     """The largest file and the deepest expression, and those that are one larger."""
     sys.path.insert(0, str(TOP / "ansible"))
@@ -64,3 +70,42 @@ def wrong_short_name() -> Iterator[str]:
     short = {host: given.get("inventory_hostname_short") for host, given in hosts.items()}
     if short != {"web.eu.example": "web", "db": "db"} or done.returncode or done.stderr:
         yield f"short names: {short}, {done}"
+
+
+def wrong_folder() -> Iterator[str]:
+    """Of the files of a folder those are playbooks that have plays."""
+    files = {"book.yml": "- hosts: all\n  gather_facts: false\n  tasks: [ping: ]\n", "tasks.yml": "- ping:\n",
+             "imports.yml": "- import_playbook: book.yml\n", "vars.yml": "a: b\n", "words.txt": "- hosts: all\n"}
+    with tempfile.TemporaryDirectory() as folder:
+        for name, text in files.items():
+            Path(folder, name).write_text(text)
+        done = run_tool(["check", ".", "-i", "h1,"], folder)
+    ends = ": accepted, 1 of 1 tasks judged, at most 1 module calls"
+    if done.stdout.splitlines() != [f"./book.yml{ends}", f"./imports.yml{ends}"] or done.stderr:
+        yield f"a folder: {done}"
+
+
+def wrong_matching() -> Iterator[str]:
+    """A Python that isn't there is told where a pattern needs one."""
+    from playcheck_ansible.matching import matching
+    from playcheck_ansible.problems import Problem
+
+    with patch.object(sys, "executable", "/gone"):
+        try:
+            yield f"a pattern without a Python: {matching('a pattern that nothing else asks', ('web',))}"
+        except Problem as problem:
+            if str(problem) != "/gone can't be run: No such file or directory":
+                yield f"a pattern without a Python: {problem}"
+
+
+def wrong_collections() -> Iterator[str]:
+    """Roles of collections are looked for where each of Ansible's two variables says."""
+    for name in ("ANSIBLE_COLLECTIONS_PATH", "ANSIBLE_COLLECTIONS_PATHS"):
+        with tempfile.TemporaryDirectory() as folder:
+            role = Path(folder, "there", "ansible_collections", "one", "two", "roles", "three", "tasks", "main.yml")
+            role.parent.mkdir(parents=True)
+            role.write_text("- ping:\n")
+            Path(folder, "book.yml").write_text("- hosts: all\n  gather_facts: false\n  roles: [one.two.three]\n")
+            done = run_tool(["check", "book.yml", "-i", "h1,"], folder, given={name: f"/gone:{folder}/there"})
+        if done.stdout != "book.yml: accepted, 1 of 1 tasks judged, at most 1 module calls\n":
+            yield f"{name}: {done}"

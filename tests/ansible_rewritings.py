@@ -87,7 +87,7 @@ KEPT_FORMS = [
     "x is match(y)", "x is search('(')", "x | lower(1)", "x.split()[0]", "x.split('.')[1]", "lookup('file', 'a')",
     "x if y", "x if y else 'a'", "x | default('a', true)", "x | default(omit)", "'x | bool'", "{{- x | lower }}",
     "x | bool | gone", "x | ", "f(x)", "x | from_json", "x < y < z", "groups['a'][0]", "hostvars[item].x",
-    "x is sameas(y)", "first(1)", "x.split(',') | first(1)", "x is gone('a')", "x | replace('a' 'b')", "x | bool(1)",
+    "x is sameas(y)", "first(1)", "x.split(',') | first(1)", "x is gone('a')", "x | replace('a' 'b')", "x | bool(1)", "x | to_nice_json(1)",
     "x[0] | string", "x | regex_replace('a', '\\\\1')", "x | regex_replace('a', y)", "x.split('')[0]", "x.split(y)[0]",
     "x | lower | default(5, true)", "x is version('1', 'foo')", "x is version('1', y)", "(" * 200 + "x | bool" + ")" * 200, "not " * 200 + "x | bool",
 ]

@@ -123,7 +123,24 @@ FAULTS = {
     "x" * 2000 + "\n": "1:1: a host's name has more than 1,024 letters",
     "a" + "[1:1]" * 17 + "\n": "1:1: a[1:1][1:1]",
     "web1 a=" + "-" * 90_000 + "1\n": "1:1: this host can't be read: a value nests too deep",
+    "[web]\nh\n[web:vars]\nx\n": "4:1: a variable as name=value is wanted, not x",
+    "[web:children]\na b\n": "2:1: the name of a group is wanted, not a b",
+    "h[c:a]\n": "1:1: the range of h[c:a] ends before it begins",
+    "h[a:3]\n": "1:1: the range of h[a:3] can't be read",
+    "h[1:]\n": "1:1: the range of h[1:] has no end",
+    "h[1:2:3:4]\n": "1:1: the range of h[1:2:3:4] isn't begin:end or begin:end:step",
+    "---\n": "1:1: `---` begins a file in YAML, not in INI",
     "[all:vars]\nansible_group_priority=high\n": "2:1: `ansible_group_priority` is no whole number",
+}
+# Faults of the other forms, by the suffix of their file.
+OTHER_FAULTS = {
+    ("yml", "web: 5\n"): "1:6: the group 'web' is no mapping",
+    ("yml", "web: {hosts: 5}\n"): "1:14: `hosts` is a mapping in an inventory of this form",
+    ("yml", "web: {vars: [a]}\n"): "1:13: `vars` is a mapping in an inventory of this form",
+    ("yml", "all: {children: {web: 5}}\n"): "1:23: the group 'web' is no mapping",
+    ("yml", "- a\n"): "1:1: an inventory is a mapping of groups",
+    ("json", '{"_meta": {"hostvars": {"h1": 5}}}'): "`h1` of 'hostvars' in the inventory is no mapping",
+    ("json", '{"web": {"children": [5]}}'): "`children` of 'web' in the inventory is no list of names",
 }
 # Values that no JSON has, or too long ones: each is held, and not read.
 NOT_READ = ("{1: 2}", "{1, 2}", "1+2j", "[b'a']", "1e999", "0x" + "f" * 5000, "'\\ud800'", "[" * 60 + "]" * 60)
@@ -136,15 +153,17 @@ def wrong_faults() -> Iterator[str]:
     from playcheck_ansible.problems import Problem
 
     with tempfile.TemporaryDirectory() as folder:
-        path = Path(folder, "hosts.ini")
-        for text, wanted in FAULTS.items():
+        faults = {("ini", text): wanted for text, wanted in FAULTS.items()}
+        for (suffix, text), wanted in {**faults, **OTHER_FAULTS}.items():
+            path = Path(folder, f"hosts.{suffix}")
             path.write_text(text, encoding="utf-8")
             try:
                 read_source(Inventory(), str(path), Trust())
                 yield f"{text[:80]!r} is read"
             except Problem as problem:
-                if not str(problem).startswith(f"{path}:{wanted}"):
+                if not str(problem).replace(f"{path}:", "", 1).startswith(wanted):
                     yield f"{text[:80]!r}: wanted {wanted!r}, found {problem}"
+        path = Path(folder, "hosts.ini")
         for value in NOT_READ:
             path.write_text(f"[all:vars]\na={value}\n", encoding="utf-8")
             inventory = Inventory()

@@ -147,8 +147,8 @@ def put_handlers(play: Play, role: Role, handlers: List[Task]) -> None:
         if other is not None:
             if handler.place != other.place:
                 other.leave(f"two handlers have the name '{handler.name}'")
-            elif handler.words.get("when") != other.words.get("when"):
-                other.leave("its role stands under several conditions")
+            elif any(handler.words.get(word) != other.words.get(word) for word in ("when", "ignore_errors")):
+                other.leave("its role stands in several places with other words round it")
             other.comes_with = other.comes_with and handler.comes_with
             continue
         handler.folder = role.folder

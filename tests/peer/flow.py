@@ -7,9 +7,9 @@ from pathlib import Path
 from typing import Any, Callable, Dict, Iterator, List, Optional
 
 from .answers import answers
-from .front_end import Verdict, check, converted
+from .front_end import Verdict, check
 from .precedence import write
-from .recaps import other_counts
+from .recaps import is_comparable, other_counts
 from .runs import Ansible, Run
 
 Json = Dict[str, Any]
@@ -43,7 +43,7 @@ def judged_book(ansible: Ansible, folder: Path, verdict: Verdict, hosts: List[st
                 counts: "Dict[str, int]") -> "Optional[tuple[str, Json]]":
     """The first promise that a run breaks, or recap that differs, with the answers of that run."""
     source = random.Random(seed)
-    is_compared = verdict.is_whole and not converted(folder)
+    is_compared = verdict.is_whole and is_comparable(folder)
     counts["of them with recaps"] = counts.get("of them with recaps", 0) + is_compared
     for number in range(RUNS if verdict.is_whole else 2):
         given = answers(source, hosts, number)

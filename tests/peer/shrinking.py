@@ -9,8 +9,9 @@ from typing import Any, Dict, Iterator
 
 import yaml
 
-from .front_end import check, converted
+from .front_end import check
 from .precedence import write
+from .recaps import is_comparable
 from .runs import Ansible
 
 Json = Dict[str, Any]
@@ -58,7 +59,7 @@ def is_broken(ansible: Ansible, folder: Path, files: Json, answers: Json, sort: 
         return False
     if not verdict.is_accepted:
         return False
-    broken = trouble(ansible, place, verdict, answers, verdict.is_whole and not converted(place))
+    broken = trouble(ansible, place, verdict, answers, verdict.is_whole and is_comparable(place))
     return bool(broken) and sort_of(broken) == sort
 
 

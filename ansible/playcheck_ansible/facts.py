@@ -3,10 +3,13 @@
 from __future__ import annotations
 
 import re
-from typing import Match
+from typing import TYPE_CHECKING, Match
 
-from .books import Block, Book, Raw, Task
+from .expressions import read_once
 from .rewriting import rewrite_words
+
+if TYPE_CHECKING:
+    from .books import Book
 
 TEXTS = ("os_family", "distribution")
 NUMBERS = ("processor_vcpus", "memtotal_mb")
@@ -16,26 +19,24 @@ NAMES = "|".join(INSTEAD)
 # A fact by itself or as a field of `ansible_facts`; with a test or a default behind it it is guarded already.
 FACT = re.compile(rf"(?<![\w.])(?:ansible_facts\.|ansible_facts\['|ansible_)({NAMES})('\])?(?![\w.\[])"
                   r"(?!\s*(?:is\s+(?:not\s+)?(?:un)?defined|\|\s*default))")
-QUOTED = re.compile(r"(\['\w+'\])|('(?:[^'\\]|\\.)*'|\"(?:[^\"\\]|\\.)*\")")
+# A fact may stand in brackets as a text.
+INDEX = re.compile(r"'\w+'")
 
 
 def trust_facts(book: Book) -> None:
-    for play in book.plays:
-        if isinstance(play, Raw):
-            continue
-        rewrite_words(play.words, trusted)
-        for step in play.steps():
-            if isinstance(step, (Block, Task)):
-                rewrite_words(step.words, trusted)
+    for play in book.read_plays():
+        for holder in play.holders():
+            rewrite_words(holder.words, trusted)
 
 
 def trusted(expression: str) -> str:
     """An expression with each fact read with a default, but for what stands in its texts."""
     parts, at = [], 0
-    for quoted in QUOTED.finditer(expression):
-        if quoted[2]:
-            parts += [FACT.sub(with_default, expression[at:quoted.start()]), quoted[2]]
-            at = quoted.end()
+    for token in read_once(expression).texts:
+        around = expression[token.start - 1:token.start] + expression[token.end:token.end + 1]
+        if around != "[]" or not INDEX.fullmatch(token.text):
+            parts += [FACT.sub(with_default, expression[at:token.start]), token.text]
+            at = token.end
     return "".join([*parts, FACT.sub(with_default, expression[at:])])
 
 

@@ -193,7 +193,7 @@ ROWS = [
          "accepted, 0 of 1 tasks judged"]),
     Row("hidden files and those of editors in a folder of variables", tasks("{ping: , when: y > 3}"),
         ["accepted, 1 of 1 tasks judged, at most 2 module calls"],
-        files={"group_vars/all/a.yml": "y: 5\n", "group_vars/all/.b.yml": "y: five\n", "group_vars/all/c.yml~": "y: five\n",
+        files={"group_vars/all/a.yml": "y: 5\n", "group_vars/all/.b.yml": "- five\n", "group_vars/all/c.yml~": "y: five\n",
                "group_vars/all/d.txt": "y: five\n", "group_vars/all/more/e.yml": "z: 1\n"}),
     Row("a name of hosts that is a number", "- hosts: [h1, 5]\n  gather_facts: false\n" + tasks("ping:"),
         ["3: P04 play: a value that hasn't the form which its keyword wants",
@@ -215,6 +215,9 @@ ROWS = [
     Row("fields of the version of a Python", tasks(*(f"debug: {{msg: '{{{{ ansible_python.version.{field} }}}}'}}" for field in
                                                      ("major", "minor", "micro", "releaselevel", "serial"))),
         ["accepted, 5 of 5 tasks judged, at most 2 module calls"], ("--trust-facts",), gathers=True),
+    Row("a group below two others in INI", tasks("{ping: , when: y > 3}"),
+        ["accepted, 1 of 1 tasks judged, at most 2 module calls"], ("-i", "d.ini"),
+        files={"d.ini": "[a:children]\nc\n[b:children]\nc\n[c]\nh1 y=5\nh2 y=6\n"}),
 ]
 
 

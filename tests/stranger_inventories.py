@@ -138,6 +138,7 @@ OTHER_FAULTS = {
     ("yml", "web: {hosts: 5}\n"): "1:14: `hosts` is a mapping in an inventory of this form",
     ("yml", "web: {vars: [a]}\n"): "1:13: `vars` is a mapping in an inventory of this form",
     ("yml", "all: {children: {web: 5}}\n"): "1:23: the group 'web' is no mapping",
+    ("yml", "web: {hosts: {h1: [a]}}\n"): "1:19: the variables of 'h1' are no mapping",
     ("yml", "- a\n"): "1:1: an inventory is a mapping of groups",
     ("json", '{"_meta": {"hostvars": {"h1": 5}}}'): "`h1` of 'hostvars' in the inventory is no mapping",
     ("json", '{"web": {"children": [5]}}'): "`children` of 'web' in the inventory is no list of names",

@@ -1,0 +1,4 @@
+mod Back
+mod Firsts
+mod Told
+mod Views

@@ -34,10 +34,14 @@ def is_of_a_row(task: Json) -> bool:
 def other_counts(folder: Path, run: Run, answers: "Dict[str, List[Json]]") -> str:
     """Where the recaps of both differ, host by host: a host without an event has no counts in Ansible's.
 
-    A loop with an item that couldn't be reached is a row of the table of differences.
+    A loop with an item that couldn't be reached is a row of the table of differences, and so is a batch without an
+    active host where some had left before.
     """
     told_lost = any(answer.get("unreachable") for given in taken(run, answers).values() for answer in given)
     if told_lost and any("loop" in task for task in steps(folder)):
+        return ""
+    has_left = any(counts["failed"] or counts["unreachable"] for counts in run.recap.values())
+    if has_left and any("serial" in play for play in steps(folder)):
         return ""
     found = run_converted(folder, taken(run, answers))
     told = [f"{host} {word} {found[host][word]} for {count}" for host in sorted(run.recap) if host in found

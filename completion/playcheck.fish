@@ -45,6 +45,7 @@ complete -c playcheck-ansible -n '__fish_seen_subcommand_from check' -l vars -r 
 complete -c playcheck-ansible -n '__fish_seen_subcommand_from check' -l format -x -a 'github gitlab json junit sarif text' -d 'how it is printed (text)'
 complete -c playcheck-ansible -n '__fish_seen_subcommand_from check' -l color -x -a 'auto always never'
 complete -c playcheck-ansible -n '__fish_seen_subcommand_from check' -l strict -d 'a task that isn\'t judged is refused'
+complete -c playcheck-ansible -n '__fish_seen_subcommand_from check' -l min-judged -x -d 'which part of a book\'s tasks has to be judged: 0 to 100 (0)'
 complete -c playcheck-ansible -n '__fish_seen_subcommand_from check' -l all -d 'goes on after a refusal'
 complete -c playcheck-ansible -n '__fish_seen_subcommand_from convert' -F
 complete -c playcheck-ansible -n '__fish_seen_subcommand_from convert' -s h -l help -d 'show this help message and exit'

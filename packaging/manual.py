@@ -34,7 +34,9 @@ FRONT_END = Prose(
      "answer into the words of the files. A task with a form that isn't known is told as not judged, and a verdict "
      "never stands without the count of the tasks that are.",),
     (("0", "all books are accepted"), ("1", "a refusal, or with --strict a task that isn't judged"),
-     ("3", "want of memory"), ("64", "a bad command line, or a file that can't be read")),
+     ("3", "want of memory or of time"), ("5", "no task of a book is judged, or fewer than --min-judged wants"),
+     ("64", "a bad command line, a file that can't be read, or a folder without a playbook"),
+     ("70", "a fault of the program itself")),
     (("PLAYCHECK", "the program that is asked, in the place of the one that stands beside the command"),
      ("NO_COLOR", "where it is set, nothing is printed in colour but for --color always")),
     ("playcheck-ansible check site.yml -i hosts.yml", "playcheck-ansible explain V03"),

@@ -11,7 +11,7 @@ from typing import Any, NamedTuple
 TOP = Path(__file__).resolve().parent.parent
 # What stands for a value in a help text, and what completes it; all else is a file.
 TAKEN = {"DIR": "folder", "modules": "folder", "TAGS": "text", "forks": "text", "arguments": "text", "timeout": "text",
-         "CODE": "code", "COMMAND": "command"}
+         "PERCENT": "text", "CODE": "code", "COMMAND": "command"}
 HELP_OPTION = re.compile(r"^ +(?:(-\w), )?(--[\w-]+)(?: <(\w+)>)?  +(\S.*)$", re.M)
 HELP_ARGUMENT = re.compile(r"^ +[<\[](\w+)[>\]](?:\.\.\.)?  +(\S.*)$", re.M)
 HELP_COMMAND = re.compile(r"^  (\w+)  +(\S.*)$", re.M)

@@ -9,6 +9,7 @@ from pathlib import Path
 
 from ansible_expressions import wrong_expressions
 from ansible_formats import wrong_colours, wrong_gitlab, wrong_junit, wrong_sarif, wrong_strict
+from ansible_gates import GATES
 from ansible_lookups import wrong_long_names, wrong_lookups, wrong_time_limit, wrong_undocumented
 from ansible_parts import wrong_parts
 from ansible_pipelines import wrong_action, wrong_completion, wrong_gitlab_job, wrong_hook, wrong_zsh
@@ -134,7 +135,7 @@ def long_chain():
 def wrong_long_texts():
     """Texts with much that is opened and never closed take as long as others of their length; what they ask is told."""
     play = "- hosts: all\n  gather_facts: false\n  tasks:\n    - debug: {msg: \"#\"}\n"
-    unjudged = "book.yml: accepted, 0 of 1 tasks judged"
+    unjudged = "book.yml: not judged, 0 of 1 tasks judged"
     many = 200_000
     cases = {"braces": (play.replace("#", "{{ " * many), unjudged), "signs": (play.replace("#", "{%" * many), unjudged),
              "blanks": (play.replace("#", "{{ a | default(" + " " * many + "x y) }}"), unjudged),
@@ -156,7 +157,7 @@ def wrong_many_forms():
     outcome = outcome_of(TOOL, Check("forms", ["check", "book.yml", "-i", "hosts.json"], None, files), WAITED)
     said = outcome.stdout.decode().splitlines()
     told = sum(line.endswith(": not judged: an expression that the profile lacks") for line in said)
-    if told != count or said[-1] != f"book.yml: accepted, 0 of {count} tasks judged" or outcome.seconds > SECONDS:
+    if told != count or said[-1] != f"book.yml: not judged, 0 of {count} tasks judged" or outcome.seconds > SECONDS:
         yield f"many forms: {told} of {count} told in {outcome.seconds:.1f} s, {said[-1:]}"
 
 
@@ -258,7 +259,7 @@ SEARCHES = (lost_transcripts, lost_titles, lost_files, lost_passes, lost_hook, w
             wrong_conversion, wrong_warnings, wrong_signatures, wrong_gitlab, wrong_junit, wrong_strict, wrong_sarif,
             wrong_colours, wrong_lookups, wrong_undocumented, wrong_long_names, wrong_time_limit, wrong_expressions,
             wrong_rewritings, wrong_rows, wrong_words, wrong_parts, wrong_completion, wrong_zsh,
-            wrong_action, wrong_gitlab_job, wrong_hook)
+            wrong_action, wrong_gitlab_job, wrong_hook, *GATES)
 # Those about terminals and large files, or other programs than the front end.
 SLOW = (lost_hook, wrong_long_texts, wrong_many_forms, wrong_colours, wrong_completion, wrong_zsh, wrong_action,
         wrong_gitlab_job, wrong_hook)

@@ -40,7 +40,7 @@ COMPLETED = [
     ("playcheck-ansible convert bad.yml -t ", []),
     ("playcheck-ansible check --skip", ["--skip-tags"]),
     ("playcheck-ansible check --ta", ["--tags"]),
-    ("playcheck-ansible check -", [*INPUTS, "--format", "--color", "--strict", "--all"]),
+    ("playcheck-ansible check -", [*INPUTS, "--format", "--color", "--strict", "--min-judged", "--all"]),
     ("playcheck-ansible convert bad.yml -", [*INPUTS, "-o", "--output"]),
     ("playcheck-ansible convert bad.yml -o ", ["folder"]),
     ("playcheck-ansible signatures --t", ["--trust-repository"]),

@@ -28,7 +28,7 @@ UNREAD: Dict[str, Tuple[Dict[str, str], str, int]] = {
     "a folder of faults": ({"i/a.yml": HOSTS["hosts.yml"], "i/b": "web1 word\n"}, "i/b:1:1: a variable as", 64),
     "a list of no hosts": ({}, f",: {NOTHING}", 64),
     "an encrypted file": ({"i": "$ANSIBLE_VAULT;1.1;AES256\n6162\n"}, "i: this inventory is encrypted", 64),
-    "a group without hosts": ({"i.yml": "all: {children: {web: }}\n"}, "site.yml: accepted, 0 of 1 tasks judged", 0),
+    "a group without hosts": ({"i.yml": "all: {children: {web: }}\n"}, "site.yml: not judged, 0 of 1 tasks judged", 5),
 }
 # The same where programs and plugins may be run: what ansible-inventory says is told.
 RUN: Dict[str, Tuple[Dict[str, str], str, int]] = {
@@ -46,7 +46,7 @@ PASSED_OVER = "not judged: no host of the inventory is of the play's `hosts`, so
 READS = "- hosts: web1\n  tasks: [{debug: {msg: '{{ ansible_system }}'}}]\n"
 # A book, its options, and what it comes to.
 PLAYS: Dict[str, Tuple[str, List[str], List[str]]] = {
-    "a group without hosts": (FAULTY.format("db"), ["-i", "i.yml"], [PASSED_OVER, "accepted, 0 of 1 tasks judged"]),
+    "a group without hosts": (FAULTY.format("db"), ["-i", "i.yml"], [PASSED_OVER, "not judged, 0 of 1 tasks judged"]),
     "strict": (FAULTY.format("db"), ["-i", "i.yml", "--strict"], ["refused by --strict, 0 of 1 tasks judged"]),
     "a pattern of no host": (FAULTY.format('"all:!web1"'), ["-i", "i.yml"], [PASSED_OVER, "0 of 1 tasks judged"]),
     "a pattern of no group": (FAULTY.format('"d*:!all"'), ["-i", "i.yml"], [PASSED_OVER, "0 of 1 tasks judged"]),

@@ -9,31 +9,33 @@ import json
 import os
 import sys
 import traceback
-from typing import TYPE_CHECKING, Iterator, List, Tuple
+from typing import TYPE_CHECKING, List, Tuple
 
 from .ansible_core import passed_over, trust_of
 from .checking import Options, check_book, settled
 from .codes import section_of
 from .command_words import BAD_WORDS, parser
+from .folders import SUFFIXES, named_books
 from .formats import FORMATS
 from .limits import ALLOWANCE, OutOfTime, reason_of
 from .loading import load_book
 from .looking_up import NOT_INSTALLED, looked_up, used_modules
 from .modules import PROFILE, UNKNOWN, ansible_name, read_signatures, short_name
-from .nodes import Mapping, Node, Pairs, Sequence, as_node, is_nothing
+from .nodes import Mapping, Node, Pairs, as_node, is_nothing
 from .positions import node_of, read_file
 from .printing import told
 from .problems import Place, Problem
 from .processes import on_path
+from .reports import REFUSED, TOO_FEW, UNREAD
 from .values import arguments_of
 
 if TYPE_CHECKING:
     from .books import Book
+    from .reports import Report
 
 NO_MEMORY = 3
 INTERNAL = 70
 INTERRUPTED = 130
-SUFFIXES = (".yml", ".yaml", ".json")
 
 
 def main(arguments: List[str]) -> int:
@@ -191,9 +193,12 @@ def with_lookup(paths: List[str], options: Options, words: argparse.Namespace) -
 def check(words: argparse.Namespace) -> int:
     options = options_of(words)
     reports, statuses = [], [0]
-    paths = list(books_of(words.books))
-    book = with_lookup(paths, options, words)
-    for path in paths:
+    named = named_books(words.books)
+    book = with_lookup(named.books, options, words)
+    for folder in named.bare:
+        told(f"{folder}: no playbook is in this folder")
+        statuses.append(BAD_WORDS)
+    for path in named.books:
         ALLOWANCE.begin()
         try:
             report = check_book(path, options, *book)
@@ -205,35 +210,17 @@ def check(words: argparse.Namespace) -> int:
             told(f"{path}: {reason_of(end)}")
             statuses.append(NO_MEMORY)
             continue
-        report.is_strict = words.strict
+        report.is_strict, report.min_judged = words.strict, words.min_judged
         reports.append(report)
-        statuses.append(0 if report.is_accepted else 1)
+    reports += named.unread
     write_out(FORMATS[words.format](reports, has_colour(words.color)))
-    return max(statuses)
+    return status_of(reports, statuses)
 
 
-def books_of(paths: List[str]) -> Iterator[str]:
-    """The books; of a folder all files that are lists of plays."""
-    for path in paths:
-        if not os.path.isdir(path):
-            yield path
-            continue
-        for folder, inner, files in os.walk(path):
-            inner[:] = sorted(name for name in inner if not name.startswith("."))
-            yield from (os.path.join(folder, name) for name in sorted(files) if is_book(os.path.join(folder, name)))
-
-
-def is_book(path: str) -> bool:
-    """Whether a file of a folder is a playbook: a list with an item that has `hosts` or `import_playbook`."""
-    if not path.endswith(SUFFIXES):
-        return False
-    ALLOWANCE.begin()
-    try:
-        node = read_file(path)
-    except Problem:
-        return False
-    return any(isinstance(item, Mapping) and ("hosts" in item or any(key.endswith("import_playbook")
-               for key in item.pairs)) for item in (node.items if isinstance(node, Sequence) else []))
+def status_of(reports: List[Report], others: List[int]) -> int:
+    """The status of all books: what ended without a report comes first, then a refusal, and the others in turn."""
+    found = {report.status for report in reports}
+    return max(others) or next((status for status in (REFUSED, UNREAD, TOO_FEW) if status in found), 0)
 
 
 def has_colour(choice: str) -> bool:

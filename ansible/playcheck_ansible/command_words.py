@@ -3,6 +3,7 @@
 from __future__ import annotations
 
 import argparse
+import re
 from typing import NoReturn
 
 from . import __version__
@@ -12,13 +13,20 @@ from .printing import told
 
 BAD_WORDS = 64
 EPILOG = """status: 0 all books are accepted, 1 a refusal (or, with --strict, a task that isn't judged),
-3 want of memory or of time, 64 a bad command line or a file that can't be read, 70 a fault of this program"""
+3 want of memory or of time, 5 no task is judged (or fewer than --min-judged wants),
+64 a bad command line or a file that can't be read, 70 a fault of this program"""
 
 
 class Words(argparse.ArgumentParser):
     def error(self, message: str) -> NoReturn:
         told(f"{message}; --help tells more")
         self.exit(BAD_WORDS)
+
+
+def percentage(text: str) -> int:
+    if not re.fullmatch("[0-9]{1,3}", text) or int(text) > 100:
+        raise argparse.ArgumentTypeError(f"a whole number from 0 to 100 is wanted, not {text!r}")
+    return int(text)
 
 
 def parser() -> argparse.ArgumentParser:
@@ -33,6 +41,8 @@ def parser() -> argparse.ArgumentParser:
     check.add_argument("--format", choices=sorted(FORMATS), default="text", help="how it is printed (text)")
     check.add_argument("--color", choices=("auto", "always", "never"), default="auto")
     check.add_argument("--strict", action="store_true", help="a task that isn't judged is refused")
+    check.add_argument("--min-judged", type=percentage, default=0, metavar="PERCENT",
+                       help="which part of a book's tasks has to be judged: 0 to 100 (0)")
     check.add_argument("--all", action="store_true", dest="go_on", help="goes on after a refusal")
     convert = commands.add_parser("convert", help="writes the JSON that is judged, and what each counted line is")
     convert.add_argument("book", metavar="BOOK")

@@ -72,7 +72,8 @@ def json_format(reports: List[Report], has_colour: bool) -> str:
 def book_json(report: Report) -> Dict[str, object]:
     return {
         "book": report.book,
-        "verdict": "accepted" if report.is_accepted else "refused",
+        "verdict": report.verdict,
+        "status": report.status,
         "tasks": report.tasks,
         "judged": report.judged,
         "left_out": report.left_out,

@@ -8,7 +8,7 @@ import re
 import xml.etree.ElementTree as xml
 from typing import TYPE_CHECKING, Dict, List, Tuple, Union
 
-from .pipelines import NOT_JUDGED, left_of, path_of
+from .pipelines import NOT_JUDGED, TOO_FEW_JUDGED, left_of, path_of, too_few_of
 from .printing import json_of, line_of
 from .wording import message_of, not_judged_of, outcome_of, verdict_of
 
@@ -30,6 +30,7 @@ def gitlab_format(reports: List[Report], has_colour: bool) -> str:
         found += [(one.code, "critical", message_of(one), one) for one in report.findings]
         severity = "major" if report.is_strict else "info"
         found += [(NOT_JUDGED, severity, not_judged_text(one), one) for one in left_of(report)]
+        found += [(TOO_FEW_JUDGED, "major", one.reason, one) for one in too_few_of(report)]
         for code, severity, text, one in found:
             key = (report.book, code, path_of(one.place), MOVING.sub("", text))
             seen[key] = seen.get(key, 0) + 1
@@ -48,7 +49,7 @@ def not_judged_text(one: Unjudged) -> str:
 
 
 def junit_format(reports: List[Report], has_colour: bool) -> str:
-    """A suite for each book: a case for each finding and each task that isn't judged, and one where it is accepted."""
+    """A suite for each book: a case for each finding and each task that isn't judged, and one of the book."""
     suites = xml.Element("testsuites", name="playcheck")
     for report in reports:
         suite = xml.SubElement(suites, "testsuite", name=xml_text(report.book))
@@ -57,7 +58,9 @@ def junit_format(reports: List[Report], has_colour: bool) -> str:
         for left in left_of(report):
             outcome = "failure" if report.is_strict else "skipped"
             add_case(suite, report, left, not_judged_text(left), outcome, NOT_JUDGED)
-        if report.is_accepted:
+        for book in too_few_of(report):
+            add_case(suite, report, book, book.reason, "failure", TOO_FEW_JUDGED)
+        if report.status == 0:
             xml.SubElement(suite, "testcase", name=outcome_of(report), classname=xml_text(report.book))
         xml.SubElement(suite, "system-out").text = xml_text(verdict_of(report))
         count_cases(suite, suite)

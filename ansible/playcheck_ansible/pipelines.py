@@ -4,16 +4,17 @@ from __future__ import annotations
 
 from typing import TYPE_CHECKING, Dict, List
 
-from .codes import OWN_TITLES, TITLES
 from .printing import json_of, line_of
-from .wording import message_of, verdict_of
+from .problems import Place
+from .reports import TOO_FEW, Unjudged
+from .wording import message_of, outcome_of, verdict_of
 
 if TYPE_CHECKING:
-    from .problems import Place
-    from .reports import Report, Unjudged
+    from .reports import Report
 
 SARIF_SCHEMA = "https://json.schemastore.org/sarif-2.1.0.json"
 NOT_JUDGED = "not-judged"
+TOO_FEW_JUDGED = "too-few-judged"
 
 
 def left_of(report: Report) -> List[Unjudged]:
@@ -21,16 +22,25 @@ def left_of(report: Report) -> List[Unjudged]:
     return [*report.unjudged, *report.notes]
 
 
+def too_few_of(report: Report) -> List[Unjudged]:
+    """The book itself, where its status is that too few of its tasks are judged."""
+    return [Unjudged(Place(report.book), "", outcome_of(report))] if report.status == TOO_FEW else []
+
+
 def sarif_format(reports: List[Report], has_colour: bool) -> str:
-    used = sorted({one.code for report in reports for one in report.findings})
-    rules = [{"id": code, "shortDescription": {"text": {**TITLES, **OWN_TITLES}.get(code, code)}} for code in used]
+    used = sorted({(one.code, one.title) for report in reports for one in report.findings})
+    rules = [{"id": code, "shortDescription": {"text": title}} for code, title in used]
     rules.append({"id": NOT_JUDGED, "shortDescription": {"text": "a task that isn't judged"}})
+    if any(map(too_few_of, reports)):
+        rules.append({"id": TOO_FEW_JUDGED, "shortDescription": {"text": "a book of which too few tasks are judged"}})
     results = []
     for report in reports:
         for one in report.findings:
             results.append(sarif_result(one.code, "error", message_of(one), one.place))
         for left in left_of(report):
             results.append(sarif_result(NOT_JUDGED, "note", line_of(left.reason), left.place))
+        for book in too_few_of(report):
+            results.append(sarif_result(TOO_FEW_JUDGED, "error", book.reason, book.place))
     run = {"tool": {"driver": {"name": "playcheck", "rules": rules}}, "results": results}
     return json_of({"$schema": SARIF_SCHEMA, "version": "2.1.0", "runs": [run]})
 
@@ -57,6 +67,8 @@ def github_format(reports: List[Report], has_colour: bool) -> str:
             printed.append(f"::error {github_place(one.place)},title={one.code}::{github_text(message_of(one))}")
         for left in left_of(report):
             printed.append(f"::notice {github_place(left.place)},title=not judged::{github_text(line_of(left.reason))}")
+        for book in too_few_of(report):
+            printed.append(f"::error {github_place(book.place)},title=too few judged::{github_text(book.reason)}")
         printed.append(verdict_of(report))
     return "".join(line + "\n" for line in printed)
 

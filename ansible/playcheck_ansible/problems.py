@@ -21,7 +21,7 @@ class Problem(Exception):
 
     def __init__(self, place: Optional[Place], what: str, status: int = 64) -> None:
         super().__init__(f"{place}: {what}" if place else what)
-        self.status = status
+        self.place, self.what, self.status = place, what, status
 
 
 class Mistake(NamedTuple):

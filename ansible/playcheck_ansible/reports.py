@@ -8,6 +8,8 @@ from typing import TYPE_CHECKING, List
 if TYPE_CHECKING:
     from .problems import Place
 
+REFUSED, TOO_FEW, UNREAD = 1, 5, 64
+
 
 @dataclass
 class Finding:
@@ -43,11 +45,39 @@ class Report:
     budget: int = 0
     has_bound: bool = True  # the budget is one: no task is tried more often than the profile has it
     is_strict: bool = False  # what isn't judged is refused
+    is_unread: bool = False  # a file of a folder that can't be read: its finding says why
+    min_judged: int = 0  # the percentage of the tasks that has to be judged
 
     @property
     def is_whole(self) -> bool:
         return self.judged == self.tasks and not self.notes
 
     @property
+    def is_refused(self) -> bool:
+        return not self.is_unread and (bool(self.findings) or self.is_strict and not self.is_whole)
+
+    @property
+    def is_empty(self) -> bool:
+        """Nothing is refused since nothing is judged; a book without tasks has nothing to judge."""
+        return not self.is_refused and self.tasks > 0 and self.judged == 0
+
+    @property
     def is_accepted(self) -> bool:
-        return not self.findings and (self.is_whole or not self.is_strict)
+        return not (self.is_unread or self.is_refused or self.is_empty)
+
+    @property
+    def has_too_few(self) -> bool:
+        """Of an accepted book fewer tasks are judged than `--min-judged` wants."""
+        return self.is_accepted and self.judged * 100 < self.tasks * self.min_judged
+
+    @property
+    def verdict(self) -> str:
+        if self.is_unread:
+            return "unread"
+        return "refused" if self.is_refused else "not judged" if self.is_empty else "accepted"
+
+    @property
+    def status(self) -> int:
+        if self.is_refused or self.is_unread:
+            return REFUSED if self.is_refused else UNREAD
+        return TOO_FEW if self.is_empty or self.has_too_few else 0

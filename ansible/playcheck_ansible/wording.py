@@ -33,11 +33,17 @@ def verdict_of(report: Report) -> str:
 
 
 def outcome_of(report: Report) -> str:
+    if report.is_unread:
+        return "can't be read"
     if report.findings:
         found = "1 finding" if len(report.findings) == 1 else f"{len(report.findings)} findings"
         return f"refused, {found}, {count_of(report)}"
-    if not report.is_accepted:
+    if report.is_refused:
         return f"refused by --strict, {count_of(report)}"
+    if report.is_empty:
+        return f"{report.verdict}, {count_of(report)}"
+    if report.has_too_few:
+        return f"accepted, {count_of(report)}: fewer than {report.min_judged} % (--min-judged)"
     budget = f", at most {report.budget} module calls" if report.is_whole and report.has_bound else ""
     return f"accepted, {count_of(report)}{budget}"
 

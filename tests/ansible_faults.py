@@ -1,5 +1,7 @@
 # SPDX-License-Identifier: MIT OR Apache-2.0
 # Small books with faults of their words and of the files beside them, and what is said of each; see ansible_rows.py.
+import json
+
 from ansible_rows import SIGNATURES, UNKNOWN, UNSET, Row, left, tasks
 
 CHOSEN = SIGNATURES.strip()[:-2] + (', "ansible": {"name": "own", "aliases": {}, "asked": [], "required": [], "choices": '
@@ -160,4 +162,27 @@ ROWS = [
         files={"roles/a/meta/main.yml": "dependencies: [{role: b, vars: {z: [1]}}]\n", "roles/a/vars/main.yml": "z: 1\n",
                "roles/a/tasks/main.yml": "- {name: Own, ping: , when: z | length > 0}\n",
                "roles/b/tasks/main.yml": "- {ping: , when: z | length > 0}\n"}),
+    Row("ranges of hosts in INI",
+        "- hosts: [h98, h99, h100, k0, k5, k10, wa, wc, we, z08, z09, z10]\n  gather_facts: false\n" + tasks("ping:"),
+        ["accepted, 2 of 2 tasks judged, at most 26 module calls"], ("-i", "d.ini"), head=tasks("ping:"),
+        files={"d.ini": "h[98:100]\nk[:10:5]\nw[a:e:2]\nz[08:10]\n"}),
+    Row("patterns that are regular expressions",
+        "- hosts: '~^h.$'\n  gather_facts: false\n" + tasks("ping:") + "- hosts: '~('\n  gather_facts: false\n" + tasks("ping:"),
+        ["7: V06 play '~(': an unknown host or group: hosts: ~(", "refused, 1 finding, 2 of 2 tasks judged"]),
+    Row("a number of what is typed, which may be inf", tasks("{name: Number, ping: , when: y | int > 3}"),
+        [left(5, "Number", "`int` of what may be the text `inf`, of which it makes no number"), "accepted, 0 of 1 tasks judged"],
+        head="  vars_prompt: [{name: y}]\n"),
+    Row("a number of what would be typed but for the command line", tasks("{name: Number, ping: , when: y | int > 3}"),
+        ["accepted, 1 of 1 tasks judged, at most 2 module calls"], ("-e", "y=5"), head="  vars_prompt: [{name: y}]\n"),
+    Row("a name of a host that the inventory gives to all, where only what it gives is there",
+        tasks("{name: Early, ping: , loop: ['{{ ansible_host }}']}"), ["accepted, 1 of 1 tasks judged, at most 2 module calls"],
+        files={"group_vars/all.yml": "ansible_host: a\n"}),
+    Row("a name of a host that the inventory gives to one, where only what it gives is there",
+        tasks("{name: Early, ping: , loop: ['{{ ansible_host }}']}"),
+        [left(4, "Early", "it reads 'ansible_host' where only what the inventory gives is there"),
+         "accepted, 0 of 1 tasks judged"], files={"host_vars/h1.yml": "ansible_host: a\n"}),
+    *(Row(f"hosts by the default {written}", f"- hosts: {json.dumps('{{ t | default(' + written + ') }}')}\n"
+          "  gather_facts: false\n" + tasks("ping:"),
+          ["accepted, 2 of 2 tasks judged, at most 3 module calls"], head=tasks("ping:"))
+      for written in ("'web'", '"web"', "'web', true")),
 ]

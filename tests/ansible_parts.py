@@ -1,12 +1,15 @@
 # SPDX-License-Identifier: MIT OR Apache-2.0
 # Tries parts of the front end alone: the last size that a limit allows and the next one, and what no verdict shows.
+import io
 import json
 import os
+import signal
 import sys
 import tempfile
+from contextlib import redirect_stderr
 from pathlib import Path
 from typing import Iterator
-from unittest.mock import patch
+from unittest.mock import Mock, patch
 
 from ansible_tools import TOP, run_tool
 
@@ -28,7 +31,7 @@ def is_read(items: int) -> bool:
 
 def wrong_parts() -> Iterator[str]:
     for search in (wrong_limits, wrong_program, wrong_short_name, wrong_folder, wrong_matching,
-                   wrong_collections):
+                   wrong_collections, wrong_endings, wrong_bounds):
         yield from search()
 
 
@@ -109,3 +112,33 @@ def wrong_collections() -> Iterator[str]:
             done = run_tool(["check", "book.yml", "-i", "h1,"], folder, given={name: f"/gone:{folder}/there"})
         if done.stdout != "book.yml: accepted, 1 of 1 tasks judged, at most 1 module calls\n":
             yield f"{name}: {done}"
+
+
+def wrong_endings() -> Iterator[str]:
+    """The status of a command that ends otherwise than by an answer, and what is said of it."""
+    from playcheck_ansible import command, limits
+
+    ends = ((KeyboardInterrupt(), 128 + signal.SIGINT, ""), (LookupError("x"), 70, "internal error: LookupError: x (mock.py:"),
+            (RecursionError(), 64, "a file nests too deep"), (limits.OutOfTime(), 3, limits.TIME))
+    for end, status, told in ends:
+        said = io.StringIO()
+        with patch.object(command.ALLOWANCE, "set"), redirect_stderr(said), \
+                patch.dict(command.COMMANDS, {"explain": Mock(side_effect=end)}):
+            found = command.run(["explain", "V01"])
+        if found != status or not said.getvalue().startswith(told and f"playcheck-ansible: {told}"):
+            yield f"the end by {end!r}: status {found}, {said.getvalue()}"
+
+
+def wrong_bounds() -> Iterator[str]:
+    """The bounds that the page names are those of the front end."""
+    from playcheck_ansible import contexts, inventory_sources, limits, loading, looking_up, positions, processes
+
+    page = " ".join((TOP / "docs" / "FROM_ANSIBLE.md").read_text(encoding="utf-8").split())
+    for told in (f"one call of `ansible-doc --json`, of at most {looking_up.SECONDS} seconds",
+                 f"has {limits.SECONDS} seconds of the processor's time", f"and {limits.BYTES // 2**30} GB of memory",
+                 f"may print {processes.MOST_OUTPUT:,} bytes in {inventory_sources.SECONDS} seconds",
+                 f"at most {positions.MOST_BYTES:,} bytes and {positions.MOST_NODES:,} values",
+                 f"nests at most {positions.MOST_LEVELS} deep",
+                 f"At most {contexts.MOST_FILES:,} files are put in place, and {loading.MOST_STEPS:,} tasks and blocks"):
+        if told not in page:
+            yield f"docs/FROM_ANSIBLE.md doesn't say: {told}"

@@ -2,7 +2,7 @@
 # Small books with faults of their words and of the files beside them, and what is said of each; see ansible_rows.py.
 import json
 
-from ansible_rows import SIGNATURES, UNKNOWN, UNSET, Row, left, tasks
+from ansible_rows import SIGNATURES, UNKNOWN, UNSET, Row, left, tasks, unset
 
 CHOSEN = SIGNATURES.strip()[:-2] + (', "ansible": {"name": "own", "aliases": {}, "asked": [], "required": [], "choices": '
                                     '{"level": [1]}}}]')
@@ -134,8 +134,7 @@ ROWS = [
         ["6: not judged: task 'By name': `loop_var`: it may be read where it can't be followed", "accepted, 1 of 2 tasks judged"],
         head="  vars: {myvars: a}\n"),
     Row("what is typed may be any text", tasks("{name: Read, debug: {msg: '{{ gone }}'}, when: y == 'a'}"),
-        ["5: V01 task 'Read', host h1: a variable that is perhaps undefined: 'gone' is set nowhere: not in this book, not in "
-         "the inventory", "refused, 1 finding, 1 of 1 tasks judged"], head="  vars_prompt: [{name: y}]\n"),
+        [unset(5, "Read", "gone"), "refused, 1 finding, 1 of 1 tasks judged"], head="  vars_prompt: [{name: y}]\n"),
     Row("arguments of a documented module that are a list", tasks("{name: Listed, own: [1]}"),
         ["4: not judged: task 'Listed': a value that hasn't the form which the profile wants", "accepted, 0 of 1 tasks judged"],
         ("-s", "chosen.json"), files={"chosen.json": CHOSEN}),
@@ -185,4 +184,13 @@ ROWS = [
           "  gather_facts: false\n" + tasks("ping:"),
           ["accepted, 2 of 2 tasks judged, at most 3 module calls"], head=tasks("ping:"))
       for written in ("'web'", '"web"', "'web', true")),
+    Row("a fact that an imported playbook may have gathered", "- import_playbook: '{{ port }}.yml'\n- hosts: all\n"
+        "  gather_facts: false\n" + tasks("{name: Read, debug: {msg: '{{ ansible_hostname }}'}}"),
+        ["5: not judged: `import_playbook` with a name that is no literal text isn't put in place",
+         left(9, "Read", "it reads 'ansible_hostname', which may come from what isn't judged"),
+         "accepted, 1 of 3 tasks judged"], head=tasks("ping:")),
+    Row("a playbook that is imported behind what is read", tasks("{name: Read, debug: {msg: '{{ gone }}'}}")
+        + "- import_playbook: '{{ port }}.yml'\n",
+        [unset(4, "Read", "gone"), "5: not judged: `import_playbook` with a name that is no literal text isn't put in place",
+         "refused, 1 finding, 1 of 2 tasks judged"]),
 ]

@@ -8,7 +8,7 @@ import sys
 import tempfile
 from contextlib import redirect_stderr
 from pathlib import Path
-from typing import Iterator
+from typing import Dict, Iterator
 from unittest.mock import Mock, patch
 
 from ansible_tools import TOP, run_tool
@@ -31,7 +31,7 @@ def is_read(items: int) -> bool:
 
 def wrong_parts() -> Iterator[str]:
     for search in (wrong_limits, wrong_program, wrong_short_name, wrong_folder, wrong_matching,
-                   wrong_collections, wrong_endings, wrong_bounds):
+                   wrong_collections, wrong_others, wrong_endings, wrong_bounds):
         yield from search()
 
 
@@ -73,6 +73,23 @@ def wrong_short_name() -> Iterator[str]:
     short = {host: given.get("inventory_hostname_short") for host, given in hosts.items()}
     if short != {"web.eu.example": "web", "db": "db"} or done.returncode or done.stderr:
         yield f"short names: {short}, {done}"
+
+
+def wrong_others() -> Iterator[str]:
+    """Of which tasks `convert` says that a run does something else: each of these but the first two."""
+    tasks = ("ping:", "{ping: , run_once: false}", "{ping: , register: r, until: r is succeeded, retries: 300}",
+             "{ping: , run_once: true}", "{ping: , check_mode: true}", "{ping: , async: 5}", "meta: noop", "{apt: {name: a}}")
+    others: Dict[str, int] = {"": len(tasks) - 2, "  any_errors_fatal: true\n": len(tasks) - 1,
+                              "  vars_prompt: [{name: y}]\n": len(tasks) - 1, "  max_fail_percentage: 5\n": len(tasks) - 1}
+    for head, count in others.items():
+        with tempfile.TemporaryDirectory() as folder:
+            lines = "".join(f"  - {line}\n" for line in tasks)
+            Path(folder, "book.yml").write_text(f"- hosts: all\n  gather_facts: false\n{head}  tasks:\n{lines}")
+            done = run_tool(["convert", "book.yml", "-i", "h1,", "-o", "out"], folder)
+        first = "1:3" if head else "6:5"
+        told = f"{count} tasks are others (book.yml:{first} first) than in a run of Ansible: this book is for check, and not for run"
+        if (done.returncode, done.stderr) != (0, f"playcheck-ansible: {told}\n"):
+            yield f"tasks that are others: wanted {told}, found {done}"
 
 
 def wrong_folder() -> Iterator[str]:

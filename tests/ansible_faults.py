@@ -193,4 +193,6 @@ ROWS = [
         + "- import_playbook: '{{ port }}.yml'\n",
         [unset(4, "Read", "gone"), "5: not judged: `import_playbook` with a name that is no literal text isn't put in place",
          "refused, 1 finding, 1 of 2 tasks judged"]),
+    Row("loop_control without a value, which Ansible refuses", tasks("{name: Odd, ping: , loop: [1], loop_control: }"),
+        [left(4, "Odd", "`loop_control` with more than `label`, `loop_var` and `pause`"), "accepted, 0 of 1 tasks judged"]),
 ]

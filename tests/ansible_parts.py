@@ -6,7 +6,7 @@ import os
 import signal
 import sys
 import tempfile
-from contextlib import redirect_stderr
+from contextlib import redirect_stderr, redirect_stdout
 from pathlib import Path
 from typing import Dict, Iterator
 from unittest.mock import Mock, patch
@@ -31,7 +31,8 @@ def is_read(items: int) -> bool:
 
 def wrong_parts() -> Iterator[str]:
     for search in (wrong_limits, wrong_program, wrong_short_name, wrong_folder, wrong_matching,
-                   wrong_collections, wrong_others, wrong_endings, wrong_bounds):
+                   wrong_collections, wrong_others, wrong_count, wrong_endings, wrong_books,
+                   wrong_bounds):
         yield from search()
 
 
@@ -144,6 +145,34 @@ def wrong_endings() -> Iterator[str]:
             found = command.run(["explain", "V01"])
         if found != status or not said.getvalue().startswith(told and f"playcheck-ansible: {told}"):
             yield f"the end by {end!r}: status {found}, {said.getvalue()}"
+
+
+def wrong_count() -> Iterator[str]:
+    """So many files are put in place, and not one more."""
+    from playcheck_ansible.contexts import MOST_FILES, Count
+    from playcheck_ansible.problems import Place, Problem
+
+    count = Count()
+    for _ in range(MOST_FILES):
+        count.add(Place("file"))
+    try:
+        count.add(Place("file"))
+        yield f"more than {MOST_FILES} files are put in place"
+    except Problem:
+        pass
+
+
+def wrong_books() -> Iterator[str]:
+    """A book that takes too much is told, and those behind it are checked."""
+    from playcheck_ansible import command, limits
+
+    told = io.StringIO()
+    with patch.object(command.ALLOWANCE, "set"), redirect_stderr(told), redirect_stdout(io.StringIO()), \
+            patch.object(command, "check_book", Mock(side_effect=[limits.OutOfTime(), MemoryError(), limits.OutOfTime()])):
+        status = command.run(["check", "a", "b", "c", "-i", "h1,", "--no-lookup"])
+    wanted = [f"playcheck-ansible: {book}: {what}" for book, what in zip("abc", (limits.TIME, limits.MEMORY, limits.TIME))]
+    if status != 3 or told.getvalue().splitlines() != wanted:
+        yield f"books that take too much: status {status}, {told.getvalue()}"
 
 
 def wrong_bounds() -> Iterator[str]:

@@ -195,4 +195,8 @@ ROWS = [
          "refused, 1 finding, 1 of 2 tasks judged"]),
     Row("loop_control without a value, which Ansible refuses", tasks("{name: Odd, ping: , loop: [1], loop_control: }"),
         [left(4, "Odd", "`loop_control` with more than `label`, `loop_var` and `pause`"), "accepted, 0 of 1 tasks judged"]),
+    Row("a play without hosts where the inventory has none", tasks("ping:") + "- gather_facts: false\n",
+        ["5: P02 play: no list of plays, or a play without `hosts`",
+         "4: not judged: no host of the inventory is of the play's `hosts`, so Ansible passes it over",
+         "refused, 1 finding, 0 of 1 tasks judged"], files={"hosts.yml": "web:\n"}),
 ]

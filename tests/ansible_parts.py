@@ -3,6 +3,7 @@
 import io
 import json
 import os
+import resource
 import signal
 import sys
 import tempfile
@@ -31,8 +32,8 @@ def is_read(items: int) -> bool:
 
 def wrong_parts() -> Iterator[str]:
     for search in (wrong_limits, wrong_program, wrong_short_name, wrong_folder, wrong_matching,
-                   wrong_collections, wrong_others, wrong_count, wrong_endings, wrong_books,
-                   wrong_bounds):
+                   wrong_collections, wrong_others, wrong_count, wrong_allowance, wrong_endings,
+                   wrong_books, wrong_bounds):
         yield from search()
 
 
@@ -130,6 +131,24 @@ def wrong_collections() -> Iterator[str]:
             done = run_tool(["check", "book.yml", "-i", "h1,"], folder, given={name: f"/gone:{folder}/there"})
         if done.stdout != "book.yml: accepted, 1 of 1 tasks judged, at most 1 module calls\n":
             yield f"{name}: {done}"
+
+
+def wrong_allowance() -> Iterator[str]:
+    """The time of this process counts, and a check ends where more than it may take is used up."""
+    from playcheck_ansible import limits
+
+    own = limits.used(resource.RUSAGE_SELF)
+    found, allowance = limits.used(), limits.Allowance()
+    allowance.is_set = True
+    ended = []
+    for start in (found - limits.SECONDS - 1, found):
+        allowance.start = start
+        try:
+            allowance.ask()
+        except limits.OutOfTime:
+            ended.append(start)
+    if not found >= own > 0 or ended != [found - limits.SECONDS - 1]:
+        yield f"the time of a check: {own} of {found} seconds, ended from {ended} on"
 
 
 def wrong_endings() -> Iterator[str]:

@@ -45,6 +45,8 @@ KEPT_DEFAULTS = [
     "'plain | default(1, true)'", "omit | default(1, true)",
 ]
 BOOL = "({0} == true or {0} == 1 or {0} in [..])"
+A_TEXT = "([[{0}] | length] | join)"
+RESULTS = {"failed": ("failure",), "succeeded": ("success", "successful"), "changed": ("change",), "skipped": ("skip",)}
 # What is exact, and what has the same kind and reads the same.
 STOOD_IN = [
     ("x | bool", BOOL.format("x")),
@@ -81,6 +83,19 @@ STOOD_IN = [
     ("x | lower | default('a', true)", "([[x] | length] | join)"),
     ("x | regex_replace('(a)', '\\\\1')", "([[x] | length] | join)"),
     ("x is version('1')", "([x] | length == 1)"),
+    ("x.split('.') | length > 1", "([x | length, [x] | join] | length) > 1"),
+    *((f"x.split('.'){one}", A_TEXT.format("x | length, [x] | join")) for one in ("[-1]", " | first", " | last")),
+    *((f"x | {name}", A_TEXT.format("x")) for name in ("upper", "string", "trim", "capitalize", "title", "quote", "to_json",
+                                                      "to_nice_json", "type_debug", "replace('a', 'b')")),
+    *((f"x | {name}", A_TEXT.format("x | length, [x] | join")) for name in ("dirname", "b64encode")),
+    *((f"x.{name}", A_TEXT.format("x | length, [x] | join"))
+      for name in ("lower()", "upper()", "strip('a')", "lstrip()", "rstrip()", "title()", "capitalize()", "replace('a', 'b')")),
+    *((f"x.{name}('a')", "([x | length, [x] | join] | length == 1)") for name in ("startswith", "endswith")),
+    *((f"a is {name}", f"a is {wanted}") for wanted, names in RESULTS.items() for name in names),
+    *((f"a is {name}", "(a is defined and ([a] | length == 1))") for name in ("boolean", "number", "integer", "float", "mapping",
+                                                                           "sequence")),
+    *((f"x is {name}", "([x] | length == 1)") for name in ("match('a')", "regex('a')", "version_compare('1', '<')")),
+    *((f"a is {name}", f"(a is defined and a == {name})") for name in ("none", "true", "false")),
 ]
 KEPT_FORMS = [
     "x", "x == 1 and y is defined", "x[0]", "x[y]", "x | first", "x | map('a')", "x + y", "x / 2", "x | int / y",
@@ -90,6 +105,7 @@ KEPT_FORMS = [
     "x is sameas(y)", "first(1)", "x.split(',') | first(1)", "x is gone('a')", "x | replace('a' 'b')", "x | bool(1)", "x | to_nice_json(1)",
     "x[0] | string", "x | regex_replace('a', '\\\\1')", "x | regex_replace('a', y)", "x.split('')[0]", "x.split(y)[0]",
     "x | lower | default(5, true)", "x is version('1', 'foo')", "x is version('1', y)", "(" * 200 + "x | bool" + ")" * 200, "not " * 200 + "x | bool",
+    "true.x", "x.upper().y", "x.upper()['a']", "lookup('env', 'A', 'B')", "x.center(5)", "x.replace('a', 5)", "x | int(y)",
 ]
 # Where only what is read counts.
 LOOSE = [

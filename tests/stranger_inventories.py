@@ -144,7 +144,8 @@ OTHER_FAULTS = {
     ("json", '{"web": {"children": [5]}}'): "`children` of 'web' in the inventory is no list of names",
 }
 # Values that no JSON has, or too long ones: each is held, and not read.
-NOT_READ = ("{1: 2}", "{1, 2}", "1+2j", "[b'a']", "1e999", "0x" + "f" * 5000, "'\\ud800'", "[" * 60 + "]" * 60)
+NOT_READ = ("{1: 2}", "{1, 2}", "1+2j", "[b'a']", "1e999", "0x" + "f" * 5000, "'\\ud800'", "[" * 60 + "]" * 60,
+            "{'a': " * 40 + "1" + "}" * 40)
 
 
 def wrong_faults() -> Iterator[str]:

@@ -85,7 +85,7 @@ def shown(task: Task, node: Mapping) -> Mapping:
             node.put("msg", as_node("Hello world!", node.place))
         return node
     if is_text(name) and not has_template(name.value):
-        name = Scalar("{{ " + read_if_there(name.value.strip()) + " }}", name.place, name.text, True)
+        name = Scalar("{{ " + read_if_there(name.value.strip()) + " }}", name.place, name.text)
     node.put("msg", name)
     return node
 

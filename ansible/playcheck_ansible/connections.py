@@ -45,9 +45,9 @@ def asked_value(node: Node, kind: str) -> "list[Node]":
     if not isinstance(node, Scalar):
         return [asked_text(node, "", kind)]
     if is_whole(node):
-        return [Scalar(node.value, node.place, node.text, True, wanted=kind)]
+        return [Scalar(node.value, node.place, node.text, wanted=kind)]
     return [] if is_of_kind(node.value, kind) else [asked_text(node, "", kind)]
 
 
 def asked_text(node: Node, text: str, kind: str) -> Text:
-    return Scalar("{{ '' }}", node.place, text, True, wanted=kind)
+    return Scalar("{{ '' }}", node.place, text, wanted=kind)

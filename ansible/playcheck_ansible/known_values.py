@@ -34,7 +34,9 @@ class Values:
             found[name] = [*known, value] if is_known and known is not None else None
         for play in self.book.read_plays():
             lost = [name for holder in play.containers() for name in holder.lost]
-            found.update(dict.fromkeys([*play.prompted, *lost]))
+            for name in (*play.prompted, *lost):
+                found[name] = None
+                self.written.pop(name, None)
         return found
 
     def givings(self) -> Iterator[Tuple[str, Value, bool]]:

@@ -74,7 +74,7 @@ def bare(expression: str) -> str:
 
 def ignored(task: Task, node: Text, change: Change) -> Text:
     """A template in the place of `ignore_errors` has to be a condition of the profile."""
-    condition = Scalar(change(f"({node.value}) | bool"), node.place, node.text, True)
+    condition = Scalar(change(f"({node.value}) | bool"), node.place, node.text)
     what = read_once(condition.value).form
     if what or "item" in read_once(node.value).names:
         task.leave(f"`ignore_errors` with {what or '`item`'}", node.place)

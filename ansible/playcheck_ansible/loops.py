@@ -8,7 +8,7 @@ from typing import TYPE_CHECKING, List, Optional
 from .expressions import read_once
 from .kinds import evaluated_word, wrong_word
 from .names import GRAMMAR, KNOWN, MAGIC, expressions_of, given_names, mentioned, names_of_vars, read_places
-from .nodes import Mapping, Node, Sequence, as_node, has_template, is_nothing, is_text, items_or_one, pairs_in, texts_of
+from .nodes import Mapping, Node, Sequence, as_node, has_template, is_text, items_or_one, pairs_in, texts_of
 from .rewriting import Change, changed_texts, rewrite_words
 from .tokens import VARIABLE
 from .values import is_whole
@@ -107,7 +107,7 @@ def loops(task: Task) -> None:
             task.leave(f"`{key}`", task.words.keys.get(key))
             return
     control = task.words.take("loop_control")
-    if control is None or is_nothing(control):
+    if control is None:
         return
     if not isinstance(control, Mapping) or set(control.pairs) - {"label", "pause"}:
         task.leave("`loop_control` with more than `label`, `loop_var` and `pause`", control.place)

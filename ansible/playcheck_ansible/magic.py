@@ -100,7 +100,7 @@ def give_connections(play: Play, names: Set[str]) -> None:
     if names and (given is None or isinstance(given, Mapping)):
         merged = given.copy() if given is not None else Mapping({}, play.place)
         for name in sorted(names):
-            merged.put(name, Scalar(OF_PLAY[name], play.place, OF_PLAY[name], True))
+            merged.put(name, Scalar(OF_PLAY[name], play.place, OF_PLAY[name]))
         play.words.put("vars", merged)
 
 

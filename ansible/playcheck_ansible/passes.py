@@ -52,7 +52,7 @@ def plain_keywords(task: Task) -> None:
     ignores = words.get("ignore_errors")
     if is_whole(ignores) and not task.is_handler:
         task.evaluated += evaluated_word("ignore_errors", ignores)
-        task.judging.ignore_condition = Scalar(ignores.value.strip()[2:-2].strip(), ignores.place, ignores.text, True)
+        task.judging.ignore_condition = Scalar(ignores.value.strip()[2:-2].strip(), ignores.place, ignores.text)
         words.put("ignore_errors", as_node(True, ignores.place))
     for key in ("name", "register"):
         node = words.get(key)
@@ -85,7 +85,7 @@ def without_braces(node: Node) -> Node:
     if isinstance(node, Sequence):
         return Sequence([without_braces(item) for item in node.items], node.place)
     if is_whole(node):
-        return Scalar(node.value.strip()[2:-2].strip(), node.place, node.text, True)
+        return Scalar(node.value.strip()[2:-2].strip(), node.place, node.text)
     return node
 
 

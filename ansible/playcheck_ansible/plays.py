@@ -162,7 +162,7 @@ def looked_up(node: Node, play: Play, extra: Pairs) -> Node:
         default = match[2] if match[2] is not None else match[3]
         return default if default is not None and match[1] not in known else match[0]
 
-    return Scalar(LOOKED_UP.sub(value, node.value), node.place, node.text, True)
+    return Scalar(LOOKED_UP.sub(value, node.value), node.place, node.text)
 
 
 def play_words(play: Play) -> None:

@@ -6,12 +6,13 @@ import re
 from typing import TYPE_CHECKING, Callable, List, Optional, Set, Tuple
 
 from .books import Block, Book, Play, Task
+from .documented_facts import DOCUMENTED
 from .expressions import read_once
 from .inclusion import topics_of
 from .lines import Line, Numbered, Printer
 from .modules import CHANGES_FLOW, PROFILE, SETS_UNKNOWN, Modules
-from .names import names_of_vars, read_places
-from .nodes import Mapping, Node, Sequence, as_node, has_template, pairs_in, texts_of
+from .names import FACTS, names_of_vars, read_places
+from .nodes import Mapping, Node, Scalar, Sequence, as_node, has_template, pairs_in, texts_of
 from .problems import Mistake, Place
 from .taint import CUT, Taint, leave_handlers
 from .unreadable_tasks import leave_unreadable
@@ -189,7 +190,7 @@ class Settler(Taint):
         if answer.code == "V01":
             from .hints import culprit  # read where it is wanted: an accepted book has no finding
 
-            known = self.names_in_scope(task)
+            known = self.names_in_scope(task) - self.ungathered()
             found = culprit(task, known)
             if found and found.name != "item" and self.may_be_set_elsewhere(task, play):
                 near = nearest(found.name, known)
@@ -200,6 +201,13 @@ class Settler(Taint):
         if answer.code == "V06" and self.makes_groups():
             return "it names a group or a host that the book may make"
         return ""
+
+    def ungathered(self) -> Set[str]:
+        """The facts, where nothing that is known of the book gathers any."""
+        words = [play.words.get("gather_facts") for play in self.plays]
+        is_gathered = any(isinstance(node, Scalar) and node.value is True for node in words)
+        is_called = any(task.module() == "setup" for task in self.tasks)
+        return set() if is_gathered or is_called else {*FACTS, *DOCUMENTED}
 
     def undocumented_field(self, task: Task) -> str:
         """Whether a task reads a field that its module's documentation gives no kind."""

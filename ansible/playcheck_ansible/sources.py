@@ -25,7 +25,7 @@ def arguments_of(file: Path) -> FrozenSet[str]:
     try:
         if file.stat().st_size > MOST_BYTES:
             return frozenset()
-        tree = ast.parse(file.read_text(encoding="utf-8"))
+        tree = ast.parse(file.read_bytes())
     except (OSError, ValueError, SyntaxError, RecursionError):
         return frozenset()
     found: Set[str] = set()

@@ -183,8 +183,10 @@ def included(node: Mapping, key: str, context: Context) -> List[Step]:
         if kind == "import_tasks":
             raise Problem(node[key].place, f"{name} isn't there")
         return [left_include(task, f"{name} isn't there, so `{kind}`")]
-    if path in context.open or len(context.open) >= MOST_INCLUDES:
+    if path in context.open:
         return [left_include(task, f"{name} includes itself, so it")]
+    if len(context.open) >= MOST_INCLUDES:
+        return [left_include(task, f"more than {MOST_INCLUDES} files include one another, so {name}")]
     return put_in_place(task, kind, key, path, context)
 
 

@@ -31,7 +31,7 @@ def leave_unreadable(lines: List[Optional[Line]], ask: AsksPart, is_left: IsLeft
 
 def leave_in(play: Play, tasks: List[Task], ask: AsksPart, is_left: IsLeft) -> bool:
     """The same of a few tasks of a play, whether there is no mistake: from a refused one on they are asked again."""
-    while tasks:
+    while True:
         numbered, answer = ask(play, tasks)
         line = numbered.line(answer.line)
         if not answer.code.startswith("P"):
@@ -39,4 +39,3 @@ def leave_in(play: Play, tasks: List[Task], ask: AsksPart, is_left: IsLeft) -> b
         if line is None or not isinstance(line.step, Task) or not is_left(answer, line):
             return False
         tasks = tasks[next(index for index, task in enumerate(tasks) if task is line.step):]
-    return True

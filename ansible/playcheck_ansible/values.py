@@ -114,7 +114,7 @@ def converted(node: Node, kind: str, name: str = '') -> Node:
 
 def without_omit(node: Text, kind: str) -> Text:
     text = OMITTED.sub(lambda found: f"{found[1]}{INSTEAD[kind]}){found[2]}", node.value)
-    return Scalar(text, node.place, text, True)
+    return Scalar(text, node.place, text)
 
 
 def as_text(node: Node, name: str) -> Node:
@@ -128,14 +128,14 @@ def as_text(node: Node, name: str) -> Node:
         return node
     # A mode keeps the digits that are written: YAML reads 0644 as a number to the base 8.
     text = node.text if name == "mode" and isinstance(node.value, int) else str(node.value)
-    return Scalar(text, node.place, node.text, True)
+    return Scalar(text, node.place, node.text)
 
 
 def whole_as_text(node: Text) -> Text:
     """A template that is the whole text would keep its value's kind; with an empty part behind it it is a text."""
     if not WHOLE.fullmatch(node.value):
         return node
-    return Scalar(node.value.strip() + "{{ '' }}", node.place, node.text, True)
+    return Scalar(node.value.strip() + "{{ '' }}", node.place, node.text)
 
 
 def as_bool(node: Node) -> Node:
@@ -158,9 +158,9 @@ def as_list(node: Node) -> Node:
         if WHOLE.fullmatch(node.value):
             return node
         words = node.value.split(",") if not has_template(node.value) else [node.value]
-        return Sequence([Scalar(word.strip(), node.place, word, True) for word in words], node.place)
+        return Sequence([Scalar(word.strip(), node.place, word) for word in words], node.place)
     if isinstance(node, Scalar) and isinstance(node.value, (int, float)):
-        return Sequence([Scalar(str(node.value), node.place, node.text, True)], node.place)
+        return Sequence([Scalar(str(node.value), node.place, node.text)], node.place)
     if isinstance(node, Sequence):
         return Sequence([as_text(item, "") if isinstance(item, Scalar) else item for item in node.items], node.place)
     return node

@@ -12,6 +12,7 @@ import traceback
 from typing import TYPE_CHECKING, Iterator, List, Tuple
 
 from .ansible_core import passed_over, trust_of
+from .baselines import read_baseline, write_baseline
 from .checking import Options, check_book, settled
 from .codes import section_of
 from .command_words import BAD_WORDS, parser
@@ -190,6 +191,9 @@ def with_lookup(paths: List[str], options: Options, words: argparse.Namespace) -
 
 def check(words: argparse.Namespace) -> int:
     options = options_of(words)
+    options.go_on = words.go_on or words.write_baseline is not None
+    for path in words.baseline:
+        options.baseline = {**options.baseline, **read_baseline(path)}
     reports, statuses = [], [0]
     paths = list(books_of(words.books))
     book = with_lookup(paths, options, words)
@@ -209,6 +213,8 @@ def check(words: argparse.Namespace) -> int:
         reports.append(report)
         statuses.append(0 if report.is_accepted else 1)
     write_out(FORMATS[words.format](reports, has_colour(words.color)))
+    if words.write_baseline is not None:
+        write_baseline(words.write_baseline, reports)
     return max(statuses)
 
 

@@ -94,7 +94,7 @@ _playcheck_ansible() {
         ;;
     esac
     case $command:$word in
-    check:-*) _playcheck_words "-h --help -i --inventory -s --signatures -e --extra-vars -t --tags --skip-tags --trust-facts --trust-returns --no-lookup --run-inventory --trust-repository --vars --format --color --strict --min-judged --all" "$word" ;;
+    check:-*) _playcheck_words "-h --help -i --inventory -s --signatures -e --extra-vars -t --tags --skip-tags --trust-facts --trust-returns --no-lookup --run-inventory --trust-repository --vars --format --color --strict --min-judged --all --baseline --write-baseline" "$word" ;;
     convert:-*) _playcheck_words "-h --help -o --output -i --inventory -s --signatures -e --extra-vars -t --tags --skip-tags --trust-facts --trust-returns --no-lookup --run-inventory --trust-repository --vars" "$word" ;;
     signatures:-*) _playcheck_words "-h --help --trust-repository" "$word" ;;
     explain:-*) _playcheck_words "-h --help" "$word" ;;

@@ -47,6 +47,8 @@ complete -c playcheck-ansible -n '__fish_seen_subcommand_from check' -l color -x
 complete -c playcheck-ansible -n '__fish_seen_subcommand_from check' -l strict -d 'a task that isn\'t judged is refused'
 complete -c playcheck-ansible -n '__fish_seen_subcommand_from check' -l min-judged -x -d 'which part of a book\'s tasks has to be judged: 0 to 100 (0)'
 complete -c playcheck-ansible -n '__fish_seen_subcommand_from check' -l all -d 'goes on after a refusal'
+complete -c playcheck-ansible -n '__fish_seen_subcommand_from check' -l baseline -r -F -d 'findings that are known: they are counted as skipped, and don\'t refuse'
+complete -c playcheck-ansible -n '__fish_seen_subcommand_from check' -l write-baseline -r -F -d 'writes the findings as a baseline, as --all finds them'
 complete -c playcheck-ansible -n '__fish_seen_subcommand_from convert' -F
 complete -c playcheck-ansible -n '__fish_seen_subcommand_from convert' -s h -l help -d 'show this help message and exit'
 complete -c playcheck-ansible -n '__fish_seen_subcommand_from convert' -s o -l output -x -a '(__fish_complete_directories)' -d 'the folder, made where it isn\'t there'

@@ -15,6 +15,7 @@ from ansible_parts import wrong_parts
 from ansible_pipelines import wrong_action, wrong_completion, wrong_gitlab_job, wrong_hook, wrong_zsh
 from ansible_rewritings import wrong_rewritings
 from ansible_forms import wrong_rows
+from ansible_skips import SKIP_SEARCHES
 from ansible_tools import SECONDS, TOOL, TOP, WAITED, fork_commands, is_forked, run_tool
 from ansible_words import wrong_words
 from check import Check, Outcome, outcome_of
@@ -259,7 +260,7 @@ SEARCHES = (lost_transcripts, lost_titles, lost_files, lost_passes, lost_hook, w
             wrong_conversion, wrong_warnings, wrong_signatures, wrong_gitlab, wrong_junit, wrong_strict, wrong_sarif,
             wrong_colours, wrong_lookups, wrong_undocumented, wrong_long_names, wrong_time_limit, wrong_expressions,
             wrong_rewritings, wrong_rows, wrong_words, wrong_parts, wrong_completion, wrong_zsh,
-            wrong_action, wrong_gitlab_job, wrong_hook, *GATES)
+            wrong_action, wrong_gitlab_job, wrong_hook, *GATES, *SKIP_SEARCHES)
 # Those about terminals and large files, or other programs than the front end.
 SLOW = (lost_hook, wrong_long_texts, wrong_many_forms, wrong_colours, wrong_completion, wrong_zsh, wrong_action,
         wrong_gitlab_job, wrong_hook)

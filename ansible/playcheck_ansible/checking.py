@@ -6,7 +6,7 @@ from dataclasses import dataclass, field, replace
 from typing import TYPE_CHECKING, List, Optional, Tuple
 
 from .ansible_core import Trust
-from .books import Book, Play, Raw
+from .books import Book, Play, Raw, Task
 from .codes import OWN_TITLES, TITLES
 from .connections import connection_variables
 from .documented_facts import documented_facts
@@ -22,11 +22,13 @@ from .reports import Finding, Report, Unjudged
 from .reserved_names import lose_reserved, mistaken_names
 from .returns import measured
 from .settling import Settler
+from .skipping import Skips
 from .tags import leave_out
 from .taint import CUT
 from .variables import put_variables
 
 if TYPE_CHECKING:
+    from .baselines import Baseline
     from .inventory import Inventory
     from .lines import Line
     from .modules import Modules
@@ -47,6 +49,7 @@ class Options:
     tags: Tuple[str, ...] = ()
     skip_tags: Tuple[str, ...] = ()
     trust: Trust = Trust()  # what of the repository that is checked may be run
+    baseline: Baseline = field(default_factory=dict)
 
 
 def prepared(path: str, options: Options, book: Book) -> Tuple[Book, Inventory]:
@@ -78,7 +81,7 @@ def settled(path: str, options: Options, book: Optional[Book] = None) -> Tuple[S
     options = replace(options, modules=measured(options.modules))
     book, inventory = prepared(path, options, book or load_book(path))
     with Asker(inventory.json(), options.modules.signatures(book)) as asker:
-        settler = Settler(book, options.modules, inventory, asker)
+        settler = Settler(book, options.modules, inventory, asker, Skips(options.baseline))
         settler.take_mistakes(finding_of_mistake)
         settler.settle(finding_of, options.go_on)
     return settler, inventory
@@ -91,7 +94,11 @@ def check_book(path: str, options: Options, book: Optional[Book] = None) -> Repo
 def report_of(path: str, settler: Settler) -> Report:
     tasks = settler.tasks
     report = Report(path, tasks=len(tasks), left_out=len(settler.book.left_out))
-    report.findings = numbered(settler)
+    found = numbered(settler)
+    report.findings = [one for one in found if one.skip is None]
+    report.skipped = [one for one in found if one.skip is not None]
+    settler.skips.tell(settler.book, not settler.answer.code)
+    report.skip_notes = settler.skips.notes
     refused = {id(line.step) for line, _ in settler.findings if line is not None and line.step is not None}
     for task in tasks:
         reason, place = task.judging.reason, task.judging.reason_place or task.place
@@ -100,8 +107,17 @@ def report_of(path: str, settler: Settler) -> Report:
     report.notes = [Unjudged(place, "", what) for place, what in settler.notes]
     report.judged = sum(not task.judging.reason or task.judging.reason.startswith(CUT) for task in tasks)
     report.budget = settler.answer.budget
-    report.has_bound = not any(task.judging.has_no_bound for task in tasks)
+    report.has_bound = not any(task.judging.has_no_bound for task in tasks) and not any(
+        found.skip is not None and may_call_more(found, line) for line, found in settler.findings)
     return report
+
+
+def may_call_more(found: Finding, line: Optional[Line]) -> bool:
+    """Whether a task that is left for a silenced finding may lead to more calls than the one in its place."""
+    task = line.step if line is not None else None
+    is_repeated = isinstance(task, Task) and any(
+        word in ("loop", "until", "retries") or word.startswith("with_") for word in task.words.pairs)
+    return is_repeated or found.code in ("V05", "V12")
 
 
 def numbered(settler: Settler) -> List[Finding]:

@@ -12,6 +12,7 @@ import traceback
 from typing import TYPE_CHECKING, List, Tuple
 
 from .ansible_core import passed_over, trust_of
+from .baselines import read_baseline, write_baseline
 from .checking import Options, check_book, settled
 from .codes import section_of
 from .command_words import BAD_WORDS, parser
@@ -192,6 +193,9 @@ def with_lookup(paths: List[str], options: Options, words: argparse.Namespace) -
 
 def check(words: argparse.Namespace) -> int:
     options = options_of(words)
+    options.go_on = words.go_on or words.write_baseline is not None
+    for path in words.baseline:
+        options.baseline = {**options.baseline, **read_baseline(path)}
     reports, statuses = [], [0]
     named = named_books(words.books)
     book = with_lookup(named.books, options, words)
@@ -214,6 +218,8 @@ def check(words: argparse.Namespace) -> int:
         reports.append(report)
     reports += named.unread
     write_out(FORMATS[words.format](reports, has_colour(words.color)))
+    if words.write_baseline is not None:
+        write_baseline(words.write_baseline, reports)
     return status_of(reports, statuses)
 
 

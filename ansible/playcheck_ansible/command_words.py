@@ -44,6 +44,9 @@ def parser() -> argparse.ArgumentParser:
     check.add_argument("--min-judged", type=percentage, default=0, metavar="PERCENT",
                        help="which part of a book's tasks has to be judged: 0 to 100 (0)")
     check.add_argument("--all", action="store_true", dest="go_on", help="goes on after a refusal")
+    check.add_argument("--baseline", action="append", default=[], metavar="FILE",
+                       help="findings that are known: they are counted as skipped, and don't refuse")
+    check.add_argument("--write-baseline", metavar="FILE", help="writes the findings as a baseline, as --all finds them")
     convert = commands.add_parser("convert", help="writes the JSON that is judged, and what each counted line is")
     convert.add_argument("book", metavar="BOOK")
     convert.add_argument("-o", "--output", required=True, metavar="DIR", help="the folder, made where it isn't there")

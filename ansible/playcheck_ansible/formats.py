@@ -11,7 +11,7 @@ from .problems import Place, Problem
 from .wording import message_of, not_judged_of, verdict_of
 
 if TYPE_CHECKING:
-    from .reports import Report, Unjudged
+    from .reports import Finding, Report, Unjudged
 
 RED, BOLD, PLAIN = "\033[31m", "\033[1m", "\033[0m"
 
@@ -61,6 +61,7 @@ def text_format(reports: List[Report], has_colour: bool) -> str:
                 printed.append(f"      help: {line_of(finding.help)}")
         printed += [f"{line_of(str(one.place))}: not judged: {not_judged_of(one)}" for one in report.unjudged]
         printed += [f"{line_of(str(one.place))}: not asked: {line_of(one.reason)}" for one in report.notes]
+        printed += [f"{line_of(str(one.place))}: note: {line_of(one.reason)}" for one in report.skip_notes]
         printed.append(verdict_of(report))
     return "".join(line + "\n" for line in printed)
 
@@ -78,14 +79,22 @@ def book_json(report: Report) -> Dict[str, object]:
         "judged": report.judged,
         "left_out": report.left_out,
         "budget": report.budget if report.is_accepted and report.is_whole and report.has_bound else None,
-        "findings": [{
-            "code": one.code, "title": one.title, "file": one.place.file, "line": one.place.line,
-            "column": one.place.column, "kind": one.kind, "name": one.name, "play": one.play, "host": one.host or None,
-            "detail": one.detail, "help": one.help, "counted_line": one.number,
-        } for one in report.findings],
+        "findings": [finding_json(one) for one in report.findings],
+        "skipped": [{**finding_json(one), **skip_json(one)} for one in report.skipped],
         "not_judged": [place_json(one) for one in report.unjudged],
         "not_asked": [place_json(one) for one in report.notes],
+        "skip_notes": [place_json(one) for one in report.skip_notes],
     }
+
+
+def finding_json(one: Finding) -> Dict[str, object]:
+    return {"code": one.code, "title": one.title, "file": one.place.file, "line": one.place.line,
+            "column": one.place.column, "kind": one.kind, "name": one.name, "play": one.play, "host": one.host or None,
+            "detail": one.detail, "help": one.help, "counted_line": one.number}
+
+
+def skip_json(one: Finding) -> Dict[str, object]:
+    return {"skipped_by": one.skip.by, "reason": one.skip.reason or None} if one.skip is not None else {}
 
 
 def place_json(one: Unjudged) -> Dict[str, object]:

@@ -8,15 +8,13 @@ import re
 import xml.etree.ElementTree as xml
 from typing import TYPE_CHECKING, Dict, List, Tuple, Union
 
-from .pipelines import NOT_JUDGED, TOO_FEW_JUDGED, left_of, path_of, too_few_of
+from .pipelines import NOT_JUDGED, SKIP, TOO_FEW_JUDGED, left_of, path_of, too_few_of
 from .printing import json_of, line_of
-from .wording import message_of, not_judged_of, outcome_of, verdict_of
+from .wording import message_of, not_judged_of, outcome_of, skipped_of, verdict_of, without_lines
 
 if TYPE_CHECKING:
     from .reports import Finding, Report, Unjudged
 
-# Places in texts, which move with lines that are put in before them.
-MOVING = re.compile(r"lines? \d+(?:, \d+)*|:\d+(?::\d+)?")
 # What no file of XML 1.0 may hold, also not escaped.
 NO_XML = re.compile("[^\t\n\r\x20-\ud7ff\ue000-\ufffd\U00010000-\U0010ffff]")
 
@@ -31,8 +29,9 @@ def gitlab_format(reports: List[Report], has_colour: bool) -> str:
         severity = "major" if report.is_strict else "info"
         found += [(NOT_JUDGED, severity, not_judged_text(one), one) for one in left_of(report)]
         found += [(TOO_FEW_JUDGED, "major", one.reason, one) for one in too_few_of(report)]
+        found += [(SKIP, "info", line_of(one.reason), one) for one in report.skip_notes]
         for code, severity, text, one in found:
-            key = (report.book, code, path_of(one.place), MOVING.sub("", text))
+            key = (report.book, code, path_of(one.place), without_lines(text))
             seen[key] = seen.get(key, 0) + 1
             issues.append({"description": text, "check_name": code, "severity": severity,
                            "fingerprint": fingerprint((*key, seen[key])),
@@ -55,6 +54,8 @@ def junit_format(reports: List[Report], has_colour: bool) -> str:
         suite = xml.SubElement(suites, "testsuite", name=xml_text(report.book))
         for one in report.findings:
             add_case(suite, report, one, f"{one.code} {message_of(one)}", "failure", one.code)
+        for one in report.skipped:
+            add_case(suite, report, one, f"{one.code} {message_of(one)}: {skipped_of(one)}", "skipped", one.code)
         for left in left_of(report):
             outcome = "failure" if report.is_strict else "skipped"
             add_case(suite, report, left, not_judged_text(left), outcome, NOT_JUDGED)
@@ -62,7 +63,8 @@ def junit_format(reports: List[Report], has_colour: bool) -> str:
             add_case(suite, report, book, book.reason, "failure", TOO_FEW_JUDGED)
         if report.status == 0:
             xml.SubElement(suite, "testcase", name=outcome_of(report), classname=xml_text(report.book))
-        xml.SubElement(suite, "system-out").text = xml_text(verdict_of(report))
+        said = [*(f"{one.place}: {one.reason}" for one in report.skip_notes), verdict_of(report)]
+        xml.SubElement(suite, "system-out").text = "\n".join(map(xml_text, said))
         count_cases(suite, suite)
     count_cases(suites, suites)
     xml.indent(suites)

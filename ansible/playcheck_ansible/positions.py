@@ -86,6 +86,15 @@ def node_of(text: str, path: str) -> Node:
         raise Problem(Place(path), f"a value can't be read: {error}") from None
 
 
+def texts_in(text: str) -> Iterator[Tuple[Tuple[int, int], Tuple[int, int]]]:
+    """Where the single values of a file begin and end; behind the sign of one in lines of its own may stand a comment."""
+    events: Iterator[yaml.Event] = yaml.parse(text, Loader=LOADER)
+    for event in events:
+        if isinstance(event, yaml.ScalarEvent):
+            start = (event.start_mark.line, event.start_mark.column)
+            yield (start[0] + 1, 0) if event.style in ("|", ">") else start, (event.end_mark.line, event.end_mark.column)
+
+
 def place_of(mark: Optional[yaml.Mark], path: str) -> Place:
     return Place(path, mark.line + 1, mark.column + 1) if mark else Place(path)
 

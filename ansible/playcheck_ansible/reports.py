@@ -3,12 +3,19 @@
 from __future__ import annotations
 
 from dataclasses import dataclass, field
-from typing import TYPE_CHECKING, List
+from typing import TYPE_CHECKING, List, NamedTuple, Optional
 
 if TYPE_CHECKING:
     from .problems import Place
 
 REFUSED, TOO_FEW, UNREAD = 1, 5, 64
+
+
+class Skip(NamedTuple):
+    """What silences a finding."""
+
+    by: str  # comment or baseline
+    reason: str = ""
 
 
 @dataclass
@@ -23,6 +30,8 @@ class Finding:
     detail: str = ""
     help: str = ""
     number: int = 0
+    skip: Optional[Skip] = None
+    is_end: bool = False  # behind it the program isn't asked any more, though it should be
 
 
 @dataclass
@@ -37,6 +46,8 @@ class Unjudged:
 class Report:
     book: str
     findings: List[Finding] = field(default_factory=list)
+    skipped: List[Finding] = field(default_factory=list)  # those that are silenced
+    skip_notes: List[Unjudged] = field(default_factory=list)  # comments that silence nothing
     unjudged: List[Unjudged] = field(default_factory=list)
     notes: List[Unjudged] = field(default_factory=list)  # words of plays and blocks that weren't asked
     tasks: int = 0
@@ -51,6 +62,11 @@ class Report:
     @property
     def is_whole(self) -> bool:
         return self.judged == self.tasks and not self.notes
+
+    def to_keep(self) -> List[Finding]:
+        """The findings that a baseline is to silence."""
+        known = [one for one in self.skipped if one.skip is not None and one.skip.by == "baseline"]
+        return [*known, *(one for one in self.findings if not one.is_end)]
 
     @property
     def is_refused(self) -> bool:

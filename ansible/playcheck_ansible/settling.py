@@ -22,6 +22,7 @@ if TYPE_CHECKING:
     from .inventory import Inventory
     from .program import Answer, Asker
     from .reports import Finding
+    from .skipping import Skips
 
 RESULT_FIELDS = {"changed", "failed", "skipped", "skip_reason", "msg", "results"}
 MOST_REFUSALS = 50  # for each the program is asked anew
@@ -45,9 +46,10 @@ MakesOwnFinding = Callable[[Mistake, Line], "Finding"]
 class Settler(Taint):
     """Asks the program until it answers about the flow: each form outside the profile leaves its task."""
 
-    def __init__(self, book: Book, modules: Modules, inventory: Inventory, asker: Asker) -> None:
+    def __init__(self, book: Book, modules: Modules, inventory: Inventory, asker: Asker,
+                 skips: Skips) -> None:
         super().__init__(book, modules, inventory)
-        self.asker = asker
+        self.asker, self.skips = asker, skips
         self.findings: List[Tuple[Optional[Line], Finding]] = []
         for play in self.plays:
             if play.reason:
@@ -78,14 +80,26 @@ class Settler(Taint):
                     leave_unreadable(self.numbered.lines[answer.line:], self.ask_part, self.is_left)
                     forms = 0
                 continue
-            self.findings.append((self.line(answer), finding(answer, self.line(answer), self)))
-            if not go_on or not self.cut(answer):
-                return
             refusals += 1
-            if refusals == MOST_REFUSALS:
-                what = f"the program is asked for {MOST_REFUSALS} refusals at most, and there may be more"
-                self.notes.append((Place(self.book.file), what))
+            if not self.is_passed(answer, finding(answer, self.line(answer), self), go_on, refusals == MOST_REFUSALS):
                 return
+
+    def is_passed(self, answer: Answer, found: Finding, go_on: bool, is_last: bool) -> bool:
+        """Keeps a finding, and says whether the program is asked for the next one; the last one isn't silenced."""
+        line = self.line(answer)
+        self.findings.append((line, found))
+        skip = self.skips.take(found, line)
+        if not go_on and not skip:
+            return False
+        found.is_end = is_last or not self.cut(answer)
+        if is_last:
+            what = f"the program is asked for {MOST_REFUSALS} refusals at most, and there may be more"
+            self.notes.append((Place(self.book.file), what))
+        if not found.is_end:
+            found.skip = skip
+        elif skip:
+            self.skips.refuse(found)
+        return not found.is_end
 
     def take_mistakes(self, finding: MakesOwnFinding) -> None:
         """Makes findings of what documentation shows, and cuts these tasks, before the program is asked."""
@@ -93,7 +107,10 @@ class Settler(Taint):
             play = self.play_of(task)
             if task.judging.mistakes and not play.reason:
                 line = Line("handler" if task.is_handler else "task", play, task)
-                self.findings += [(line, finding(mistake, line)) for mistake in task.judging.mistakes]
+                found = [finding(mistake, line) for mistake in task.judging.mistakes]
+                for one in found:
+                    one.skip = self.skips.take(one, line)
+                self.findings += [(line, one) for one in found]
                 task.judging.reason, task.judging.reason_place = f"{CUT}{task.judging.mistakes[0].code}", task.place
                 task.judging.asks_templates = False
 

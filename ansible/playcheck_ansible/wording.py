@@ -2,6 +2,7 @@
 # What is said of a finding and of a book, in every format; names that are near to one; lines in brackets.
 from __future__ import annotations
 
+import re
 from dataclasses import dataclass
 from typing import TYPE_CHECKING, Iterable, List, Optional
 
@@ -12,6 +13,14 @@ if TYPE_CHECKING:
     from .books import Task
     from .problems import Place
     from .reports import Finding, Report, Unjudged
+
+
+# Places in texts, which move with lines that are put in before them.
+MOVING = re.compile(r"lines? \d+(?:, \d+)*|:\d+(?::\d+)?")
+
+
+def without_lines(text: str) -> str:
+    return MOVING.sub("", text)
 
 
 def message_of(finding: Finding) -> str:
@@ -35,17 +44,27 @@ def verdict_of(report: Report) -> str:
 def outcome_of(report: Report) -> str:
     if report.is_unread:
         return "can't be read"
+    skipped = f", {number_of(report.skipped)} skipped" if report.skipped else ""
     if report.findings:
-        found = "1 finding" if len(report.findings) == 1 else f"{len(report.findings)} findings"
-        return f"refused, {found}, {count_of(report)}"
+        return f"refused, {number_of(report.findings)}, {count_of(report)}{skipped}"
     if report.is_refused:
-        return f"refused by --strict, {count_of(report)}"
+        return f"refused by --strict, {count_of(report)}{skipped}"
     if report.is_empty:
-        return f"{report.verdict}, {count_of(report)}"
+        return f"{report.verdict}, {count_of(report)}{skipped}"
     if report.has_too_few:
-        return f"accepted, {count_of(report)}: fewer than {report.min_judged} % (--min-judged)"
+        return f"accepted, {count_of(report)}{skipped}: fewer than {report.min_judged} % (--min-judged)"
     budget = f", at most {report.budget} module calls" if report.is_whole and report.has_bound else ""
-    return f"accepted, {count_of(report)}{budget}"
+    return f"accepted, {count_of(report)}{budget}{skipped}"
+
+
+def number_of(findings: List[Finding]) -> str:
+    return "1 finding" if len(findings) == 1 else f"{len(findings)} findings"
+
+
+def skipped_of(finding: Finding) -> str:
+    """What is said of a silenced finding, where a format has it."""
+    assert finding.skip is not None, "it is silenced"
+    return f"skipped by {finding.skip.by}" + (f": {line_of(finding.skip.reason)}" if finding.skip.reason else "")
 
 
 def not_judged_of(one: Unjudged) -> str:

@@ -22,12 +22,14 @@ sys.dont_write_bytecode = True
 from playcheck_ansible.ansible_core import Trust  # noqa: E402
 from playcheck_ansible.books import Play  # noqa: E402
 from playcheck_ansible.checking import Options, report_of, settled  # noqa: E402
-from playcheck_ansible.command import is_book  # noqa: E402
 from playcheck_ansible.documented import documentation, signatures_of  # noqa: E402
+from playcheck_ansible.folders import is_book  # noqa: E402
+from playcheck_ansible.limits import ALLOWANCE  # noqa: E402
 from playcheck_ansible.loading import load_book  # noqa: E402
 from playcheck_ansible.looking_up import MODULE, used_modules  # noqa: E402
 from playcheck_ansible.modules import PROFILE, Modules  # noqa: E402
 from playcheck_ansible.nodes import as_node, texts_of  # noqa: E402
+from playcheck_ansible.positions import read_file  # noqa: E402
 from playcheck_ansible.problems import Place, Problem  # noqa: E402
 from playcheck_ansible.taint import CUT  # noqa: E402
 
@@ -122,8 +124,16 @@ def inputs_of(book, folder):
 def playbooks(root):
     """Each file that is a list of plays."""
     for path in sorted([*root.rglob("*.yml"), *root.rglob("*.yaml")]):
-        if path.is_file() and is_book(str(path)):
+        if path.is_file() and is_playbook(str(path)):
             yield str(path)
+
+
+def is_playbook(path):
+    ALLOWANCE.begin()
+    try:
+        return is_book(read_file(path))
+    except Problem:
+        return False
 
 
 def role_books(root, folder):

@@ -10,7 +10,7 @@ from typing import Dict, Iterator, List, Tuple
 
 from ansible_tools import TOOL, TOP, WAITED
 from check import Check, Outcome, outcome_of
-from stranger_ways import HOSTS
+from stranger_ways import HOSTS, NOTHING_JUDGED
 
 MOST = 5  # seconds of the processor's time that a small file may take
 PLAY = "- hosts: all\n  gather_facts: false\n"
@@ -35,18 +35,18 @@ def slow_files() -> Iterator[Tuple[str, Dict[str, str], List[str], str, int]]:
     """Files that took long, their words, and what is said of them with which status."""
     slow = "not judged: a regular expression in the play's `hosts` takes more than 1 second of the processor's time"
     repeated = '- hosts: "~(w+e*b*)*1*x$"\n' + PING
-    yield "a regular expression", {"site.yml": repeated}, ["-i", "w" * 30 + ","], slow, 0
+    yield "a regular expression", {"site.yml": repeated}, ["-i", "w" * 30 + ","], slow, NOTHING_JUDGED
     fitting = '- hosts: "~w.b[0-9]$"\n' + PING
     yield "a pattern that fits", {"site.yml": fitting}, ["-i", "web1,"], "1 of 1 tasks judged", 0
     yield "no regular expression", {"site.yml": '- hosts: "~(("\n' + PING}, ["-i", "web1,"], "V06 play", 1
     yield "brackets", {"site.yml": f'- hosts: "{"[" * 20_000}"\n{PING}'}, [], "V06 play", 1
-    yield "stars", {"site.yml": f'- hosts: "{"*w" * 16}x"\n{PING}'}, ["-i", "w" * 60 + ","], "0 of 1 tasks judged", 0
+    yield "stars", {"site.yml": f'- hosts: "{"*w" * 16}x"\n{PING}'}, ["-i", "w" * 60 + ","], "0 of 1 tasks judged", NOTHING_JUDGED
     number = "1" + ":1" * 200_000
     yield "base 60", {"site.yml": PLAY + f"  vars: {{a: {number}}}\n" + PING}, [], "is no int", 64
     many = "".join(f"    n{index}: {'1' + ':1' * 2000}\n" for index in range(200))
     yield "many numbers to the base 60", {"site.yml": PLAY + "  vars:\n" + many + PING}, [], "tasks judged", 0
     for text in ("'\\\\" * 60_000, "'\\\\\\\"\\\\" * 40_000):
-        yield "open quotes", {"site.yml": message("{{ a == " + text + " }}")}, [], "0 of 1 tasks judged", 0
+        yield "open quotes", {"site.yml": message("{{ a == " + text + " }}")}, [], "0 of 1 tasks judged", NOTHING_JUDGED
     undefined = "".join(f'    - debug: {{msg: "{{{{ nope{index} }}}}"}}\n' for index in range(800))
     told = "not asked: the program is asked for 50 refusals at most, and there may be more"
     yield "many refusals", {"site.yml": PLAY + "  tasks:\n" + undefined}, ["--all"], told, 1

@@ -20,6 +20,7 @@ DOCUMENTED = ('DOCUMENTATION = """\nmodule: {0}\nshort_description: x\ndescripti
               'extends_documentation_fragment: [{1}]\n"""\n')
 FRAGMENT = 'class ModuleDocFragment(object):\n    DOCUMENTATION = "options: {}"\n'
 COLLECTION = "collections/ansible_collections/e/v/plugins/"
+NOTHING_JUDGED = 5
 
 
 @dataclass
@@ -33,6 +34,10 @@ class Way:
     back: Tuple[str, ...] = ()  # the options that let it be run; none where nothing does
     programs: Tuple[str, ...] = ()  # the files with an x bit
     given: Dict[str, str] = field(default_factory=dict)  # of the environment; DIR stands for the folder
+
+    def wanted(self) -> int:
+        """The status: where the only task calls a module that nothing documents, nothing is judged."""
+        return self.status or (0 if self.book == "ping:" else NOTHING_JUDGED)
 
 
 def shell(text: str) -> str:
@@ -169,8 +174,8 @@ def wrong_ways() -> Iterator[str]:
         done, is_run = tried(way)
         is_asked = not missing_ansible() or not way.told.startswith(("library/", COLLECTION))
         told = way.told if is_asked else "ansible-doc isn't installed"
-        if is_run or told not in done.stdout + done.stderr or done.returncode != way.status:
-            yield f"{way.name}: run {is_run}, wanted {told!r} and status {way.status}, found {done}"
+        if is_run or told not in done.stdout + done.stderr or done.returncode != way.wanted():
+            yield f"{way.name}: run {is_run}, wanted {told!r} and status {way.wanted()}, found {done}"
 
 
 def not_taken_back() -> Iterator[str]:

@@ -251,9 +251,9 @@ def judged(output, edit):
 def first_of(output, edit):
     """The first thing said of the function's own proof, one that isn't only of names where there is one."""
     name = edit.last_name()
-    # an edit of a definition may be refused in any lemma
     # a goal of a cycle of several modules has its function's module before it
     goal = rf"`(?:\w+::)*{name}-"
+    # an edit of a definition may be refused in any lemma
     own = re.compile(rf"{edit.answers()}\S*: error|: error: {goal}|\({goal}" if edit.is_of_code() else ": error")
     said = [line for line in output.splitlines() if own.search(line)]
     return next((line for line in said if not NAMES.search(line)), said[0] if said else "")
